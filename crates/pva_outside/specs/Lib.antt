@@ -1,0 +1,12 @@
+pub mod Count
+pub mod Wire
+pub mod Moment
+pub mod PlainLink
+pub mod MemoryLink
+pub mod MemorySink
+pub mod Refusal
+pub mod Sinks
+pub mod StreamLink
+pub mod StreamSink
+pub mod SystemClock
+pub mod Turns

@@ -1,0 +1,30 @@
+//! What the server and the client meet outside, as traits, with the adapters to the system and the
+//! fakes in memory.
+//!
+//! Each object counts its faults, and a link also its idles and the ends of its input. A call answers
+//! `Failed`, `Idle` or `End` only where that count rose in the call. An object in memory tells its
+//! bytes to the contracts; one of the system tells none. A count never falls, and stands still at
+//! 2^64 - 1.
+#![tactic(auto)]
+
+mod clock;
+mod count;
+mod link;
+mod memory;
+mod plain;
+mod refusal;
+mod sink;
+mod streams;
+mod system_clock;
+#[cfg(test)]
+mod tests;
+mod world;
+
+pub use clock::{Clock, FixedClock};
+pub use link::{Link, ReadStep, WriteStep};
+pub use memory::{MemoryLink, Turn};
+pub use plain::PlainLink;
+pub use sink::{MemorySink, Sink, SinkStep, StreamSink};
+pub use streams::StreamLink;
+pub use system_clock::SystemClock;
+pub use world::{Kinds, World};

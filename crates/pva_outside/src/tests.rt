@@ -1,0 +1,270 @@
+ghost use Rattle.std.specs.Prelude.{◌≡◌, ◌≤◌, IsTrue};
+
+use crate::{
+    Clock, FixedClock, Kinds, Link, MemoryLink, MemorySink, PlainLink, ReadStep, Sink, SinkStep,
+    StreamLink, StreamSink, SystemClock, Turn, World, WriteStep,
+};
+use std::alloc::Global;
+use std::io::{ErrorKind, Read, Write};
+use std::test::Fail;
+use std::time::Duration;
+use std::{io, rt};
+
+#[test]
+fn a_plain_link_gives_its_input_in_order_and_then_its_end(rt: HostRuntime) -> Result<(), Fail> {
+    let mut link = PlainLink::new(rt.alloc(), vec![in rt.alloc(); 1, 2, 3]?);
+    let mut buffer = [0u8; 2];
+    assert_eq!(rt; link.read(&mut buffer), ReadStep::Got(2));
+    assert_eq!(rt; buffer, [1, 2]);
+    assert_eq!(rt; link.read(&mut buffer), ReadStep::Got(1));
+    assert_eq!(rt; buffer, [3, 2]);
+    assert_eq!(rt; link.read(&mut buffer), ReadStep::End);
+    assert_eq!(rt; link.write(b"ab"), WriteStep::Took(2));
+    assert_eq!(rt; link.write(b"c"), WriteStep::Took(1));
+    link.close();
+    assert_eq!(rt; link.written(), b"abc".as_slice());
+    Ok(())
+}
+
+#[test]
+fn a_memory_link_follows_its_script(rt: HostRuntime) -> Result<(), Fail> {
+    let script = vec![in rt.alloc(); Turn::Give(1), Turn::Idle, Turn::Give(0), Turn::Fail]?;
+    let mut link = MemoryLink::new(rt.alloc(), vec![in rt.alloc(); 5, 6, 7]?, script);
+    let mut buffer = [0u8; 4];
+    let mut read = Vec::new(rt.alloc());
+    for want in [
+        ReadStep::Got(1),
+        ReadStep::Idle,
+        ReadStep::Got(1),
+        ReadStep::Failed,
+        ReadStep::Got(1),
+        ReadStep::End,
+    ] {
+        let step = link.read(&mut buffer);
+        assert_eq!(rt; step, want);
+        if matches!(step, ReadStep::Got(_)) {
+            read.push(buffer[0])?;
+        }
+    }
+    assert_eq!(rt; read.as_slice(), [5, 6, 7].as_slice());
+
+    let script = vec![in rt.alloc(); Turn::Fail, Turn::Give(2), Turn::Idle]?;
+    let mut link = MemoryLink::new(rt.alloc(), Vec::new(rt.alloc()), script);
+    assert_eq!(rt; link.write(b"abcd"), WriteStep::Failed);
+    assert_eq!(rt; link.write(b"abcd"), WriteStep::Took(2));
+    assert_eq!(rt; link.write(b"cd"), WriteStep::Idle);
+    assert_eq!(rt; link.write(b"cd"), WriteStep::Took(2));
+    link.close();
+    assert_eq!(rt; link.written(), b"abcd".as_slice());
+    Ok(())
+}
+
+#[test]
+fn a_memory_sink_fails_at_the_calls_that_it_is_told(rt: HostRuntime) -> Result<(), Fail> {
+    let mut sink = MemorySink::new(rt.alloc(), vec![in rt.alloc(); 1, 3]?);
+    assert_eq!(rt; sink.write(b"ab"), SinkStep::Failed);
+    assert_eq!(rt; sink.write(b"ab"), SinkStep::Took(2));
+    assert_eq!(rt; sink.write(b"cd"), SinkStep::Failed);
+    assert_eq!(rt; sink.write(b"cd"), SinkStep::Took(2));
+    assert_eq!(rt; sink.written(), b"abcd".as_slice());
+    Ok(())
+}
+
+// What one call of a `Script` does: it moves so many bytes, or is refused.
+#[derive(Clone, Copy)]
+enum Act {
+    Move(usize),
+    Refuse(ErrorKind),
+}
+
+// A reader that gives sevens and a writer that takes all it can, each after its script.
+#[derive(Drop)]
+struct Script {
+    acts: Vec<Act>,
+    next: usize,
+}
+
+impl Script {
+    fn new(acts: Vec<Act>) -> Self {
+        Script { acts, next: 0 }
+    }
+
+    fn act(&mut self) -> io::Result<usize> {
+        let act = self.acts.get(self.next).copied().unwrap_or(Act::Move(0));
+        self.next = self.next.saturating_add(1);
+        match act {
+            Act::Move(count) => Ok(count),
+            Act::Refuse(kind) => Err(io::Error::from(kind)),
+        }
+    }
+}
+
+impl Read for Script {
+    fn read(&mut self, buf: &mut [u8]) -> io::Result<usize> {
+        let count = self.act()?.min(buf.len());
+        buf[..count].fill(7);
+        Ok(count)
+    }
+}
+
+impl Write for Script {
+    fn write(&mut self, buf: &[u8]) -> io::Result<usize> {
+        Ok(self.act()?.min(buf.len()))
+    }
+
+    fn flush(&mut self) -> io::Result<()> {
+        Ok(())
+    }
+}
+
+fn script_of(alloc: Global) -> Result<Script, Fail> {
+    Ok(Script::new(vec![in alloc;
+        Act::Move(2),
+        Act::Refuse(ErrorKind::WouldBlock),
+        Act::Refuse(ErrorKind::Interrupted),
+        Act::Refuse(ErrorKind::OutOfMemory),
+        Act::Refuse(ErrorKind::ConnectionReset),
+        Act::Move(1),
+        Act::Move(0),
+    ]?))
+}
+
+#[test]
+fn a_stream_link_tells_idles_ends_faults_and_want_of_memory_apart(
+    rt: HostRuntime,
+) -> Result<(), Fail> {
+    let mut link = StreamLink::new(script_of(rt.alloc())?, script_of(rt.alloc())?);
+    let mut buffer = [0u8; 4];
+    for (read, write) in [
+        (ReadStep::Got(2), WriteStep::Took(2)),
+        (ReadStep::Idle, WriteStep::Idle),
+        (ReadStep::Idle, WriteStep::Idle),
+        (ReadStep::NoMemory, WriteStep::NoMemory),
+        (ReadStep::Failed, WriteStep::Failed),
+        (ReadStep::Got(1), WriteStep::Took(1)),
+        (ReadStep::End, WriteStep::Failed),
+    ] {
+        assert_eq!(rt; link.read(&mut buffer), read);
+        assert_eq!(rt; link.write(b"abcd"), write);
+    }
+    assert_eq!(rt; buffer, [7, 7, 0, 0]);
+    Ok(())
+}
+
+#[test]
+fn a_stream_link_over_memory_moves_its_bytes_until_it_is_closed(
+    rt: HostRuntime,
+) -> Result<(), Fail> {
+    let input: &[u8] = b"abc";
+    let mut link = StreamLink::new(input, Vec::<u8>::new(rt.alloc()));
+    let mut buffer = [0u8; 2];
+    assert_eq!(rt; link.read(&mut buffer), ReadStep::Got(2));
+    assert_eq!(rt; buffer, *b"ab");
+    assert_eq!(rt; link.write(b"xyz"), WriteStep::Took(3));
+    link.close();
+    assert_eq!(rt; link.read(&mut buffer), ReadStep::Failed);
+    assert_eq!(rt; link.write(b"xyz"), WriteStep::Failed);
+    Ok(())
+}
+
+#[test]
+fn a_stream_sink_has_no_idle(rt: HostRuntime) -> Result<(), Fail> {
+    let mut sink = StreamSink::new(script_of(rt.alloc())?);
+    for want in [
+        SinkStep::Took(2),
+        SinkStep::Failed,
+        SinkStep::Failed,
+        SinkStep::NoMemory,
+        SinkStep::Failed,
+        SinkStep::Took(1),
+        SinkStep::Failed,
+    ] {
+        assert_eq!(rt; sink.write(b"abcd"), want);
+    }
+    Ok(())
+}
+
+// A runtime whose clock can't be read, or stands at this time since 1970.
+#[derive(Clone, Copy)]
+struct Reading(Option<Duration>);
+
+impl rt::Clock for Reading {
+    fn monotonic(&self) -> io::Result<Duration> {
+        self.since_1970()
+    }
+
+    fn since_1970(&self) -> io::Result<Duration> {
+        self.0.ok_or(io::Error::from(ErrorKind::Unsupported))
+    }
+}
+
+#[test]
+fn clocks_give_seconds_and_nanoseconds(rt: HostRuntime) -> Result<(), Fail> {
+    assert_eq!(rt; FixedClock::new(-1, 999_999_999).now(), (-1, 999_999_999));
+    for (reading, want) in [
+        (None, (0, 0)),
+        (
+            Some(Duration::from_nanos(1_700_000_000_123_456_789)),
+            (1_700_000_000, 123_456_789),
+        ),
+        (Some(Duration::from_secs(u64::MAX)), (0, 0)),
+    ] {
+        assert_eq!(rt; SystemClock::new(Reading(reading)).now(), want);
+    }
+    Ok(())
+}
+
+// The outside in memory.
+struct InMemory;
+
+impl Kinds for InMemory {
+    type Link = PlainLink;
+
+    type Sink = MemorySink;
+
+    type Clock = FixedClock;
+}
+
+// The outside of the system.
+struct OfTheSystem;
+
+impl Kinds for OfTheSystem {
+    type Link = StreamLink<rt::Stdin, rt::Stdout>;
+
+    type Sink = StreamSink<rt::Stdout>;
+
+    type Clock = SystemClock<HostRuntime>;
+}
+
+// Reads one byte, and prints it.
+fn pass_one<W: Kinds>(world: &mut World<W>) -> bool
+    ensures counted { (W.Link.wire world.old.link).faults ≤ (W.Link.wire world.new.link).faults }
+    ensures unfailing { IsTrue result → W.Sink.faults world.new.sink ≡ W.Sink.faults world.old.sink }
+{
+    let mut buffer = [0u8; 1];
+    let got = world.link.read(&mut buffer);
+    let printed = world.sink.write(&buffer);
+    got == ReadStep::Got(1) && printed == SinkStep::Took(1) && world.clock.now().1 == 5
+}
+
+#[test]
+fn a_world_is_made_of_either_kinds(rt: HostRuntime) -> Result<(), Fail> {
+    let mut world: World<InMemory> = World {
+        link: PlainLink::new(rt.alloc(), vec![in rt.alloc(); 65]?),
+        sink: MemorySink::new(rt.alloc(), Vec::new(rt.alloc())),
+        clock: FixedClock::new(0, 5),
+    };
+    assert!(rt; pass_one(&mut world));
+    assert_eq!(rt; world.sink.written(), b"A".as_slice());
+
+    let mut world: World<OfTheSystem> = World {
+        link: StreamLink::new(rt.stdin(), rt.stdout()),
+        sink: StreamSink::new(rt.stdout()),
+        clock: SystemClock::new(rt),
+    };
+    world.link.close();
+    let (seconds, _) = world.clock.now();
+    assert!(rt; seconds > 1_700_000_000);
+    assert_eq!(rt; world.sink.write(b"printed\n"), SinkStep::Took(8));
+    Ok(())
+}
