@@ -1,0 +1,7 @@
+pub mod Tree
+pub mod View
+pub mod Numbers
+pub mod Check
+pub mod Same
+pub mod SameLaws
+pub mod Sets

@@ -1,0 +1,17 @@
+use std::alloc::{AllocError, AllocFailed};
+
+/// The memory that a call needed couldn't be had. Nothing else is wrong, and the call has changed nothing.
+#[derive(Clone, Copy, Debug, PartialEq, Eq)]
+pub struct NoMemory;
+
+impl From<AllocError> for NoMemory {
+    fn from(_: AllocError) -> NoMemory {
+        NoMemory
+    }
+}
+
+impl<T: Drop> From<AllocFailed<T>> for NoMemory {
+    fn from(_: AllocFailed<T>) -> NoMemory {
+        NoMemory
+    }
+}

@@ -1,0 +1,171 @@
+ghost use Rattle.std.specs.Prelude.{◌≡◌, ◌<◌, ◌≤◌, ◌*◌, ◌+◌, ℕ, length, get_or, false, IfOk, OnOk, OnErr, IsTrue, ◌↔◌, bit_and, bit_or};
+ghost use Rattle.std.specs.FinSet as set;
+ghost use Rattle.pvd_type.specs.Sets.{bit, held, IsFirstFrom};
+
+use crate::memory::NoMemory;
+use std::alloc::{AllocError, Global};
+use std::marker::Model;
+
+/// How many bits one word of a [`BitSet`] has.
+const WORD: u32 = 64;
+
+/// A set of numbers below 65,536, such as the field numbers that an update changed.
+///
+/// The bits lie packed in words of 64, the lowest number first. A contract sees the set alone.
+/// pvAccess Protocol Specification, "BitSet".
+#[derive(Drop)]
+pub struct BitSet {
+    words: Vec<u64>,
+}
+
+impl Model for BitSet {
+    ghost use Rattle.std.specs.Prelude.{◌≤◌, length};
+    ghost use Rattle.std.specs.Ordering.{nat_cmp};
+    ghost use Rattle.std.specs.FinSet as set;
+    ghost use Rattle.std.specs.Coded.{coded_ℕ};
+    ghost use Rattle.pvd_type.specs.Sets.{held};
+
+    ghost Value = { set.FinSet nat_cmp };
+
+    ghost coded = { set.code coded_ℕ };
+
+    ghost view = { λ a. held a.words.items };
+
+    ghost invariant = { λ a. length a.words.items ≤ 1024 };
+}
+
+impl BitSet {
+    /// The empty set, which takes no memory yet.
+    pub fn new(alloc: Global) -> BitSet
+        ensures { result ≡ set.empty }
+    {
+        BitSet {
+            words: Vec::new(alloc),
+        }
+    }
+
+    /// Whether the set has this number, whatever its size.
+    pub fn contains(&self, bit: u32) -> bool
+        ensures { result ≡ set.contains self.now bit }
+    {
+        let word = (bit / WORD) as usize;
+        word < self.words.len() && (self.words[word] >> (bit % WORD)) & 1 == 1
+    }
+
+    /// Whether the set has no number.
+    pub fn is_empty(&self) -> bool
+        ensures { IsTrue result ↔ (self.now ≡ set.empty) }
+    {
+        for word in &self.words {
+            if *word != 0 {
+                return false;
+            }
+        }
+        true
+    }
+
+    /// Adds a number. Without memory the set stays as it was.
+    pub fn insert(&mut self, bit: u32) -> Result<(), NoMemory>
+        requires { bit < 65536 }
+        ensures ok { OnOk result (self.new ≡ set.insert self.old bit) }
+        ensures err { OnErr result (self.new ≡ self.old) }
+    {
+        let word = (bit / WORD) as usize;
+        widen(&mut self.words, word + 1)?;
+        self.words[word] |= 1 << (bit % WORD);
+        Ok(())
+    }
+
+    /// Adds the numbers of the other set. Without memory the set stays as it was.
+    pub fn union(&mut self, other: &BitSet) -> Result<(), NoMemory>
+        ensures ok { OnOk result (self.new ≡ set.union self.old other.now) }
+        ensures err { OnErr result (self.new ≡ self.old) }
+    {
+        widen(&mut self.words, other.words.len())?;
+        join(&mut self.words, &other.words);
+        Ok(())
+    }
+
+    /// Keeps the numbers that the other set has too.
+    pub fn meet(&mut self, other: &BitSet)
+        ensures { self.new ≡ set.intersection self.old other.now }
+    {
+        keep(&mut self.words, &other.words);
+    }
+
+    /// A copy of the set.
+    pub fn clone_in(&self, alloc: Global) -> Result<BitSet, NoMemory>
+        ensures { IfOk result (λ s. s ≡ self.now) }
+    {
+        Ok(BitSet {
+            words: Vec::from_slice(alloc, &self.words)?,
+        })
+    }
+
+    /// The eight bits from eight times `place` on, the lowest number in the lowest bit.
+    pub fn byte(&self, place: u32) -> u8
+        ensures { (k : ℕ) → k < 8 → bit result k ≡ set.contains self.now (8 * place + k) }
+    {
+        let word = (place / 8) as usize;
+        if word < self.words.len() {
+            ((self.words[word] >> (place % 8 * 8)) % 256) as u8
+        } else {
+            0
+        }
+    }
+
+    /// The least number of the set at or above `start`.
+    pub fn first_from(&self, start: u32) -> Option<u32>
+        ensures { IsFirstFrom self.now start result }
+    {
+        for bit in start..self.bound() * 8 {
+            if self.contains(bit) {
+                return Some(bit);
+            }
+        }
+        None
+    }
+
+    /// A number of bytes that cover the greatest number, at most 8,192. There may be fewer that do.
+    pub fn bound(&self) -> u32
+        ensures none { (q : ℕ) → 8 * result ≤ q → set.contains self.now q ≡ false }
+        ensures few { result ≤ 8192 }
+    {
+        self.words.len() as u32 * 8
+    }
+}
+
+/// Makes room for `size` words, with zeros past those that were there.
+fn widen(words: &mut Vec<u64>, size: usize) -> Result<(), AllocError>
+    requires { size ≤ 1024 }
+    ensures same { OnOk result ((j : ℕ) → get_or words.new.items j 0 ≡ get_or words.old.items j 0) }
+    ensures enough { OnOk result (size ≤ length words.new.items) }
+    ensures few { length words.old.items ≤ 1024 → OnOk result (length words.new.items ≤ 1024) }
+    ensures err { OnErr result (words.new.items ≡ words.old.items) }
+{
+    if words.len() < size {
+        words.resize(size, 0)?;
+    }
+    Ok(())
+}
+
+/// Adds the bits of the other words, of which there are no more.
+fn join(words: &mut [u64], other: &[u64])
+    requires { length other.now ≤ length words.old }
+    ensures bits { (j : ℕ) → get_or words.new j 0 ≡ bit_or (get_or words.old j 0) (get_or other.now j 0) }
+    ensures len { length words.new ≡ length words.old }
+{
+    for i in 0..other.len() {
+        words[i] |= other[i];
+    }
+}
+
+/// Keeps the bits that the other words have too.
+fn keep(words: &mut [u64], other: &[u64])
+    ensures bits { (j : ℕ) → get_or words.new j 0 ≡ bit_and (get_or words.old j 0) (get_or other.now j 0) }
+    ensures len { length words.new ≡ length words.old }
+{
+    for i in 0..words.len() {
+        words[i] &= if i < other.len() { other[i] } else { 0 };
+    }
+}
