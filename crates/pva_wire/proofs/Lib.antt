@@ -1,0 +1,9 @@
+pub mod Takes
+pub mod Digits
+pub mod Sizes
+pub mod Texts
+pub mod OneReading
+pub mod Marks
+pub mod BitsHeld
+pub mod BitsRead
+pub mod Statuses

@@ -1,0 +1,49 @@
+ghost use Rattle.std.specs.Prelude.{◌≡◌};
+ghost use Rattle.pva_wire.specs.declared.fault.Stop.TheVariants.{Memory};
+
+use pvd_type::NoMemory;
+
+/// What is wrong with an item.
+#[derive(Clone, Copy, Debug, PartialEq, Eq)]
+pub enum Cause {
+    /// The bytes end inside the item.
+    Short,
+    /// A number is outside the range that its item allows.
+    Range,
+    /// The bytes of a text are no UTF-8.
+    NotUtf8,
+    /// A size is null where a number has to stand.
+    NullSize,
+}
+
+/// Why a reader over a slice stopped: at a fault, with the number of bytes that are left from the
+/// faulty item on, or for want of memory.
+#[derive(Debug, Drop)]
+pub enum Stop {
+    Memory,
+    Fault(Cause, usize),
+}
+
+impl From<NoMemory> for Stop {
+    ghost from_gives = { λ _ e. e ≡ Memory };
+
+    fn from(_e: NoMemory) -> Stop {
+        Stop::Memory
+    }
+}
+
+/// A fault with the place of its item's first byte, counted in bytes from the start of the cursor's
+/// bytes; or want of memory.
+#[derive(Clone, Copy, Debug, PartialEq, Eq)]
+pub enum WireFault {
+    /// The bytes end inside the item at this place.
+    Short(usize),
+    /// The number at this place is outside the range that its item allows.
+    Range(usize),
+    /// The bytes of the text at this place are no UTF-8.
+    NotUtf8(usize),
+    /// The size at this place is null where a number has to stand.
+    NullSize(usize),
+    /// Memory ran out.
+    NoMemory,
+}
