@@ -1,0 +1,6 @@
+pub mod History
+pub mod Sites
+pub mod Naming
+pub mod Views
+pub mod Marks
+pub mod Adding
