@@ -1,0 +1,97 @@
+// A log that takes no bytes: the view of the only seat of a table with one word. Each mark is one load of that word.
+ghost use Rattle.std.specs.Prelude.{◌≡◌, [], ◌∷◌, IfOk};
+ghost use Rattle.desk_api.specs.Marks.{first_seat, with_mark};
+ghost use Rattle.desk_api.specs.Sites.{footprint_of};
+ghost use Rattle.desk_api.specs.declared.mark.Mark.TheVariants as marks;
+
+use atomic_table::{Play, Table, TableRule};
+use desk_api::{Channel, NoMemory, RecState, Seat, Site};
+use std::alloc::Global;
+use std::marker::{Brand, Model, PhantomData};
+
+/// The rule of the table: since there is one seat, its view may be anything. At first it is that of a site without an entry.
+pub struct OneSeat;
+
+impl TableRule<(), Seat, Site> for OneSeat {
+    ghost use Rattle.desk_api.specs.Marks.{first_seat};
+
+    ghost holds = { λ _ _. Unit {0} };
+
+    ghost first = { λ site. first_seat site };
+}
+
+/// The mark that a step adds, as a function of its place. Each call picks it.
+pub trait Picks {
+    ghost use Rattle.std.specs.Prelude.{ℕ};
+    ghost use Rattle.desk_api.specs.declared.mark.Mark.{Mark};
+
+    ghost mark: { ℕ → Mark };
+}
+
+impl Picks for Brand {
+    ghost use Rattle.std.specs.Prelude.{[]};
+    ghost use Rattle.desk_api.specs.declared.channel.ChannelKind.TheVariants.{Rec};
+    ghost use Rattle.desk_api.specs.declared.mark.Mark.TheVariants.{Read};
+
+    ghost mark = { λ at. Read at (record { kind = Rec; number = 0 }) [] [] };
+}
+
+/// The step that adds the mark.
+struct AddMark<B> {
+    of: PhantomData<B>,
+}
+
+impl<B: Picks> Play<(), Seat> for AddMark<B> {
+    ghost use Rattle.std.specs.Prelude.{◌≡◌};
+    ghost use Rattle.desk_api.specs.Marks.{with_mark};
+
+    ghost then = { λ _ before _ after. after.0 ≡ with_mark before.0 B.mark };
+}
+
+/// The history and the marks of a desk that nobody shares. Contracts see it as a seat.
+#[derive(Drop)]
+pub struct Log {
+    table: Table<(), Seat, Site, OneSeat, Global>,
+    seat: atomic_table::Seat<(), Seat>,
+}
+
+impl Model for Log {
+    ghost use Rattle.std.specs.Prelude.{◌≡◌};
+    ghost use Rattle.desk_api.specs.declared.mark.Seat.{Seat};
+
+    ghost Value = { Seat };
+
+    ghost view = { λ log. log.seat.me.0 };
+
+    ghost invariant = { λ log. (log.seat.table_id ≡ log.table.shared.table_id) × (log.table.shared.table_id.words ≡ 1) };
+}
+
+impl Log {
+    /// The log of this site before any call.
+    pub(crate) fn new(alloc: Global, site: &Site) -> Result<Log, NoMemory>
+        ensures { IfOk result (λ log. log ≡ first_seat site.now) }
+    {
+        match Table::of_words(alloc, &[0], site) {
+            Ok((table, seat)) => Ok(Log { table, seat }),
+            Err(_) => Err(NoMemory),
+        }
+    }
+
+    /// Adds the mark that was picked, at the present place.
+    fn add<B: Picks>(&mut self)
+        ensures { self.new ≡ with_mark self.old B.mark }
+    {
+        let table = &self.table;
+        table.shared.load::<AddMark<B>>(&mut self.seat, 0);
+    }
+}
+
+// One helper for each kind of mark. Its arguments are the parts of the mark, from which the caller picks it.
+
+/// Notes that a get of the channel found its record in this state.
+pub(crate) fn note_read<B: Picks>(log: &mut Log, _channel: Channel, _state: RecState)
+    requires { B.mark ≡ (λ at. marks.Read at _channel (footprint_of _channel) (_state ∷ [])) }
+    ensures { log.new ≡ with_mark log.old (λ at. marks.Read at _channel (footprint_of _channel) (_state ∷ [])) }
+{
+    log.add::<B>();
+}
