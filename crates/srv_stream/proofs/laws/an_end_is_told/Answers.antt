@@ -1,0 +1,5 @@
+use Rattle.srv_stream.specs.Exact.{tells_end}
+use Rattle.srv_stream.proofs.laws.an_end_is_told.Goals as goal
+
+pub returns : goal.returns
+returns c = tells_end

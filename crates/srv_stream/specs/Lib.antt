@@ -1,0 +1,10 @@
+pub mod Talk
+pub mod Views
+pub mod Calls
+pub mod Streams
+pub mod ServingView
+pub mod Moves
+pub mod Served
+pub mod Exact
+pub mod Unserved
+pub mod Going

@@ -1,0 +1,75 @@
+-- A connection that was never begun, since memory ran out first.
+use Rattle.std.specs.Prelude.{ℕ, List, [], ◌∷◌, Option, None, Some, refl}
+use Rattle.std.proofs.Common.{inl, inr, sym}
+use Rattle.std.proofs.lemmas.List.{append-nil}
+use Rattle.std.specs.Io.KnownBytes.{Appends, Consumes}
+use Rattle.pva_outside.specs.Wire.{Wire}
+use Rattle.pva_wire.specs.declared.order.Order.{Order}
+use Rattle.pva_messages.specs.Frames.{Frame, frames_from}
+use Rattle.pva_messages.specs.Replies.{greeting}
+use Rattle.pva_messages.specs.Requests.{message_at}
+use Rattle.pva_messages.specs.declared.to_server.ToServer.{ToServer}
+use Rattle.pva_messages.specs.declared.to_server.ToServer.TheVariants.{Validation, Create, BeginGet, Get}
+use Rattle.desk_api.specs.Adding.{adds_nothing}
+use Rattle.desk_api.specs.declared.channel.Channel.{Channel}
+use Rattle.desk_api.specs.declared.mark.Seat.{Seat}
+use Rattle.srv_stream.specs.Talk.{State, opening, GetPart, Part, RowPart}
+use Rattle.srv_stream.specs.Moves.{Moves}
+use Rattle.srv_stream.specs.Served.{Served}
+use Rattle.srv_stream.specs.declared.serve.Ended.TheVariants as ends
+
+-- no mark of a row
+
+no_get : (o : Option Channel) → GetPart o []
+no_get None = refl
+no_get (Some channel) = inl refl
+
+pub no_part : (s : State) (m : Option ToServer) → Part s m []
+no_part s None = refl
+no_part s (Some (Validation buffer registry qos)) = refl
+no_part s (Some (Create cid name)) = refl
+no_part s (Some (BeginGet sid req)) = refl
+no_part s (Some (Get sid req)) = no_get s.channel
+
+pub no_row_part : (s : State) (events : List Frame) → RowPart s events []
+no_row_part s [] = refl
+no_row_part s (e ∷ more) = no_part s (message_at e.command e.payload)
+
+-- no byte moved
+
+consumes_none : (a : Option (List ℕ)) → Consumes a a []
+consumes_none None = tt
+consumes_none (Some a) = refl
+
+appends_none : (a : Option (List ℕ)) → Appends a a []
+appends_none None = tt
+appends_none (Some a) = sym (append-nil a)
+
+pub moves_nothing : (w : Wire) → Moves w w [] []
+moves_nothing w = record { taken = consumes_none w.left; given = appends_none w.written }
+
+-- nothing was begun
+pub never_served : (old : Seat) (start : Wire) (order : Order) (turns : ℕ) → Served old old start start order turns ends.NoMemory
+never_served old start order turns = record {
+  log = [];
+  read = [];
+  written = [];
+  adds = adds_nothing old;
+  moves = moves_nothing start;
+  settled = inl refl;
+  answer = record {
+    events = [];
+    said = [];
+    more = [];
+    endings = [];
+    out = greeting order;
+    state = opening order;
+    talk = record { steps = []; rules = tt; events_are = refl; marks_are = refl; out_is = append-nil (greeting order) };
+    front = record { rest = frames_from 0 []; whole = refl };
+    part = no_row_part (opening order) (frames_from 0 []);
+    ends = refl;
+    log_is = refl;
+    begins = record { rest = greeting order; whole = refl };
+  };
+  complete = λ i. inr refl;
+}
