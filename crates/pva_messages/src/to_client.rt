@@ -38,6 +38,9 @@ fn error(alloc: Global, out: &mut Vec<u8>, order: Order, message: &str) -> Resul
     text(alloc, out, order, "")
 }
 
+/// Room for the payload of a value, so that a get takes memory for it once.
+const PAYLOAD: usize = 64;
+
 /// The status OK.
 const GOOD: u8 = 0xFF;
 
@@ -121,7 +124,7 @@ pub fn write_to_client(
     ensures ok { OnOk result (out.new.items ≡ out.old.items ++ spelled order message) }
     ensures err { OnErr result (out.new.items ≡ out.old.items) }
 {
-    let mut bytes = Vec::new(alloc);
+    let mut bytes = Vec::with_capacity(alloc, PAYLOAD)?;
     payload(alloc, &mut bytes, order, message)?;
     write_frame(out, order, command_of(message), &bytes)
 }
