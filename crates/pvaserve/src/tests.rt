@@ -1,0 +1,200 @@
+use crate::program::run;
+use pva_outside::{FixedClock, Kinds, MemoryLink, MemorySink, PlainLink, Turn, World};
+use std::alloc::{AllocError, Global};
+use std::test::Fail;
+
+/// What a client sends that is validated, creates a channel of X, begins a get and gets.
+const FIRST_CLIENT: [&[u8]; 4] = [
+    b"\xCA\x02\x00\x01\x13\x00\x00\x00\x00\x00\x01\x00\x00\x00\x00\x00\x09anonymous\xFF",
+    b"\xCA\x02\x00\x07\x08\x00\x00\x00\x01\x00\x07\x00\x00\x00\x01X",
+    b"\xCA\x02\x00\x0A\x0C\x00\x00\x00\x00\x00\x00\x00\x01\x00\x00\x00\x08\x80\x00\x00",
+    b"\xCA\x02\x00\x0A\x09\x00\x00\x00\x00\x00\x00\x00\x01\x00\x00\x00\x00",
+];
+
+/// The greeting: the byte order, and the validation request.
+const GREETING: &[u8] =
+    b"\xCA\x02\x41\x02\x00\x00\x00\x00\xCA\x02\x40\x01\x14\x00\x00\x00\x00\x00\x01\x00\xFF\x7F\x02\x09anonymous\x02ca";
+
+/// What it is answered by a server of X=42.
+const FIRST_SERVER: [&[u8]; 7] = [
+    GREETING,
+    b"\xCA\x02\x40\x09\x01\x00\x00\x00\xFF",
+    b"\xCA\x02\x40\x07\x09\x00\x00\x00\x07\x00\x00\x00\x00\x00\x00\x00\xFF",
+    b"\xCA\x02\x40\x0A\x8B\x00\x00\x00\x01\x00\x00\x00\x08\xFF",
+    b"\x80\x15epics:nt/NTScalar:1.0\x03\x05value\x22\x05alarm\x80\x07alarm_t\x03\x08severity\x22\x06status\x22\x07message\x60\x09timeStamp\x80\x06time_t\x03\x10secondsPastEpoch\x23\x0Bnanoseconds\x22\x07userTag\x22",
+    b"\xCA\x02\x40\x0A\x26\x00\x00\x00\x01\x00\x00\x00\x00\xFF\x02\xBA\x03\x2A\x00\x00\x00",
+    &[0; 25],
+];
+
+fn joined(alloc: Global, parts: &[&[u8]]) -> Result<Vec<u8>, AllocError> {
+    let mut bytes = Vec::new(alloc);
+    for part in parts {
+        bytes.extend_from_slice(part)?;
+    }
+    Ok(bytes)
+}
+
+/// The outside in memory, with a link that is always ready.
+struct Ready;
+
+impl Kinds for Ready {
+    type Link = PlainLink;
+
+    type Sink = MemorySink;
+
+    type Clock = FixedClock;
+}
+
+fn ready_world(alloc: Global, input: Vec<u8>) -> World<Ready> {
+    World {
+        link: PlainLink::new(alloc, input),
+        sink: MemorySink::new(alloc, Vec::new(alloc)),
+        clock: FixedClock::new(100, 5),
+    }
+}
+
+/// The outside in memory, with a link that follows a script.
+struct Scripted;
+
+impl Kinds for Scripted {
+    type Link = MemoryLink;
+
+    type Sink = MemorySink;
+
+    type Clock = FixedClock;
+}
+
+fn scripted_world(alloc: Global, input: Vec<u8>, script: Vec<Turn>) -> World<Scripted> {
+    World {
+        link: MemoryLink::new(alloc, input, script),
+        sink: MemorySink::new(alloc, Vec::new(alloc)),
+        clock: FixedClock::new(100, 5),
+    }
+}
+
+#[test]
+fn a_first_client_gets_the_value_of_the_record(rt: HostRuntime) -> Result<(), Fail> {
+    let alloc = rt.alloc();
+    let mut world = ready_world(alloc, joined(alloc, &FIRST_CLIENT)?);
+    assert_eq!(rt; run(alloc, &["--inetd", "X=42"], &mut world), 0);
+    assert_eq!(rt;
+        world.link.written(),
+        joined(alloc, &FIRST_SERVER)?.as_slice()
+    );
+    assert!(rt; world.sink.written().is_empty());
+    Ok(())
+}
+
+#[test]
+fn sources_that_are_served_and_others(rt: HostRuntime) -> Result<(), Fail> {
+    let alloc = rt.alloc();
+    for (source, status) in [
+        ("X=42", 0),
+        ("X=0", 0),
+        ("BL:M1:Pos-2=2147483647", 0),
+        ("X=-2147483648", 0),
+        ("X", 2),
+        ("X=", 2),
+        ("=4", 2),
+        ("X=-", 2),
+        ("X=+4", 2),
+        ("X=04", 2),
+        ("X=-04", 2),
+        ("X=-0", 2),
+        ("X=4.", 2),
+        ("X= 4", 2),
+        ("X=2147483648", 2),
+        ("X=-2147483649", 2),
+        ("A.B=1", 2),
+        ("A=B=1", 2),
+        ("--listen", 2),
+    ] {
+        let mut world = ready_world(alloc, Vec::new(alloc));
+        assert_eq!(rt;
+            run(alloc, &["--inetd", source], &mut world),
+            status,
+            "{source}"
+        );
+        let written = if status == 0 { GREETING } else { &[] };
+        assert_eq!(rt; world.link.written(), written, "{source}");
+        assert!(rt; world.sink.written().is_empty());
+    }
+    Ok(())
+}
+
+#[test]
+fn words_that_are_not_taken(rt: HostRuntime) {
+    let alloc = rt.alloc();
+    for words in [
+        &[][..],
+        &["--inetd"],
+        &["X=42"],
+        &["--help"],
+        &["X=42", "--inetd"],
+        &["--listen", "X=42"],
+        &["--inetd=true", "X=42"],
+        &["--inetd", "X=42", "--big"],
+    ] {
+        let mut world = ready_world(alloc, Vec::new(alloc));
+        assert_eq!(rt; run(alloc, words, &mut world), 2, "{words:?}");
+        assert!(rt; world.link.written().is_empty());
+    }
+}
+
+#[test]
+fn streams_that_end_inside_a_frame_or_have_a_fault(rt: HostRuntime) -> Result<(), Fail> {
+    let alloc = rt.alloc();
+    for (input, status) in [
+        (&b""[..], 0),
+        (b"\xCA\x02\x00\x01\x13\x00\x00", 5),
+        (b"\xCB", 5),
+        (b"\xCA\x02\x00\x02\x01\x00\x00\x00", 5),
+    ] {
+        let mut world = ready_world(alloc, Vec::from_slice(alloc, input)?);
+        assert_eq!(rt;
+            run(alloc, &["--inetd", "X=42"], &mut world),
+            status,
+            "{input:?}"
+        );
+        assert_eq!(rt; world.link.written(), GREETING, "{input:?}");
+    }
+    Ok(())
+}
+
+#[test]
+fn a_link_that_fails(rt: HostRuntime) -> Result<(), Fail> {
+    let alloc = rt.alloc();
+    let all = Turn::Give(usize::MAX);
+    let answered = joined(alloc, &FIRST_SERVER)?;
+    for (script, written) in [
+        // the first write, the second write, and the second read
+        (&[Turn::Fail][..], &[][..]),
+        (&[all, all, Turn::Fail], GREETING),
+        (&[all, all, all, Turn::Fail], answered.as_slice()),
+    ] {
+        let script = Vec::from_slice(alloc, script)?;
+        let mut world = scripted_world(alloc, joined(alloc, &FIRST_CLIENT)?, script);
+        assert_eq!(rt; run(alloc, &["--inetd", "X=42"], &mut world), 6);
+        assert_eq!(rt; world.link.written(), written);
+    }
+    Ok(())
+}
+
+#[test]
+fn pieces_of_one_byte_between_idle_calls_are_answered_the_same(
+    rt: HostRuntime,
+) -> Result<(), Fail> {
+    let alloc = rt.alloc();
+    let mut script = Vec::new(alloc);
+    for _ in 0..400u32 {
+        script.push(Turn::Give(1))?;
+        script.push(Turn::Idle)?;
+    }
+    let mut world = scripted_world(alloc, joined(alloc, &FIRST_CLIENT)?, script);
+    assert_eq!(rt; run(alloc, &["--inetd", "X=42"], &mut world), 0);
+    assert_eq!(rt;
+        world.link.written(),
+        joined(alloc, &FIRST_SERVER)?.as_slice()
+    );
+    Ok(())
+}
