@@ -18,3 +18,6 @@ pub use pv_type::{PvType, split_size};
 pub use same::same_shape;
 pub use set::BitSet;
 pub use shape::{Extent, Member, Node, Scalar, Shape};
+
+#[cfg(test)]
+mod tests;
