@@ -1,0 +1,143 @@
+ghost use Rattle.std.specs.Prelude.{◌≡◌, IfOk};
+ghost use Rattle.pvd_value.specs.Data.{selected, carried};
+ghost use Rattle.pvd_value.specs.View.{view, row_view, optional_view, carried_view, items_view};
+
+use crate::value::{Items, PvValue};
+use pvd_type::{Name, NoMemory, PvType};
+use std::alloc::Global;
+
+impl PvValue {
+    /// A copy of the value, whatever its depth.
+    pub fn clone_in(&self, alloc: Global) -> Result<PvValue, NoMemory>
+        ensures { IfOk result (λ v. view v ≡ view self.now) }
+    {
+        copy(self, alloc)
+    }
+}
+
+#[cycle(copy)]
+#[tactic(auto, using(crate::proofs::Rows::view_structs, crate::proofs::Rows::view_unions, crate::proofs::Rows::view_variants))]
+fn copy(value: &PvValue, alloc: Global) -> Result<PvValue, NoMemory>
+    ensures { IfOk result (λ v. view v ≡ view value.now) }
+{
+    match value {
+        PvValue::Bool(x) => Ok(PvValue::Bool(*x)),
+        PvValue::I8(x) => Ok(PvValue::I8(*x)),
+        PvValue::I16(x) => Ok(PvValue::I16(*x)),
+        PvValue::I32(x) => Ok(PvValue::I32(*x)),
+        PvValue::I64(x) => Ok(PvValue::I64(*x)),
+        PvValue::U8(x) => Ok(PvValue::U8(*x)),
+        PvValue::U16(x) => Ok(PvValue::U16(*x)),
+        PvValue::U32(x) => Ok(PvValue::U32(*x)),
+        PvValue::U64(x) => Ok(PvValue::U64(*x)),
+        PvValue::F32(x) => Ok(PvValue::F32(*x)),
+        PvValue::F64(x) => Ok(PvValue::F64(*x)),
+        PvValue::Text(text) => Ok(PvValue::Text(text.clone_in(alloc)?)),
+        PvValue::List(items) => Ok(PvValue::List(items.clone_in(alloc)?)),
+        PvValue::Struct(values) => Ok(PvValue::Struct(copy_row(values, alloc)?)),
+        PvValue::Union(None) => Ok(PvValue::Union(None)),
+        PvValue::Union(Some((place, inner))) => copy_selected(*place, inner, alloc),
+        PvValue::Variant(None) => Ok(PvValue::Variant(None)),
+        PvValue::Variant(Some((ty, inner))) => copy_carried(ty, inner, alloc),
+        PvValue::StructList(values) => Ok(PvValue::StructList(copy_optional(values, alloc)?)),
+        PvValue::UnionList(values) => Ok(PvValue::UnionList(copy_optional(values, alloc)?)),
+        PvValue::VariantList(values) => Ok(PvValue::VariantList(copy_variants(values, alloc)?)),
+    }
+}
+
+#[cycle(copy)]
+#[tactic(auto, using(crate::proofs::Rows::view_selected))]
+fn copy_selected(place: u32, inner: &PvValue, alloc: Global) -> Result<PvValue, NoMemory>
+    ensures { IfOk result (λ v. view v ≡ selected place (view inner.now)) }
+{
+    let copied = Box::new(alloc, copy(inner, alloc)?)?;
+    Ok(PvValue::Union(Some((place, copied))))
+}
+
+#[cycle(copy)]
+#[tactic(auto, using(crate::proofs::Rows::view_carried))]
+fn copy_carried(ty: &PvType, inner: &PvValue, alloc: Global) -> Result<PvValue, NoMemory>
+    ensures { IfOk result (λ v. view v ≡ carried ty.now (view inner.now)) }
+{
+    let copied = Box::new(alloc, copy(inner, alloc)?)?;
+    Ok(PvValue::Variant(Some((ty.clone_in(alloc)?, copied))))
+}
+
+#[cycle(copy)]
+fn copy_row(values: &[PvValue], alloc: Global) -> Result<Vec<PvValue>, NoMemory>
+    ensures { IfOk result (λ v. row_view v.items ≡ row_view values.now) }
+{
+    let mut copies = Vec::with_capacity(alloc, values.len())?;
+    for value in values {
+        copies.push(copy(value, alloc)?)?;
+    }
+    Ok(copies)
+}
+
+#[cycle(copy)]
+fn copy_optional(
+    values: &[Option<PvValue>],
+    alloc: Global,
+) -> Result<Vec<Option<PvValue>>, NoMemory>
+    ensures { IfOk result (λ v. optional_view v.items ≡ optional_view values.now) }
+{
+    let mut copies = Vec::with_capacity(alloc, values.len())?;
+    for value in values {
+        let copied = match value {
+            Some(value) => Some(copy(value, alloc)?),
+            None => None,
+        };
+        copies.push(copied)?;
+    }
+    Ok(copies)
+}
+
+#[cycle(copy)]
+fn copy_variants(
+    values: &[Option<(PvType, PvValue)>],
+    alloc: Global,
+) -> Result<Vec<Option<(PvType, PvValue)>>, NoMemory>
+    ensures { IfOk result (λ v. carried_view v.items ≡ carried_view values.now) }
+{
+    let mut copies = Vec::with_capacity(alloc, values.len())?;
+    for value in values {
+        let copied = match value {
+            Some((ty, value)) => Some((ty.clone_in(alloc)?, copy(value, alloc)?)),
+            None => None,
+        };
+        copies.push(copied)?;
+    }
+    Ok(copies)
+}
+
+impl Items {
+    /// A copy of the elements.
+    pub fn clone_in(&self, alloc: Global) -> Result<Items, NoMemory>
+        ensures { IfOk result (λ v. items_view v ≡ items_view self.now) }
+    {
+        match self {
+            Items::Bool(xs) => Ok(Items::Bool(Vec::from_slice(alloc, xs)?)),
+            Items::I8(xs) => Ok(Items::I8(Vec::from_slice(alloc, xs)?)),
+            Items::I16(xs) => Ok(Items::I16(Vec::from_slice(alloc, xs)?)),
+            Items::I32(xs) => Ok(Items::I32(Vec::from_slice(alloc, xs)?)),
+            Items::I64(xs) => Ok(Items::I64(Vec::from_slice(alloc, xs)?)),
+            Items::U8(xs) => Ok(Items::U8(Vec::from_slice(alloc, xs)?)),
+            Items::U16(xs) => Ok(Items::U16(Vec::from_slice(alloc, xs)?)),
+            Items::U32(xs) => Ok(Items::U32(Vec::from_slice(alloc, xs)?)),
+            Items::U64(xs) => Ok(Items::U64(Vec::from_slice(alloc, xs)?)),
+            Items::F32(xs) => Ok(Items::F32(Vec::from_slice(alloc, xs)?)),
+            Items::F64(xs) => Ok(Items::F64(Vec::from_slice(alloc, xs)?)),
+            Items::Text(texts) => Ok(Items::Text(copy_names(texts, alloc)?)),
+        }
+    }
+}
+
+fn copy_names(names: &[Name], alloc: Global) -> Result<Vec<Name>, NoMemory>
+    ensures { IfOk result (λ v. v.items ≡ names.now) }
+{
+    let mut copies = Vec::with_capacity(alloc, names.len())?;
+    for name in names {
+        copies.push(name.clone_in(alloc)?)?;
+    }
+    Ok(copies)
+}

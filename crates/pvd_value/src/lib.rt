@@ -1,0 +1,23 @@
+//! Values of pvData types: whether they fit, their leaves, merging and comparing them.
+#![tactic(auto)]
+
+mod blanking;
+mod copying;
+mod differing;
+mod fitting;
+mod leaves;
+mod merging;
+mod same;
+mod value;
+
+pub use blanking::blank;
+pub use differing::differs;
+pub use fitting::{fits, member_shape};
+pub use leaves::{ValueBits, leaf, leaves_of};
+pub use merging::merge;
+pub use pvd_type::NoMemory;
+pub use same::same_value;
+pub use value::{Items, PvValue};
+
+#[cfg(test)]
+mod tests;
