@@ -1,0 +1,12 @@
+pub mod Codes
+pub mod Laid
+pub mod Maps
+pub mod Chains
+pub mod Again
+pub mod Sound
+pub mod OnlyThis
+pub mod Unique
+pub mod Back
+pub mod Calls
+pub mod Parts
+pub mod FoundThere

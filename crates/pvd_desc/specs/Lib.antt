@@ -1,0 +1,6 @@
+pub mod Types
+pub mod Shared
+pub mod Code
+pub mod Reading
+pub mod Grammar
+pub mod Faults

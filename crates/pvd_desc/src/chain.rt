@@ -1,0 +1,70 @@
+ghost use Rattle.std.specs.Prelude.{◌≡◌, OnOk, option_map};
+ghost use Rattle.std.specs.FinMap as map;
+ghost use Rattle.std.specs.Arc.{arc_value};
+ghost use Rattle.pvd_type.specs.View.{shape_view};
+ghost use Rattle.pvd_type.specs.Check.{IsType};
+ghost use Rattle.pvd_desc.specs.Types.{Types, laid, define_all};
+ghost use Rattle.pvd_desc.specs.Reading.{Gives, chain_at};
+
+use crate::fault::DescStop;
+use crate::items::{definition, id_at};
+use crate::registry::{Definitions, Registry};
+use pva_wire::Order;
+use pvd_type::{NoMemory, PvType, Shape};
+use std::alloc::Global;
+use std::sync::Arc;
+
+/// The ids of definitions that stand one after another.
+pub fn chain_at(alloc: Global, order: Order, bytes: &[u8]) -> Result<(Vec<u16>, &[u8]), DescStop>
+    ensures { Gives (λ x. (x.0.items, x.1.now)) result (chain_at order bytes.now) }
+{
+    let mut ids = Vec::new(alloc);
+    let mut rest = bytes;
+    while let Some(after) = definition(rest) {
+        let (id, after) = id_at(order, after)?;
+        ids.push(id)?;
+        rest = after;
+    }
+    Ok((ids, rest))
+}
+
+/// The type under an id: the one that this description has defined, or the one from before.
+pub fn known<'a>(base: &'a Registry, changed: &'a Definitions, id: u16) -> Option<&'a PvType>
+    ensures { option_map (λ ty. ty.now) result ≡ map.get (laid base.now changed.now) id }
+{
+    match changed.get(id) {
+        Some(ty) => Some(ty),
+        None => base.get(id),
+    }
+}
+
+/// Puts a type under each of the ids, which share it in memory.
+pub fn define_all(
+    alloc: Global,
+    changed: &mut Definitions,
+    ids: &[u16],
+    shape: &Shape,
+) -> Result<(), NoMemory>
+    requires { IsType (shape_view shape.now) }
+    ensures { OnOk result ((base : Types) → laid base changed.new ≡ define_all ids.now (shape_view shape.now) (laid base changed.old)) }
+{
+    if ids.is_empty() {
+        return Ok(());
+    }
+    let ty = Arc::new(alloc, PvType::of_checked(alloc, shape.clone_in(alloc)?)?)?;
+    define_each(changed, ids, &ty)
+}
+
+/// Puts a type under each of the ids.
+fn define_each(
+    changed: &mut Definitions,
+    ids: &[u16],
+    ty: &Arc<PvType, Global>,
+) -> Result<(), NoMemory>
+    ensures { OnOk result ((base : Types) → laid base changed.new ≡ define_all ids.now (arc_value ty.now) (laid base changed.old)) }
+{
+    for id in ids {
+        changed.define(*id, ty)?;
+    }
+    Ok(())
+}

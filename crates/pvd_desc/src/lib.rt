@@ -1,0 +1,21 @@
+//! Descriptions of types on the wire, and the types that a connection has defined under ids.
+#![tactic(auto)]
+
+mod chain;
+mod code;
+mod cursor;
+mod fault;
+mod items;
+mod laws;
+mod reading;
+mod registry;
+#[cfg(test)]
+mod tests;
+mod writing;
+
+pub use cursor::read_desc;
+pub use fault::{DescCause, DescFault, DescStop};
+pub use laws::descriptions;
+pub use reading::desc_at;
+pub use registry::{Definitions, Registry};
+pub use writing::write_desc;

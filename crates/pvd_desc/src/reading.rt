@@ -1,0 +1,411 @@
+ghost use Rattle.std.specs.Prelude.{◌≡◌, ◌≤◌, ◌<◌, ◌+◌, ◌-◌, [], IfOk, OnOk, Some};
+ghost use Rattle.pvd_type.specs.View.{shape_view, member_view, node_view, members_view, names_of};
+ghost use Rattle.pvd_type.specs.Check.{below, first_fault, label_fault};
+ghost use Rattle.pvd_type.specs.Numbers.{nodes};
+ghost use Rattle.pvd_desc.specs.declared.fault.DescCause.TheVariants.{UnknownCode};
+ghost use Rattle.pvd_desc.specs.Types.{laid};
+ghost use Rattle.pvd_desc.specs.Reading.{Gives, here_at, unless, wants, cached_at, inside_at, element_of, element_at, parts_at, member_with, fields_with, fields_below, node_at, desc_at};
+
+use crate::chain::{chain_at, define_all, known};
+use crate::code::{Code, Element, is_element, list_tree, takes};
+use crate::fault::{DescCause, DescStop};
+use crate::items::{bound_at, code_at, first_byte, id_at, member_count_at, name_at, null};
+use crate::registry::{Definitions, Registry};
+use pva_wire::Order;
+use pvd_type::{Extent, Member, Name, Node, PvType, Shape, TypeFault, check_below, is_among};
+use std::alloc::Global;
+
+/// Tests a node on this level that has `seen` nodes before it and whose name has the fault given; its
+/// code had `left` bytes from it on.
+fn check_here(level: u32, seen: u32, named: Option<TypeFault>, left: usize) -> Result<(), DescStop>
+    ensures value { Gives (λ u. u) result (here_at level seen named left) }
+    ensures room { OnOk result ((level ≤ 32) × (seen ≤ 4095)) }
+{
+    if level > 32 {
+        return Err(DescStop::Fault(DescCause::Shape(TypeFault::TooDeep), left));
+    }
+    if seen > 4095 {
+        return Err(DescStop::Fault(DescCause::Shape(TypeFault::TooMany), left));
+    }
+    match named {
+        None => Ok(()),
+        Some(fault) => Err(DescStop::Fault(DescCause::Shape(fault), left)),
+    }
+}
+
+/// The fault of a member's name.
+fn named(name: &Name, before: &[Member]) -> Option<TypeFault>
+    ensures { result ≡ label_fault (Some (record { name = name.now; before = names_of before.now })) }
+{
+    if name.as_str().is_empty() {
+        return Some(TypeFault::EmptyName);
+    }
+    if is_among(name, before) {
+        return Some(TypeFault::SameName);
+    }
+    None
+}
+
+/// The type under the id that stands here. Its code had `left` bytes from it on. Where an element of a
+/// list is wanted, a type of another kind is UnknownCode of the byte `first`, which is the first one of
+/// the element and had `first_left` bytes from it on.
+#[tactic(auto, unfolding(crate::specs::Reading::cached_at))]
+fn cached_at<'a>(
+    alloc: Global,
+    order: Order,
+    base: &Registry,
+    changed: &Definitions,
+    wanted: Option<Element>,
+    first: u8,
+    first_left: usize,
+    level: u32,
+    seen: u32,
+    left: usize,
+    bytes: &'a [u8],
+) -> Result<(Shape, u32, &'a [u8]), DescStop>
+    requires level { level ≤ 32 }
+    requires seen { seen ≤ 4095 }
+    ensures value { Gives (λ x. (shape_view x.0, x.1, x.2.now, laid base.now changed.now)) result (cached_at order wanted (UnknownCode first, first_left) level seen left (laid base.now changed.now) bytes.now) }
+    ensures few { IfOk result (λ x. x.1 ≤ 4096) }
+{
+    let (id, rest) = id_at(order, bytes)?;
+    let Some(ty) = known(base, changed, id) else {
+        return Err(DescStop::Fault(DescCause::UnknownId(id), bytes.len()));
+    };
+    let shape = ty.shape();
+    if !wants(wanted, shape) {
+        return Err(DescStop::Fault(DescCause::UnknownCode(first), first_left));
+    }
+    let seen = below_at(shape, level, seen, left)?;
+    Ok((shape.clone_in(alloc)?, seen, rest))
+}
+
+/// Whether a cached type may stand where it was found.
+fn wants(wanted: Option<Element>, shape: &Shape) -> bool
+    ensures { result ≡ wants wanted (shape_view shape.now) }
+{
+    match wanted {
+        None => true,
+        Some(element) => is_element(element, shape),
+    }
+}
+
+/// Counts the nodes of a cached type, and tests those below its root.
+fn below_at(shape: &Shape, level: u32, seen: u32, left: usize) -> Result<u32, DescStop>
+    requires level { level ≤ 32 }
+    requires seen { seen ≤ 4095 }
+    ensures value { Gives (λ n. n) result (unless (first_fault (seen + 1) (below level (shape_view shape.now))) left (seen + nodes (shape_view shape.now))) }
+    ensures few { IfOk result (λ n. n ≤ 4096) }
+{
+    match check_below(shape, level, seen + 1) {
+        Ok(count) => Ok(count),
+        Err(fault) => Err(DescStop::Fault(DescCause::Shape(fault), left)),
+    }
+}
+
+// The functions of the cycle below pass `room`, the 33 levels less that of the node, in place of the
+// level: each step down takes one from it, so the recursion ends, and the last one finds no room.
+// `seen` counts the nodes before this one; a node's own fault stands at its code byte.
+
+/// What stands in a node after its code: the id, and as many members as the count says.
+#[cycle(node)]
+#[tactic(auto, unfolding(crate::specs::Reading::inside_at))]
+fn inside_at<'a>(
+    alloc: Global,
+    order: Order,
+    base: &Registry,
+    changed: &mut Definitions,
+    room: u32,
+    seen: u32,
+    bytes: &'a [u8],
+) -> Result<(Node, u32, &'a [u8]), DescStop>
+    requires room { (0 < room) × (room ≤ 33) }
+    requires seen { seen ≤ 4095 }
+    ensures value { Gives (λ x. (node_view x.0, x.1, x.2.now, laid base.now changed.new)) result (inside_at order (33 - room) (fields_below order room) seen (laid base.now changed.old) bytes.now) }
+    ensures few { IfOk result (λ x. x.1 ≤ 4096) }
+{
+    let (id, rest) = name_at(alloc, order, bytes)?;
+    let (count, rest) = member_count_at(order, rest)?;
+    let (members, seen, rest) = fields_at(
+        alloc,
+        order,
+        base,
+        changed,
+        room - 1,
+        count,
+        seen + 1,
+        rest,
+    )?;
+    Ok((Node { id, members }, seen, rest))
+}
+
+/// So many members, where `room` levels are left for what stands below them.
+#[cycle(node)]
+fn fields_at<'a>(
+    alloc: Global,
+    order: Order,
+    base: &Registry,
+    changed: &mut Definitions,
+    room: u32,
+    count: u32,
+    seen: u32,
+    bytes: &'a [u8],
+) -> Result<(Vec<Member>, u32, &'a [u8]), DescStop>
+    requires room { room < 33 }
+    requires seen { seen ≤ 4096 }
+    ensures value { Gives (λ x. (members_view x.0.items, x.1, x.2.now, laid base.now changed.new)) result (fields_with order (node_at order room) [] count seen (laid base.now changed.old) bytes.now) }
+    ensures few { IfOk result (λ x. x.1 ≤ 4096) }
+{
+    let mut members: Vec<Member> = Vec::new(alloc);
+    let mut seen = seen;
+    let mut rest = bytes;
+    for _ in 0..count {
+        let (member, more, after) = member_at(
+            alloc, order, base, changed, room, seen, &members, rest,
+        )?;
+        members.push(member)?;
+        seen = more;
+        rest = after;
+    }
+    Ok((members, seen, rest))
+}
+
+/// A member that stands after the members `before` of its node.
+#[cycle(node)]
+#[tactic(auto, unfolding(crate::specs::Reading::member_with))]
+fn member_at<'a>(
+    alloc: Global,
+    order: Order,
+    base: &Registry,
+    changed: &mut Definitions,
+    room: u32,
+    seen: u32,
+    before: &[Member],
+    bytes: &'a [u8],
+) -> Result<(Member, u32, &'a [u8]), DescStop>
+    requires room { room < 33 }
+    requires seen { seen ≤ 4096 }
+    ensures value { Gives (λ x. (member_view x.0, x.1, x.2.now, laid base.now changed.new)) result (member_with order (node_at order room) seen (names_of before.now) (laid base.now changed.old) bytes.now) }
+    ensures few { IfOk result (λ x. x.1 ≤ 4096) }
+{
+    let (name, rest) = name_at(alloc, order, bytes)?;
+    let fault = named(&name, before);
+    let (shape, seen, rest) = node_at(alloc, order, base, changed, room, seen, fault, rest)?;
+    Ok((Member { name, shape }, seen, rest))
+}
+
+/// A node that has `seen` nodes before it and whose name has the fault given, with the definitions that
+/// stand before it.
+#[cycle(node)]
+#[tactic(auto, unfolding(crate::specs::Reading::node_on))]
+fn node_at<'a>(
+    alloc: Global,
+    order: Order,
+    base: &Registry,
+    changed: &mut Definitions,
+    room: u32,
+    seen: u32,
+    named: Option<TypeFault>,
+    bytes: &'a [u8],
+) -> Result<(Shape, u32, &'a [u8]), DescStop>
+    requires room { room < 33 }
+    requires seen { seen ≤ 4096 }
+    ensures value { Gives (λ x. (shape_view x.0, x.1, x.2.now, laid base.now changed.new)) result (node_at order room seen named (laid base.now changed.old) bytes.now) }
+    ensures few { IfOk result (λ x. x.1 ≤ 4096) }
+{
+    let (ids, rest) = chain_at(alloc, order, bytes)?;
+    let left = rest.len();
+    let (code, rest) = code_at(rest)?;
+    check_here(33 - room, seen, named, left)?;
+    let (shape, seen, rest) = parts_at(alloc, order, base, changed, room, code, left, seen, rest)?;
+    define_all(alloc, changed, &ids, &shape)?;
+    Ok((shape, seen, rest))
+}
+
+/// What follows a node's code, which had `left` bytes from it on.
+#[cycle(node)]
+#[tactic(auto, unfolding(crate::specs::Reading::parts_at, crate::specs::Reading::sized_at))]
+fn parts_at<'a>(
+    alloc: Global,
+    order: Order,
+    base: &Registry,
+    changed: &mut Definitions,
+    room: u32,
+    code: Code,
+    left: usize,
+    seen: u32,
+    bytes: &'a [u8],
+) -> Result<(Shape, u32, &'a [u8]), DescStop>
+    requires room { (0 < room) × (room < 33) }
+    requires seen { seen ≤ 4095 }
+    ensures value { Gives (λ x. (shape_view x.0, x.1, x.2.now, laid base.now changed.new)) result (parts_at order (33 - room) (fields_below order room) code left seen (laid base.now changed.old) bytes.now) }
+    ensures few { IfOk result (λ x. x.1 ≤ 4096) }
+{
+    match code {
+        Code::Plain(scalar) => Ok((Shape::Plain(scalar), seen + 1, bytes)),
+        Code::List(scalar) => Ok((Shape::List(scalar, Extent::Variable), seen + 1, bytes)),
+        Code::Bounded(scalar) => {
+            let (size, rest) = bound_at(order, bytes)?;
+            Ok((Shape::List(scalar, Extent::Bounded(size)), seen + 1, rest))
+        }
+        Code::Fixed(scalar) => {
+            let (size, rest) = bound_at(order, bytes)?;
+            Ok((Shape::List(scalar, Extent::Fixed(size)), seen + 1, rest))
+        }
+        Code::BoundText => {
+            let (size, rest) = bound_at(order, bytes)?;
+            Ok((Shape::BoundText(size), seen + 1, rest))
+        }
+        Code::Variant => Ok((Shape::Variant, seen + 1, bytes)),
+        Code::VariantList => Ok((Shape::VariantList, seen + 1, bytes)),
+        Code::Struct => {
+            let (node, seen, rest) = inside_at(alloc, order, base, changed, room, seen, bytes)?;
+            Ok((Shape::Struct(node), seen, rest))
+        }
+        Code::Union => {
+            let (node, seen, rest) = inside_at(alloc, order, base, changed, room, seen, bytes)?;
+            Ok((Shape::Union(node), seen, rest))
+        }
+        Code::StructList => element_at(
+            alloc,
+            order,
+            base,
+            changed,
+            room,
+            Element::Struct,
+            seen,
+            bytes,
+        ),
+        Code::UnionList => element_at(
+            alloc,
+            order,
+            base,
+            changed,
+            room,
+            Element::Union,
+            seen,
+            bytes,
+        ),
+        Code::Cached => cached_at(
+            alloc,
+            order,
+            base,
+            changed,
+            None,
+            254,
+            left,
+            33 - room,
+            seen,
+            left,
+            bytes,
+        ),
+        Code::Unknown => Err(DescStop::Fault(DescCause::UnknownCode(0), left)),
+    }
+}
+
+/// A list of structures or unions, after its code: the element's own description, which is no node.
+#[cycle(node)]
+#[tactic(auto, unfolding(crate::specs::Reading::element_at))]
+fn element_at<'a>(
+    alloc: Global,
+    order: Order,
+    base: &Registry,
+    changed: &mut Definitions,
+    room: u32,
+    element: Element,
+    seen: u32,
+    bytes: &'a [u8],
+) -> Result<(Shape, u32, &'a [u8]), DescStop>
+    requires room { (0 < room) × (room < 33) }
+    requires seen { seen ≤ 4095 }
+    ensures value { Gives (λ x. (shape_view x.0, x.1, x.2.now, laid base.now changed.new)) result (element_at order (33 - room) (fields_below order room) element seen (laid base.now changed.old) bytes.now) }
+    ensures few { IfOk result (λ x. x.1 ≤ 4096) }
+{
+    let (ids, rest) = chain_at(alloc, order, bytes)?;
+    let left = rest.len();
+    let (code, rest) = code_at(rest)?;
+    let first = first_byte(bytes);
+    let (shape, seen, rest) = element_of(
+        alloc,
+        order,
+        base,
+        changed,
+        room,
+        element,
+        first,
+        bytes.len(),
+        left,
+        seen,
+        code,
+        rest,
+    )?;
+    define_all(alloc, changed, &ids, &shape)?;
+    Ok((list_tree(shape), seen, rest))
+}
+
+/// The element of a list, after its code, which had `left` bytes from it on. A code of another kind is
+/// UnknownCode of the byte `first`, which had `first_left` bytes from it on.
+#[cycle(node)]
+#[tactic(auto, unfolding(crate::specs::Reading::element_of))]
+fn element_of<'a>(
+    alloc: Global,
+    order: Order,
+    base: &Registry,
+    changed: &mut Definitions,
+    room: u32,
+    element: Element,
+    first: u8,
+    first_left: usize,
+    left: usize,
+    seen: u32,
+    code: Code,
+    bytes: &'a [u8],
+) -> Result<(Shape, u32, &'a [u8]), DescStop>
+    requires room { (0 < room) × (room < 33) }
+    requires seen { seen ≤ 4095 }
+    ensures value { Gives (λ x. (shape_view x.0, x.1, x.2.now, laid base.now changed.new)) result (element_of order (33 - room) (fields_below order room) element (UnknownCode first, first_left) left seen (laid base.now changed.old) code bytes.now) }
+    ensures few { IfOk result (λ x. x.1 ≤ 4096) }
+{
+    if let Code::Cached = code {
+        return cached_at(
+            alloc,
+            order,
+            base,
+            changed,
+            Some(element),
+            first,
+            first_left,
+            33 - room,
+            seen,
+            left,
+            bytes,
+        );
+    }
+    if !takes(element, code) {
+        return Err(DescStop::Fault(DescCause::UnknownCode(first), first_left));
+    }
+    let (node, seen, rest) = inside_at(alloc, order, base, changed, room, seen, bytes)?;
+    match element {
+        Element::Struct => Ok((Shape::Struct(node), seen, rest)),
+        Element::Union => Ok((Shape::Union(node), seen, rest)),
+    }
+}
+
+/// A description and what follows it; None is the null description. What it defines goes into
+/// `changed`, which hides the types of `base`. After a refusal `changed` may hold a part of that.
+#[tactic(auto, unfolding(crate::specs::Reading::desc_at))]
+pub fn desc_at<'a>(
+    alloc: Global,
+    order: Order,
+    base: &Registry,
+    changed: &mut Definitions,
+    bytes: &'a [u8],
+) -> Result<(Option<PvType>, &'a [u8]), DescStop>
+    ensures { Gives (λ x. (x.0, x.1.now, laid base.now changed.new)) result (desc_at order (laid base.now changed.old) bytes.now) }
+{
+    if let Some(rest) = null(bytes) {
+        return Ok((None, rest));
+    }
+    let (shape, _, rest) = node_at(alloc, order, base, changed, 32, 0, None, bytes)?;
+    Ok((Some(PvType::of_checked(alloc, shape)?), rest))
+}
