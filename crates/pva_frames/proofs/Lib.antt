@@ -1,0 +1,12 @@
+mod Vectors
+pub mod Bringing
+pub mod Growing
+pub mod Marks
+pub mod Ending
+pub mod Beginning
+pub mod Taking
+pub mod Body
+pub mod Heads
+pub mod Written
+pub mod Cuts
+pub mod ReadBack

@@ -1,0 +1,11 @@
+pub mod Numbers
+pub mod Headers
+pub mod Frames
+pub mod Messages
+pub mod Assembled
+pub mod Spelling
+pub mod Cutting
+pub mod Joins
+pub mod Reader
+pub mod ReaderView
+pub mod Laws
