@@ -1,0 +1,103 @@
+-- Histories, and what a law says of them.
+use Rattle.std.specs.Prelude.{◌≡◌, ◌==◌, ℕ, Bool, true, false, List, [], ◌∷◌, ◌++◌, ◌<◌, length, slice_index}
+use mathlib.Core.List.{IsPrefix}
+use Rattle.hall_core.specs.declared.story.Story.{Story}
+use Rattle.hall_core.specs.declared.story.Deed.{Deed}
+use Rattle.hall_core.specs.declared.story.Deed.TheVariants.{Entry, Item}
+
+-- the entries, in order
+abbrev pub entries_of : {E R : Type 0} → List (ℕ × Deed E R) → List E
+entries_of [] = []
+entries_of ((k, Entry e) ∷ ds) = e ∷ entries_of ds
+entries_of ((k, Item i) ∷ ds) = entries_of ds
+
+-- the roll, in order
+abbrev pub roll_of : {E R : Type 0} → List (ℕ × Deed E R) → List R
+roll_of [] = []
+roll_of ((k, Entry e) ∷ ds) = roll_of ds
+roll_of ((k, Item i) ∷ ds) = i ∷ roll_of ds
+
+abbrev pub and_then : {D : Type 0} → Bool → D → List D → List D
+and_then true d ds = d ∷ ds
+and_then false d ds = ds
+
+-- what the seat k did, in order
+abbrev pub deeds_by : {D : Type 0} → ℕ → List (ℕ × D) → List D
+deeds_by k [] = []
+deeds_by k (d ∷ ds) = and_then (d.0 == k) d.1 (deeds_by k ds)
+
+pub record Begins {B E R : Type 0} (h k : Story B E R) : Type 0 where
+  pub base : k.base ≡ h.base
+  pub deeds : IsPrefix h.deeds k.deeds
+
+-- P holds of each element. It computes on the list, which std's All does not
+abbrev pub Every : {A : Type 0} → (A → Type 0) → List A → Type 0
+Every P [] = Unit {0}
+Every P (x ∷ xs) = P x × Every P xs
+
+-- the number is among these
+abbrev pub Among : ℕ → List ℕ → Type 0
+Among c xs = (k : ℕ) × (k < length xs) × (slice_index xs k ≡ c)
+
+-- no number stands in the list twice
+abbrev pub AreDistinct : List ℕ → Type 0
+AreDistinct [] = Unit {0}
+AreDistinct (x ∷ xs) = ¬ (Among x xs) × AreDistinct xs
+
+-- what a mark adds: nothing, an entry, or this item of the roll
+pub data Adds (R : Type 0) : Type 0 where
+  adds_nothing : Adds R
+  adds_entry : Adds R
+  adds_item : R → Adds R
+
+-- what a law says: of the ground and the entries that a hub holds, of what cells show, of entries, of marks, and of what a hub keeps of a seat
+pub record Meaning (C H E B M R S : Type 0) : Type 1 where
+  -- for the view of a seat that is spent
+  pub some_base : B
+  pub base_of : H → B
+  pub entries : H → List E
+  pub shows : C → S
+  -- what a cell shows after the entries
+  pub shown_after : B → List E → ℕ → S
+  pub footprint : E → List ℕ
+  -- the entry is legal after these
+  pub may_follow : B → List E → E → Type 0
+  -- what the mark adds to the history, and which entry fits it
+  pub adds : M → Adds R
+  pub fits : M → E → Type 0
+  -- of the history, the seat and the seat's marks before this one
+  pub is_true : M → Story B E R → ℕ → List M → Type 0
+  -- what the hub keeps of a seat with this log
+  pub keeps : H → Story B E R → ℕ → List M → Type 0
+  -- after a legal entry each cell outside its footprint shows what it showed before it
+  pub outside : (g : B) (es : List E) (e : E) → may_follow g es e → (c : ℕ) → ¬ (Among c (footprint e)) → shown_after g (es ++ e ∷ []) c ≡ shown_after g es c
+  -- a mark that is true stays true
+  pub stays : (m : M) (h k : Story B E R) (seat : ℕ) (before : List M) → Begins h k → is_true m h seat before → is_true m k seat before
+
+module _ {B E : Type 0} (may : B → List E → E → Type 0) (g : B) where
+  -- each entry of the list is legal after those before it
+  abbrev pub IsLegalAfter : List E → List E → Type 0
+  IsLegalAfter past [] = Unit {0}
+  IsLegalAfter past (e ∷ es) = may g past e × IsLegalAfter (past ++ e ∷ []) es
+
+-- the mark that adds this pairs with the first deed, and `more` with the others
+abbrev pub PairsBy : {E R : Type 0} → Adds R → (E → Type 0) → (List (Deed E R) → Type 0) → List (Deed E R) → Type 0
+PairsBy adds_nothing fit more ds = more ds
+PairsBy adds_entry fit more [] = ⊥
+PairsBy adds_entry fit more (Entry e ∷ ds) = fit e × more ds
+PairsBy adds_entry fit more (Item i ∷ ds) = ⊥
+PairsBy (adds_item r) fit more [] = ⊥
+PairsBy (adds_item r) fit more (Entry e ∷ ds) = ⊥
+PairsBy (adds_item r) fit more (Item i ∷ ds) = (i ≡ r) × more ds
+
+module _ {M : Type 0} where
+  -- each mark is true, with the marks before it
+  abbrev pub AllTrue : (M → List M → Type 0) → List M → List M → Type 0
+  AllTrue true_of before [] = Unit {0}
+  AllTrue true_of before (m ∷ ms) = true_of m before × AllTrue true_of (before ++ m ∷ []) ms
+
+  -- the marks that add something pair with these deeds, in order
+  abbrev pub Pairs : {E R : Type 0} → (M → Adds R) → (M → E → Type 0) → List M → List (Deed E R) → Type 0
+  Pairs adds fits [] [] = Unit {0}
+  Pairs adds fits [] (d ∷ ds) = ⊥
+  Pairs adds fits (m ∷ ms) ds = PairsBy (adds m) (fits m) (Pairs adds fits ms) ds
