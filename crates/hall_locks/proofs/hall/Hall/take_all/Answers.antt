@@ -1,0 +1,53 @@
+use Rattle.std.proofs.Common.{rules, ◌≡◌, ◌+◌, refl, sym, ap, ◌∙◌, subst, arith, get_or, length, [], ◌∷◌, length-append, map}
+use mathlib.Core.List.{map-append}
+use Rattle.hall_core.specs.History.{Among}
+use Rattle.hall_locks.specs.Hands.{Taking}
+use Rattle.hall_locks.proofs.CellByCell.{takes_one, all_below, carries_all}
+use Rattle.hall_locks.proofs.hall.Hall.take_all.Goals as goal
+
+pub take-x-requires-clause-own : goal.take-x-requires-clause-own
+take-x-requires-clause-own g c = c.loop-i.invariant.0 ∙ c.requires.own
+
+pub take-x-requires-clause-inside : goal.take-x-requires-clause-inside
+take-x-requires-clause-inside g c = (all_below _ _ _ _ _ _ _ _ c.loop-i-test.true refl c.loop-i.invariant.2).1
+
+pub take-x-requires-clause-above : goal.take-x-requires-clause-above
+take-x-requires-clause-above g c = (all_below _ _ _ _ _ _ _ _ c.loop-i-test.true refl c.loop-i.invariant.2).0
+
+pub take-x-requires-clause-within : goal.take-x-requires-clause-within
+take-x-requires-clause-within g c = c.loop-i.invariant.2.bounded
+
+pub take-x-requires-clause-among : goal.take-x-requires-clause-among
+take-x-requires-clause-among g c = subst (λ l. Among (get_or c.args.footprint.now c.loop-i.i 0) l) c.requires.bound (c.loop-i.i, c.loop-i-test.true, refl)
+
+pub take-x-requires-clause-no_hub : goal.take-x-requires-clause-no_hub
+take-x-requires-clause-no_hub g c = ap (λ v. v.hub) c.loop-i.invariant.2.same ∙ c.requires.rests.hub
+
+pub loop-i-preserved : goal.loop-i-preserved
+loop-i-preserved g c = (
+  c.take-x.ensures.own.0 ∙ c.loop-i.invariant.0,
+  c.take-x.ensures.own.1 ∙ c.loop-i.invariant.1,
+  subst (λ l. Taking c.args.seat.now.me c.take-x.new.seat.me g.B.Footprint.bound c.args.footprint.now c.args.self.now.count (c.loop-i.i + 1) l) (sym (ap (map g.T.Law.meaning.shows) c.push_reserved.ensures.items ∙ map-append g.T.Law.meaning.shows c.loop-i.cells.items (c.take-x.result ∷ [])))
+      (takes_one c.args.seat.now.me c.loop-i.seat.me c.take-x.new.seat.me g.B.Footprint.bound c.args.footprint.now c.args.self.now.count c.loop-i.i (c.loop-i.i + 1) (map g.T.Law.meaning.shows c.loop-i.cells.items) (get_or c.args.footprint.now c.loop-i.i 0) (g.T.Law.meaning.shows c.take-x.result)
+      c.loop-i-test.true refl (omega arith) (subst (λ l. Among (get_or c.args.footprint.now c.loop-i.i 0) l) c.requires.bound (c.loop-i.i, c.loop-i-test.true, refl)) c.take-x.ensures.taken c.loop-i.invariant.2),
+  ap length c.push_reserved.ensures.items ∙ (length-append c.loop-i.cells.items (c.take-x.result ∷ []) ∙ ap (λ n. n + 1) c.loop-i.invariant.3),
+  c.push_reserved.ensures.capacity ∙ c.loop-i.invariant.4,
+)
+
+pub returns-clause-own : goal.returns-clause-own
+returns-clause-own g c = (c.loop-i.invariant.0, c.loop-i.invariant.1)
+
+pub returns-clause-carries : goal.returns-clause-carries
+returns-clause-carries g c = let e : c.loop-i.i ≡ length c.args.footprint.now = search rules in carries_all c.args.seat.now.me c.loop-i.seat.me g.B.Footprint.bound c.args.footprint.now c.args.self.now.count c.loop-i.i (map g.T.Law.meaning.shows c.loop-i.cells.items) e c.requires.rests c.loop-i.invariant.2
+
+pub returns-clause-values : goal.returns-clause-values
+returns-clause-values g c = c.loop-i.invariant.2.values
+
+pub returns-clause-many : goal.returns-clause-many
+returns-clause-many g c = let e : c.loop-i.i ≡ length c.args.footprint.now = search rules in c.loop-i.invariant.3 ∙ e
+
+pub returns-clause-same : goal.returns-clause-same
+returns-clause-same g c = c.loop-i.invariant.2.same
+
+pub take-x-requires-clause-live : goal.take-x-requires-clause-live
+take-x-requires-clause-live g c = ap (λ v. v.live) c.loop-i.invariant.2.same ∙ c.requires.rests.live

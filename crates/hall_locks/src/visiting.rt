@@ -1,0 +1,126 @@
+//! Visits begin and end.
+ghost use Rattle.std.specs.Prelude.{◌≡◌, ◌<◌, ◌≤◌, [], length, IfOk, IfErr, IsOk, vec_capacity};
+ghost use Rattle.hall_core.specs.History.{Every};
+ghost use Rattle.hall_locks.specs.Hands.{Carries, Rises, in_visit, Rests, AsTaken};
+
+use crate::hall::{Hall, Token};
+use crate::pass::Pass;
+use crate::plays::Footprint;
+use crate::visit::Visit;
+use hall_core::{Law, NoMemory};
+use std::alloc::{AllocError, Global};
+use std::marker::Brand;
+use std::sync::Wait;
+
+/// An empty vector with room for so many. Room for none takes no memory.
+fn with_room<C>(alloc: Global, room: usize) -> Result<Vec<C>, AllocError>
+    ensures room { IfOk result (λ v. (v.items ≡ []) × (room ≤ vec_capacity v)) }
+    ensures none { room ≡ 0 → IsOk result }
+{
+    if room == 0 {
+        return Ok(Vec::new(alloc));
+    }
+    Vec::with_capacity(alloc, room)
+}
+
+impl<T: Law> Hall<T> {
+    // Takes the cells of the footprint, one after another.
+    fn take_all<B: Footprint, R: Wait>(
+        &self,
+        rt: &R,
+        seat: &mut Token<T>,
+        footprint: &[u32],
+        cells: &mut Vec<T::Cell>,
+    )
+        requires own { seat.old.table_id ≡ self.now.table.shared.table_id }
+        requires rests { Rests seat.old.me }
+        requires bound { footprint.now ≡ B.bound }
+        requires rises { Rises footprint.now }
+        requires inside { Every (λ c. c < self.now.count) footprint.now }
+        requires room { (cells.old.items ≡ []) × (length footprint.now ≤ vec_capacity cells.old) }
+        ensures own { (seat.new.table_id ≡ seat.old.table_id) × (seat.new.id ≡ seat.old.id) }
+        ensures carries { Carries seat.new.me footprint.now }
+        ensures values { AsTaken T.meaning seat.new.me.0 cells.new.items }
+        ensures many { length cells.new.items ≡ length footprint.now }
+        ensures same { seat.new.me.0 ≡ in_visit seat.old.me.0 seat.new.me.0.bound seat.new.me.0.cells }
+    {
+        for i in 0..footprint.len() {
+            let x = self.take::<B, R>(rt, seat, footprint[i] as usize);
+            cells.push_reserved(x);
+        }
+    }
+
+    // Gives the cells back, the last one first.
+    pub(crate) fn give_all(
+        &self,
+        seat: &mut Token<T>,
+        mut footprint: Vec<u32>,
+        mut cells: Vec<T::Cell>,
+    )
+        requires own { seat.old.table_id ≡ self.now.table.shared.table_id }
+        requires carries { Carries seat.old.me footprint.items }
+        requires inside { Every (λ c. c < self.now.count) footprint.items }
+        requires many { length cells.items ≡ length footprint.items }
+        requires taken { AsTaken T.meaning seat.old.me.0 cells.items }
+        ensures own { (seat.new.table_id ≡ seat.old.table_id) × (seat.new.id ≡ seat.old.id) }
+        ensures rests { Rests seat.new.me }
+        ensures same { seat.new.me.0 ≡ in_visit seat.old.me.0 seat.old.me.0.bound [] }
+    {
+        while let Some(cell) = footprint.pop() {
+            let Some(x) = cells.pop() else { unreachable!() };
+            self.give(seat, cell as usize, x);
+        }
+    }
+}
+
+impl<T: Law> Hall<T> {
+    /// Takes the cells of the footprint, in rising order. It may wait for each.
+    ///
+    /// Without memory for them the pass comes back as it was.
+    pub fn visit<R: Wait>(
+        &self,
+        rt: &R,
+        alloc: Global,
+        pass: Pass<T>,
+        footprint: Vec<u32>,
+    ) -> Result<Visit<T>, (Pass<T>, NoMemory)>
+        requires own { pass.seat.table_id ≡ self.now.table.shared.table_id }
+        requires rises { Rises footprint.items }
+        requires inside { Every (λ c. c < self.now.count) footprint.items }
+        ensures own { IfOk result (λ v. v.seat.table_id ≡ pass.seat.table_id) }
+        ensures footprint { IfOk result (λ v. v.footprint.items ≡ footprint.items) }
+        ensures taken { IfOk result (λ v. AsTaken T.meaning v.seat.me.0 v.cells.items) }
+        ensures same { IfOk result (λ v. v.seat.me.0
+            ≡ in_visit pass.seat.me.0 v.seat.me.0.bound v.seat.me.0.cells) }
+        ensures back { IfErr result (λ e. e.0 ≡ pass) }
+        ensures empty { footprint.items ≡ [] → IsOk result }
+    {
+        let mut cells = match with_room(alloc, footprint.len()) {
+            Ok(cells) => cells,
+            Err(_) => return Err((pass, NoMemory)),
+        };
+        let Pass { mut seat } = pass;
+        self.take_all::<Brand, R>(rt, &mut seat, footprint.as_slice(), &mut cells);
+        Ok(Visit {
+            seat,
+            footprint,
+            cells,
+        })
+    }
+
+    /// Gives the cells back, which show what they showed when they were taken. It takes no memory.
+    pub fn leave(&self, visit: Visit<T>) -> Pass<T>
+        requires own { visit.seat.table_id ≡ self.now.table.shared.table_id }
+        requires taken { AsTaken T.meaning visit.seat.me.0 visit.cells.items }
+        ensures own { result.seat.table_id ≡ visit.seat.table_id }
+        ensures same { result.seat.me.0 ≡ in_visit visit.seat.me.0 visit.seat.me.0.bound [] }
+    {
+        let Visit {
+            mut seat,
+            footprint,
+            cells,
+        } = visit;
+        self.give_all(&mut seat, footprint, cells);
+        Pass { seat }
+    }
+}
