@@ -1,0 +1,3 @@
+pub mod Alarms
+pub mod Validity
+pub mod Processing
