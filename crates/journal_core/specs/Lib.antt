@@ -1,0 +1,4 @@
+pub mod Weights
+pub mod Histories
+pub mod Legality
+pub mod Growing

@@ -1,0 +1,15 @@
+//! The one committed history of a server: the states that the records open with, and the entries of all commits in
+//! order. The states at a place are the replay of the entries before it.
+#![tactic(auto)]
+
+mod entry;
+mod history;
+mod laws;
+mod replay;
+#[cfg(test)]
+mod tests;
+
+pub use entry::{Entry, weight};
+pub use history::History;
+pub use laws::histories_grow;
+pub use rec_kinds::{Action, Datum, Items, Moment, NoMemory, RecState};
