@@ -1,5 +1,5 @@
 -- What is cut is what is spelled, and what is spelled is cut so.
-use Rattle.std.proofs.Common.{◌≡◌, ◌≢◌, ℕ, zero, suc, ◌+◌, ◌<◌, ◌≤◌, true, ltb, ◌&&◌, ◌||◌, not, List, [], ◌∷◌, ◌++◌, length, get_or, take, drop, refl, sym, ◌∙◌, ap, subst, arith, length-append, length-drop, w32, lit<}
+use Rattle.std.proofs.Common.{◌≡◌, ◌≢◌, ℕ, zero, suc, ◌+◌, ◌<◌, ◌≤◌, true, ltb, ◌&&◌, not, List, [], ◌∷◌, ◌++◌, length, get_or, take, drop, refl, sym, ◌∙◌, ap, subst, arith, length-append, length-drop, w32, lit<}
 use Rattle.std.specs.Prelude.{◌==◌}
 use Rattle.std.specs.Int.{from_le_bytes}
 use Rattle.std.proofs.lemmas.Bool.{and_parts, eqb-true, ltb-false, not-true}
@@ -8,7 +8,7 @@ use Rattle.std.proofs.lemmas.List.{take-append-drop, length-take-le, drop_more, 
 use Rattle.pva_wire.specs.declared.order.Order.TheVariants.{Little}
 use Rattle.pva_wire.specs.Spelling.{word, IsBytes}
 use Rattle.pva_messages.specs.declared.frame.Front.TheVariants.{Whole}
-use Rattle.pva_messages.specs.Frames.{flags, command, number, is_taken, front_of, Frame, Cut, client_frame, Spells, with_frame, cut, frames_from, place_from, held_of}
+use Rattle.pva_messages.specs.Frames.{flags, command, number, is_served, is_taken, front_of, Frame, Cut, client_frame, Spells, with_frame, cut, frames_from, place_from, held_of}
 use Rattle.pva_messages.specs.Cutting.{IsFront, front_is, front_from, front_case, is_unfinished, is_refused, is_whole, none_cut, cut_none, cut_unfinished, cut_refused, cut_whole}
 use Rattle.pva_messages.proofs.Numbers.{word_from}
 
@@ -33,11 +33,11 @@ header bytes long =
 
 no_flag : (bytes : List ℕ) → is_taken (flags bytes) (command bytes) (number bytes) ≡ true → flags bytes ≡ 0
 no_flag bytes e =
-    let all = and_parts ((flags bytes == 0) && (((command bytes == 1) || (command bytes == 7)) || (command bytes == 10))) (not (ltb 1024 (number bytes))) e in
-    eqb-true (flags bytes) 0 (and_parts (flags bytes == 0) (((command bytes == 1) || (command bytes == 7)) || (command bytes == 10)) all.0).0
+    let all = and_parts ((flags bytes == 0) && is_served (command bytes)) (not (ltb 1024 (number bytes))) e in
+    eqb-true (flags bytes) 0 (and_parts (flags bytes == 0) (is_served (command bytes)) all.0).0
 
 short_payload : (c n : ℕ) → is_taken 0 c n ≡ true → n ≤ 1024
-short_payload c n e = ltb-false 1024 n (not-true (ltb 1024 n) (and_parts (((c == 1) || (c == 7)) || (c == 10)) (not (ltb 1024 n)) e).1)
+short_payload c n e = ltb-false 1024 n (not-true (ltb 1024 n) (and_parts (is_served c) (not (ltb 1024 n)) e).1)
 
 -- the frame at the front, with the bytes behind it
 spelled_front : (at c size : ℕ) (bytes : List ℕ) → IsBytes bytes → IsFront bytes c size → bytes ≡ client_frame (get_or bytes 1 0) (record { command = c; payload = take size (drop 8 bytes); place = at }) ++ drop (8 + size) bytes

@@ -1,5 +1,5 @@
 -- The laws of cutting a stream into frames: what more bytes change, and what they leave.
-use Rattle.std.specs.Prelude.{◌≡◌, ◌≢◌, ◌⊎◌, ℕ, zero, suc, ◌+◌, ◌<◌, ◌≤◌, Bool, true, false, cond, not, ◌&&◌, ◌||◌, ◌==◌, ltb, eqb, List, [], ◌∷◌, ◌++◌, length, get_or, take, drop}
+use Rattle.std.specs.Prelude.{◌≡◌, ◌≢◌, ◌⊎◌, ℕ, zero, suc, ◌+◌, ◌<◌, ◌≤◌, Bool, true, false, cond, not, ◌&&◌, ◌==◌, ltb, eqb, List, [], ◌∷◌, ◌++◌, length, get_or, take, drop}
 use Rattle.std.specs.Int.{w32, from_le_bytes}
 use Rattle.std.proofs.Common.{refl, sym, ◌∙◌, ap, subst, inl, inr, arith, length-append, length-drop}
 use Rattle.std.proofs.lemmas.Bool.{eqb-true, eq-eqb, and_parts, not-true, le-ltb, ltb-true, ltb-false}
@@ -9,7 +9,7 @@ use Rattle.pva_messages.specs.declared.frame.Refusal.TheVariants.{Frame as BadFr
 use Rattle.pva_messages.specs.declared.frame.FrameFault.TheVariants.{BadMagic}
 use Rattle.pva_messages.specs.declared.frame.Front.{Front}
 use Rattle.pva_messages.specs.declared.frame.Front.TheVariants.{Unfinished, Whole, Refused}
-use Rattle.pva_messages.specs.Frames.{flags, command, number, is_taken, headed, front_of, Frame, Cut, with_frame, cut_front, cut_in, cut, frames_from, place_from, held_of}
+use Rattle.pva_messages.specs.Frames.{flags, command, number, is_served, is_taken, headed, front_of, Frame, Cut, with_frame, cut_front, cut_in, cut, frames_from, place_from, held_of}
 
 -- whether a header is taken
 abbrev pub takes : List ℕ → Bool
@@ -72,7 +72,7 @@ headed_passes false y d n p q = absurd (cc)
 -- a payload that is taken is short
 taken_is_short : (bytes : List ℕ) → takes bytes ≡ true → number bytes ≤ 1024
 taken_is_short bytes e =
-    let short = (and_parts ((flags bytes == 0) && (((command bytes == 1) || (command bytes == 7)) || (command bytes == 10))) (not (ltb 1024 (number bytes))) e).1 in
+    let short = (and_parts ((flags bytes == 0) && is_served (command bytes)) (not (ltb 1024 (number bytes))) e).1 in
     ltb-false 1024 (number bytes) (not-true (ltb 1024 (number bytes)) short)
 
 -- What a whole frame at the front is: its header says its command and the length of its payload, and all of it is there.

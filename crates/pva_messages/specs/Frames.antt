@@ -22,9 +22,13 @@ command bytes = get_or bytes 3 0
 abbrev pub number : List ℕ → ℕ
 number bytes = from_le_bytes w32 (take 4 (drop 4 bytes))
 
--- what is taken so far, by a header's flags, command and number: no flag, the commands of validation, create channel and get, and at most 1,024 bytes of payload
+-- the commands of validation, create channel, get and put
+abbrev pub is_served : ℕ → Bool
+is_served c = ((c == 1 || c == 7) || c == 10) || c == 11
+
+-- what is taken so far, by a header's flags, command and number: no flag, a command that is served, and at most 1,024 bytes of payload
 abbrev pub is_taken : ℕ → ℕ → ℕ → Bool
-is_taken f c n = (f == 0) && ((c == 1 || c == 7) || c == 10) && not (nat_lt 1024 n)
+is_taken f c n = (f == 0) && is_served c && not (nat_lt 1024 n)
 
 -- what a whole header begins
 abbrev pub headed : List ℕ → Front

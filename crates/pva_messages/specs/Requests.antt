@@ -1,11 +1,11 @@
 -- What a client says, as it stands in the payload of a little endian frame
--- (pvAccess Protocol Specification, "Connection validation", "Create channel" and "Channel get").
-use Rattle.std.specs.Prelude.{ℕ, Bool, false, ◌&&◌, ◌==◌, nat_lt, List, [], ◌∷◌, length, take, drop, Option, None, Some, Ok, Err, if◌then◌else◌, codes, bytes_eq}
-use Rattle.std.specs.Int.{w16, w32, from_le_bytes}
+-- (pvAccess Protocol Specification, "Connection validation", "Create channel", "Channel get" and "Channel put").
+use Rattle.std.specs.Prelude.{ℕ, ℤ, Bool, false, ◌&&◌, ◌==◌, nat_lt, List, [], ◌∷◌, length, take, drop, Option, None, Some, Ok, Err, if◌then◌else◌, codes, bytes_eq}
+use Rattle.std.specs.Int.{w16, w32, from_le_bytes, cast_signed}
 use Rattle.pva_wire.specs.Reading.{Read, text_at}
 use Rattle.pva_wire.specs.declared.order.Order.TheVariants.{Little}
 use Rattle.pva_messages.specs.declared.to_server.ToServer.{ToServer}
-use Rattle.pva_messages.specs.declared.to_server.ToServer.TheVariants.{Validation, Create, BeginGet, Get}
+use Rattle.pva_messages.specs.declared.to_server.ToServer.TheVariants.{Validation, Create, BeginGet, Get, BeginPut, Put}
 
 -- the number in the first two or four bytes
 abbrev pub short_at : List ℕ → ℕ
@@ -13,6 +13,10 @@ short_at bytes = from_le_bytes w16 (take 2 bytes)
 
 abbrev pub word_at : List ℕ → ℕ
 word_at bytes = from_le_bytes w32 (take 4 bytes)
+
+-- the signed number in the first four
+abbrev pub int_at : List ℕ → ℤ
+int_at bytes = cast_signed w32 (word_at bytes)
 
 -- what was read, where nothing was wrong
 abbrev pub ok_of : {A : Type 0} → Read A → Option (A × List ℕ)
@@ -54,10 +58,20 @@ get_at bytes =
     else if bytes_eq (drop 8 bytes) (8 ∷ 0x80 ∷ 0 ∷ 0 ∷ []) then Some (BeginGet (word_at bytes) (word_at (drop 4 bytes)))
     else None
 
+-- The channel's id, the request's id, and either the subcommand 8 with an empty structure, which begins, or 0, which puts. A put has the set of the
+-- leaf `value` alone, which has the number 1, and its number.
+unfoldable pub put_at : List ℕ → Option ToServer
+put_at bytes =
+    if nat_lt (length bytes) 8 then None
+    else if bytes_eq (drop 8 bytes) (8 ∷ 0x80 ∷ 0 ∷ 0 ∷ []) then Some (BeginPut (word_at bytes) (word_at (drop 4 bytes)))
+    else if bytes_eq (take 3 (drop 8 bytes)) (0 ∷ 1 ∷ 2 ∷ []) && length bytes == 15 then Some (Put (word_at bytes) (word_at (drop 4 bytes)) (int_at (drop 11 bytes)))
+    else None
+
 -- The message of a frame with this command; none where it isn't taken so far.
 abbrev pub message_at : ℕ → List ℕ → Option ToServer
 message_at command bytes =
     if command == 1 then validation_at bytes
     else if command == 7 then create_at bytes
     else if command == 10 then get_at bytes
+    else if command == 11 then put_at bytes
     else None

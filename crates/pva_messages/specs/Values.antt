@@ -56,7 +56,11 @@ description order NtScalarInt = structure order (codes "epics:nt/NTScalar:1.0") 
 abbrev pub leaves : FinSet nat_cmp
 leaves = insert (insert (insert (insert (insert (insert (insert empty 1) 3) 4) 5) 7) 8) 9
 
--- the leaves of an alarm, whose message is empty, and of a time stamp
+-- the set of the leaf `value` alone
+abbrev pub value_leaf : FinSet nat_cmp
+value_leaf = insert empty 1
+
+-- the leaves of an alarm and of a time stamp
 abbrev pub alarm_values : Order → Alarm → List ℕ
 alarm_values order a = int order a.severity ++ (int order a.status ++ canonical_text order [])
 

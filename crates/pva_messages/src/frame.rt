@@ -43,11 +43,11 @@ pub enum Front {
     Refused(Refusal),
 }
 
-/// Whether the header asks for nothing but what is served so far: a whole little endian frame of validation, create channel or get.
+/// Whether the header asks for nothing but what is served so far: a whole little endian frame of validation, create channel, get or put.
 fn is_taken(flags: u8, command: u8, size: usize) -> bool
     ensures { result ≡ frames.is_taken flags command size }
 {
-    flags == 0 && matches!(command, 1 | 7 | 10) && size <= LONGEST
+    flags == 0 && matches!(command, 1 | 7 | 10 | 11) && size <= LONGEST
 }
 
 /// What the bytes begin with. A wrong magic is refused at its byte, all else at the header's last byte.

@@ -5,7 +5,7 @@ ghost use Rattle.pva_wire.specs.Bits.{canonical_bits};
 ghost use Rattle.pva_wire.specs.Spelling.{IsBytes};
 ghost use Rattle.pva_messages.specs.Frames.{Frame, Spells, cut, frames_from, place_from, held_of};
 ghost use Rattle.pva_messages.specs.Cutting.{cut_on};
-ghost use Rattle.pva_messages.specs.Values.{leaves};
+ghost use Rattle.pva_messages.specs.Values.{leaves, value_leaf};
 
 /// The frames of a stream are those whose bytes it joins, with what is held behind them, and no others
 /// (pvAccess Protocol Specification, "Message format").
@@ -20,8 +20,9 @@ pub fn cuts_join()
     ensures count { (at : ℕ) (bytes : List ℕ) → place_from at bytes + length (held_of at bytes) ≡ at + length bytes }
 {}
 
-/// The bytes that stand before each value are the one spelling of the set of all its leaves' numbers, in both byte orders
-/// (pvAccess Protocol Specification, "BitSet").
+/// The bytes that stand before each value are the one spelling of the set of all its leaves' numbers, and those before the
+/// number of a put are that of the set of the leaf `value` alone, in both byte orders (pvAccess Protocol Specification, "BitSet").
 pub fn leaves_are_spelled()
-    ensures { (order : Order) → canonical_bits order leaves ≡ 2 ∷ 0xBA ∷ 3 ∷ [] }
+    ensures all { (order : Order) → canonical_bits order leaves ≡ 2 ∷ 0xBA ∷ 3 ∷ [] }
+    ensures value { (order : Order) → canonical_bits order value_leaf ≡ 1 ∷ 2 ∷ [] }
 {}

@@ -96,6 +96,35 @@ fn the_messages_of_a_first_dialogue(rt: HostRuntime) -> Result<(), Fail> {
 }
 
 #[test]
+fn the_messages_of_a_put(rt: HostRuntime) -> Result<(), Fail> {
+    let begin = b"\xCA\x02\x00\x0B\x0C\x00\x00\x00\x00\x00\x00\x00\x02\x00\x00\x00\x08\x80\x00\x00";
+    assert_eq!(rt; read_front(begin), Front::Whole(11, 12));
+    assert!(rt;
+        matches!(
+            read_to_server(rt.alloc(), 11, &begin[8..])?,
+            Some(ToServer::BeginPut(0, 2))
+        )
+    );
+    let put =
+        b"\xCA\x02\x00\x0B\x0F\x00\x00\x00\x00\x00\x00\x00\x02\x00\x00\x00\x00\x01\x02\x07\x00\x00\x00";
+    assert_eq!(rt; read_front(put), Front::Whole(11, 15));
+    assert!(rt;
+        matches!(
+            read_to_server(rt.alloc(), 11, &put[8..])?,
+            Some(ToServer::Put(0, 2, 7))
+        )
+    );
+    let below = b"\x00\x00\x00\x00\x02\x00\x00\x00\x00\x01\x02\xFB\xFF\xFF\xFF";
+    assert!(rt;
+        matches!(
+            read_to_server(rt.alloc(), 11, below)?,
+            Some(ToServer::Put(0, 2, -5))
+        )
+    );
+    Ok(())
+}
+
+#[test]
 fn messages_that_are_not_served(rt: HostRuntime) -> Result<(), Fail> {
     for (command, payload) in [
         (1, &b"\x00\x00\x01\x00\x00\x00\x00\x00\x02ca\xFF"[..]),
@@ -107,6 +136,27 @@ fn messages_that_are_not_served(rt: HostRuntime) -> Result<(), Fail> {
         (7, &b"\x01\x00\x07\x00\x00\x00\x02X"[..]),
         (10, &b"\x00\x00\x00\x00\x01\x00\x00\x00\x00\x00"[..]),
         (10, &b"\x00\x00\x00\x00\x01\x00\x00\x00\x08\xFF"[..]),
+        (
+            11,
+            &b"\x00\x00\x00\x00\x02\x00\x00\x00\x08\x80\x00\x00\x00"[..],
+        ),
+        (11, &b"\x00\x00\x00\x00\x02\x00\x00\x00\x08\x80\x00"[..]),
+        (
+            11,
+            &b"\x00\x00\x00\x00\x02\x00\x00\x00\x00\x01\x02\x07\x00\x00\x00\x00"[..],
+        ),
+        (
+            11,
+            &b"\x00\x00\x00\x00\x02\x00\x00\x00\x00\x01\x02\x07\x00\x00"[..],
+        ),
+        (
+            11,
+            &b"\x00\x00\x00\x00\x02\x00\x00\x00\x00\x01\x04\x07\x00\x00\x00"[..],
+        ),
+        (
+            11,
+            &b"\x00\x00\x00\x00\x02\x00\x00\x00\x00\x02\x02\x00\x07\x00\x00\x00"[..],
+        ),
         (15, &b"\x00\x00\x00\x00\x01\x00\x00\x00"[..]),
     ] {
         assert!(rt; read_to_server(rt.alloc(), command, payload)?.is_none());

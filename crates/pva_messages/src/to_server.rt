@@ -1,6 +1,6 @@
 // What a client says.
 ghost use Rattle.std.specs.Prelude.{◌≡◌, IfOk, option_map};
-ghost use Rattle.pva_messages.specs.Requests.{text_and_rest, message_at, validation_at, create_at, get_at};
+ghost use Rattle.pva_messages.specs.Requests.{text_and_rest, message_at, validation_at, create_at, get_at, put_at};
 
 use crate::no_memory::NoMemory;
 use pva_wire::{Order, Stop, text_at};
@@ -8,7 +8,7 @@ use pvd_type::Name;
 use std::alloc::Global;
 
 /// The messages of a client that are served so far
-/// (pvAccess Protocol Specification, "Connection validation", "Create channel" and "Channel get").
+/// (pvAccess Protocol Specification, "Connection validation", "Create channel", "Channel get" and "Channel put").
 #[derive(Drop)]
 pub enum ToServer {
     /// The method `anonymous`: the client's buffer size, its registry size and its quality of service.
@@ -19,6 +19,10 @@ pub enum ToServer {
     BeginGet(u32, u32),
     /// A get: the channel's id and the request's id.
     Get(u32, u32),
+    /// A put begins: the channel's id and the request's id, with an empty request.
+    BeginPut(u32, u32),
+    /// A put of the leaf `value` alone: the channel's id, the request's id, and the number that is put.
+    Put(u32, u32, i32),
 }
 
 /// The subcommand that gets, with nothing behind it.
@@ -26,6 +30,9 @@ const GETS: [u8; 1] = [0];
 
 /// The subcommand that begins a request, with an empty structure as the request's description and value.
 const BEGINS: [u8; 4] = [8, 0x80, 0, 0];
+
+/// The subcommand that puts, and the set of the leaf `value` alone, which has the number 1, in its canonical spelling.
+const PUTS: [u8; 3] = [0, 1, 2];
 
 /// The null argument of the method `anonymous`.
 const NULL: [u8; 1] = [0xFF];
@@ -99,6 +106,28 @@ fn read_get(payload: &[u8]) -> Option<ToServer>
     None
 }
 
+#[tactic(auto, unfolding(crate::specs::Requests::put_at))]
+fn read_put(payload: &[u8]) -> Option<ToServer>
+    ensures { result ≡ put_at payload.now }
+{
+    let [a, b, c, d, e, f, g, h, asked @ ..] = payload else {
+        return None;
+    };
+    let sid = u32::from_le_bytes([*a, *b, *c, *d]);
+    let req = u32::from_le_bytes([*e, *f, *g, *h]);
+    if asked == BEGINS.as_slice() {
+        return Some(ToServer::BeginPut(sid, req));
+    }
+    let [sub, size, bits, i, j, k, l] = asked else {
+        return None;
+    };
+    if [*sub, *size, *bits] != PUTS {
+        return None;
+    }
+    let value = i32::from_le_bytes([*i, *j, *k, *l]);
+    Some(ToServer::Put(sid, req, value))
+}
+
 /// The message of a frame with this command. None where it isn't one that is served so far, with no byte more.
 pub fn read_to_server(
     alloc: Global,
@@ -111,6 +140,7 @@ pub fn read_to_server(
         1 => read_validation(alloc, payload),
         7 => read_create(alloc, payload),
         10 => Ok(read_get(payload)),
+        11 => Ok(read_put(payload)),
         _ => Ok(None),
     }
 }
