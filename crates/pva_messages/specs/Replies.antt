@@ -1,5 +1,5 @@
 -- What the server says, as bytes
--- (pvAccess Protocol Specification, "Connection validation", "Create channel" and "Channel get").
+-- (pvAccess Protocol Specification, "Connection validation", "Create channel", "Channel get" and "Channel put").
 use Rattle.std.specs.Prelude.{ℕ, List, [], ◌∷◌, ◌++◌, codes}
 use Rattle.std.specs.Int.{w16, to_le_bytes, to_be_bytes}
 use Rattle.pva_wire.specs.declared.order.Order.{Order}
@@ -8,7 +8,9 @@ use Rattle.pva_wire.specs.Spelling.{word, canonical_size, canonical_text}
 use Rattle.pva_messages.specs.Frames.{server_frame}
 use Rattle.pva_messages.specs.Values.{description, whole_part}
 use Rattle.pva_messages.specs.declared.to_client.ToClient.{ToClient}
-use Rattle.pva_messages.specs.declared.to_client.ToClient.TheVariants.{Validated, Created, NotFound, GetBegun, Got}
+use Rattle.pva_messages.specs.declared.to_client.ToClient.TheVariants.{Validated, Created, NotFound, GetBegun, Got, PutBegun, PutDone, PutFailed}
+use Rattle.pva_messages.specs.declared.to_client.PutError.{PutError}
+use Rattle.pva_messages.specs.declared.to_client.PutError.TheVariants.{Disabled, NothingWritable, JournalFull}
 
 -- a status: OK without texts, or ERROR with a message and no call tree
 abbrev pub good : List ℕ
@@ -17,6 +19,12 @@ good = 0xFF ∷ []
 abbrev pub error : Order → List ℕ → List ℕ
 error order message = 2 ∷ canonical_text order message ++ canonical_text order []
 
+-- what a put that failed says
+abbrev pub text_of : PutError → List ℕ
+text_of Disabled = codes "puts are disabled"
+text_of NothingWritable = codes "nothing writable"
+text_of JournalFull = codes "journal full"
+
 -- the command of a message
 abbrev pub command_of : ToClient → ℕ
 command_of Validated = 9
@@ -24,6 +32,9 @@ command_of (Created cid sid) = 7
 command_of (NotFound cid) = 7
 command_of (GetBegun req type) = 10
 command_of (Got req value) = 10
+command_of (PutBegun req type) = 11
+command_of (PutDone req) = 11
+command_of (PutFailed req why) = 11
 
 -- its payload
 abbrev pub payload_of : Order → ToClient → List ℕ
@@ -32,6 +43,9 @@ payload_of order (Created cid sid) = word order cid ++ (word order sid ++ good)
 payload_of order (NotFound cid) = word order cid ++ (word order 0xFFFF_FFFF ++ error order (codes "channel not found"))
 payload_of order (GetBegun req type) = word order req ++ (8 ∷ good ++ description order type)
 payload_of order (Got req value) = word order req ++ (0 ∷ good ++ whole_part order value)
+payload_of order (PutBegun req type) = word order req ++ (8 ∷ good ++ description order type)
+payload_of order (PutDone req) = word order req ++ (0 ∷ good)
+payload_of order (PutFailed req why) = word order req ++ (0 ∷ error order (text_of why))
 
 abbrev pub spelled : Order → ToClient → List ℕ
 spelled order message = server_frame order (command_of message) (payload_of order message)

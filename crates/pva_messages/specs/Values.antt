@@ -62,7 +62,7 @@ value_leaf = insert empty 1
 
 -- the leaves of an alarm and of a time stamp
 abbrev pub alarm_values : Order → Alarm → List ℕ
-alarm_values order a = int order a.severity ++ (int order a.status ++ canonical_text order [])
+alarm_values order a = int order a.severity ++ (int order a.status ++ canonical_text order a.message)
 
 abbrev pub time_values : Order → TimeStamp → List ℕ
 time_values order t = long order t.seconds_past_epoch ++ (int order t.nanoseconds ++ int order t.user_tag)

@@ -14,6 +14,6 @@ mod value;
 pub use frame::{FrameFault, Front, Refusal, missing, read_front, write_frame};
 pub use laws::{cuts_are_exact, cuts_join, leaves_are_spelled};
 pub use no_memory::NoMemory;
-pub use to_client::{ToClient, greeting, write_to_client};
+pub use to_client::{PutError, ToClient, greeting, write_to_client};
 pub use to_server::{ToServer, read_to_server};
 pub use value::{Alarm, PvType, PvValue, TimeStamp};

@@ -1,10 +1,37 @@
 use super::*;
 use pva_wire::Order;
+use pvd_type::Name;
+use std::alloc::Global;
 use std::test::Fail;
 
 /// The description of the type of an int channel: NTScalar with an alarm and a time stamp.
 const SCALAR_INT: &[u8] =
     b"\x80\x15epics:nt/NTScalar:1.0\x03\x05value\x22\x05alarm\x80\x07alarm_t\x03\x08severity\x22\x06status\x22\x07message\x60\x09timeStamp\x80\x06time_t\x03\x10secondsPastEpoch\x23\x0Bnanoseconds\x22\x07userTag\x22";
+
+/// A value with this number and this alarm, set at a moment.
+fn value_of(
+    alloc: Global,
+    value: i32,
+    (severity, status, message): (i32, i32, &str),
+    time_stamp: TimeStamp,
+) -> Result<PvValue, Fail> {
+    Ok(PvValue {
+        value,
+        alarm: Alarm {
+            severity,
+            status,
+            message: Name::of(alloc, message)?,
+        },
+        time_stamp,
+    })
+}
+
+/// The bytes of one message.
+fn written(alloc: Global, order: Order, message: ToClient) -> Result<Vec<u8>, Fail> {
+    let mut out = Vec::new(alloc);
+    write_to_client(alloc, &mut out, order, &message)?;
+    Ok(out)
+}
 
 #[test]
 fn the_greeting_in_both_orders(rt: HostRuntime) -> Result<(), Fail> {
@@ -166,20 +193,14 @@ fn messages_that_are_not_served(rt: HostRuntime) -> Result<(), Fail> {
 
 #[test]
 fn the_replies_of_a_first_dialogue(rt: HostRuntime) -> Result<(), Fail> {
-    let value = PvValue {
-        value: 42,
-        alarm: Alarm {
-            severity: 0,
-            status: 0,
-        },
-        time_stamp: TimeStamp {
-            seconds_past_epoch: 0,
-            nanoseconds: 0,
-            user_tag: 0,
-        },
+    let time_stamp = TimeStamp {
+        seconds_past_epoch: 0,
+        nanoseconds: 0,
+        user_tag: 0,
     };
+    let value = value_of(rt.alloc(), 42, (0, 0, ""), time_stamp)?;
     let mut out = Vec::new(rt.alloc());
-    for message in [
+    for message in &[
         ToClient::Validated,
         ToClient::Created(7, 0),
         ToClient::GetBegun(1, PvType::NtScalarInt),
@@ -207,24 +228,53 @@ fn the_replies_of_a_first_dialogue(rt: HostRuntime) -> Result<(), Fail> {
 }
 
 #[test]
-fn numbers_of_a_value_in_big_endian(rt: HostRuntime) -> Result<(), Fail> {
-    let value = PvValue {
-        value: 7,
-        alarm: Alarm {
-            severity: 3,
-            status: 2,
-        },
-        time_stamp: TimeStamp {
-            seconds_past_epoch: 100,
-            nanoseconds: 5,
-            user_tag: -1,
-        },
+fn a_value_in_big_endian(rt: HostRuntime) -> Result<(), Fail> {
+    let time_stamp = TimeStamp {
+        seconds_past_epoch: 100,
+        nanoseconds: 5,
+        user_tag: -1,
     };
-    let mut out = Vec::new(rt.alloc());
-    write_to_client(rt.alloc(), &mut out, Order::Big, ToClient::Got(1, value))?;
+    let value = value_of(rt.alloc(), 7, (3, 2, "HIHI"), time_stamp)?;
+    let out = written(rt.alloc(), Order::Big, ToClient::Got(1, value))?;
     let bytes =
-        b"\xCA\x02\xC0\x0A\x00\x00\x00\x26\x00\x00\x00\x01\x00\xFF\x02\xBA\x03\x00\x00\x00\x07\x00\x00\x00\x03\x00\x00\x00\x02\x00\x00\x00\x00\x00\x00\x00\x00\x64\x00\x00\x00\x05\xFF\xFF\xFF\xFF";
+        b"\xCA\x02\xC0\x0A\x00\x00\x00\x2A\x00\x00\x00\x01\x00\xFF\x02\xBA\x03\x00\x00\x00\x07\x00\x00\x00\x03\x00\x00\x00\x02\x04HIHI\x00\x00\x00\x00\x00\x00\x00\x64\x00\x00\x00\x05\xFF\xFF\xFF\xFF";
     assert_eq!(rt; out.as_slice(), &bytes[..]);
+    Ok(())
+}
+
+#[test]
+fn the_replies_to_puts(rt: HostRuntime) -> Result<(), Fail> {
+    let mut begun = Vec::new(rt.alloc());
+    begun.extend_from_slice(b"\xCA\x02\x40\x0B\x8B\x00\x00\x00\x02\x00\x00\x00\x08\xFF")?;
+    begun.extend_from_slice(SCALAR_INT)?;
+    let out = written(
+        rt.alloc(),
+        Order::Little,
+        ToClient::PutBegun(2, PvType::NtScalarInt),
+    )?;
+    assert_eq!(rt; out.as_slice(), begun.as_slice());
+    let out = written(rt.alloc(), Order::Little, ToClient::PutDone(2))?;
+    assert_eq!(rt;
+        out.as_slice(),
+        &b"\xCA\x02\x40\x0B\x06\x00\x00\x00\x02\x00\x00\x00\x00\xFF"[..]
+    );
+    for (why, bytes) in [
+        (
+            PutError::Disabled,
+            &b"\xCA\x02\x40\x0B\x19\x00\x00\x00\x02\x00\x00\x00\x00\x02\x11puts are disabled\x00"[..],
+        ),
+        (
+            PutError::NothingWritable,
+            &b"\xCA\x02\x40\x0B\x18\x00\x00\x00\x02\x00\x00\x00\x00\x02\x10nothing writable\x00"[..],
+        ),
+        (
+            PutError::JournalFull,
+            &b"\xCA\x02\x40\x0B\x14\x00\x00\x00\x02\x00\x00\x00\x00\x02\x0Cjournal full\x00"[..],
+        ),
+    ] {
+        let out = written(rt.alloc(), Order::Little, ToClient::PutFailed(2, why))?;
+        assert_eq!(rt; out.as_slice(), bytes);
+    }
     Ok(())
 }
 

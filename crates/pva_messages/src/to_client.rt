@@ -1,6 +1,6 @@
 // What the server says.
 ghost use Rattle.std.specs.Prelude.{◌≡◌, ◌++◌, OnOk, OnErr, IfOk, [], ◌∷◌, ℕ, List, codes};
-ghost use Rattle.pva_messages.specs.Replies.{spelled, greeting, payload_of, command_of, error, offer, byte_order_message, short};
+ghost use Rattle.pva_messages.specs.Replies.{spelled, greeting, payload_of, command_of, text_of, error, offer, byte_order_message, short};
 ghost use Rattle.pva_wire.specs.Spelling.{word};
 
 use crate::encode::{short, text, word};
@@ -10,9 +10,20 @@ use crate::value::{PvType, PvValue, write_description, write_whole_part};
 use pva_wire::{Order, write_size};
 use std::alloc::Global;
 
-/// The messages that the server sends so far
-/// (pvAccess Protocol Specification, "Connection validation", "Create channel" and "Channel get").
+/// Why a put isn't done.
 #[derive(Clone, Copy, Debug, PartialEq, Eq)]
+pub enum PutError {
+    /// The record takes no puts.
+    Disabled,
+    /// The put has no leaf that may be written.
+    NothingWritable,
+    /// The history has no room for an entry more.
+    JournalFull,
+}
+
+/// The messages that the server sends so far
+/// (pvAccess Protocol Specification, "Connection validation", "Create channel", "Channel get" and "Channel put").
+#[derive(Debug, Drop, PartialEq, Eq)]
 pub enum ToClient {
     /// The connection is validated.
     Validated,
@@ -24,6 +35,12 @@ pub enum ToClient {
     GetBegun(u32, PvType),
     /// The request's id, and the channel's value.
     Got(u32, PvValue),
+    /// A put has begun: the request's id, and the type of the values to come.
+    PutBegun(u32, PvType),
+    /// The put of the request with this id is done.
+    PutDone(u32),
+    /// The put of the request with this id isn't done, and why.
+    PutFailed(u32, PutError),
 }
 
 /// The id that stands in place of a channel's where there is none.
@@ -38,7 +55,7 @@ fn error(alloc: Global, out: &mut Vec<u8>, order: Order, message: &str) -> Resul
     text(alloc, out, order, "")
 }
 
-/// Room for the payload of a value, so that a get takes memory for it once.
+/// Room for the payload of a value whose alarm has a short message, so that a get takes memory for it once.
 const PAYLOAD: usize = 64;
 
 /// The status OK.
@@ -61,26 +78,60 @@ fn not_found(alloc: Global, out: &mut Vec<u8>, order: Order, cid: u32) -> Result
     error(alloc, out, order, "channel not found")
 }
 
-fn get_begun(
+/// A get or a put has begun.
+fn begun(
     alloc: Global,
     out: &mut Vec<u8>,
     order: Order,
     req: u32,
     ty: PvType,
 ) -> Result<(), NoMemory>
-    ensures { OnOk result (out.new.items ≡ out.old.items ++ payload_of order (ToClient.GetBegun req ty)) }
+    ensures get { OnOk result (out.new.items ≡ out.old.items ++ payload_of order (ToClient.GetBegun req ty)) }
+    ensures put { OnOk result (out.new.items ≡ out.old.items ++ payload_of order (ToClient.PutBegun req ty)) }
 {
     out.extend_from_slice(&word(order, req))?;
     out.extend_from_slice(&[8, GOOD])?;
     write_description(alloc, out, order, ty)
 }
 
-fn got(out: &mut Vec<u8>, order: Order, req: u32, value: PvValue) -> Result<(), NoMemory>
-    ensures { OnOk result (out.new.items ≡ out.old.items ++ payload_of order (ToClient.Got req value)) }
+fn got(out: &mut Vec<u8>, order: Order, req: u32, value: &PvValue) -> Result<(), NoMemory>
+    ensures { OnOk result (out.new.items ≡ out.old.items ++ payload_of order (ToClient.Got req value.now)) }
 {
     out.extend_from_slice(&word(order, req))?;
     out.extend_from_slice(&[0, GOOD])?;
     write_whole_part(out, order, value)
+}
+
+fn put_done(out: &mut Vec<u8>, order: Order, req: u32) -> Result<(), NoMemory>
+    ensures { OnOk result (out.new.items ≡ out.old.items ++ payload_of order (ToClient.PutDone req)) }
+{
+    out.extend_from_slice(&word(order, req))?;
+    out.extend_from_slice(&[0, GOOD])?;
+    Ok(())
+}
+
+fn text_of(why: PutError) -> &'static str
+    ensures { result.now ≡ text_of why }
+{
+    match why {
+        PutError::Disabled => "puts are disabled",
+        PutError::NothingWritable => "nothing writable",
+        PutError::JournalFull => "journal full",
+    }
+}
+
+fn put_failed(
+    alloc: Global,
+    out: &mut Vec<u8>,
+    order: Order,
+    req: u32,
+    why: PutError,
+) -> Result<(), NoMemory>
+    ensures { OnOk result (out.new.items ≡ out.old.items ++ payload_of order (ToClient.PutFailed req why)) }
+{
+    out.extend_from_slice(&word(order, req))?;
+    out.push(0)?;
+    error(alloc, out, order, text_of(why))
 }
 
 /// Appends the payload of a message.
@@ -88,29 +139,33 @@ fn payload(
     alloc: Global,
     out: &mut Vec<u8>,
     order: Order,
-    message: ToClient,
+    message: &ToClient,
 ) -> Result<(), NoMemory>
-    ensures { OnOk result (out.new.items ≡ out.old.items ++ payload_of order message) }
+    ensures { OnOk result (out.new.items ≡ out.old.items ++ payload_of order message.now) }
 {
     match message {
         ToClient::Validated => {
             out.push(GOOD)?;
             Ok(())
         }
-        ToClient::Created(cid, sid) => created(out, order, cid, sid),
-        ToClient::NotFound(cid) => not_found(alloc, out, order, cid),
-        ToClient::GetBegun(req, ty) => get_begun(alloc, out, order, req, ty),
-        ToClient::Got(req, value) => got(out, order, req, value),
+        ToClient::Created(cid, sid) => created(out, order, *cid, *sid),
+        ToClient::NotFound(cid) => not_found(alloc, out, order, *cid),
+        ToClient::GetBegun(req, ty) => begun(alloc, out, order, *req, *ty),
+        ToClient::Got(req, value) => got(out, order, *req, value),
+        ToClient::PutBegun(req, ty) => begun(alloc, out, order, *req, *ty),
+        ToClient::PutDone(req) => put_done(out, order, *req),
+        ToClient::PutFailed(req, why) => put_failed(alloc, out, order, *req, *why),
     }
 }
 
-fn command_of(message: ToClient) -> u8
-    ensures { result ≡ command_of message }
+fn command_of(message: &ToClient) -> u8
+    ensures { result ≡ command_of message.now }
 {
     match message {
         ToClient::Validated => 9,
         ToClient::Created(_, _) | ToClient::NotFound(_) => 7,
         ToClient::GetBegun(_, _) | ToClient::Got(_, _) => 10,
+        ToClient::PutBegun(_, _) | ToClient::PutDone(_) | ToClient::PutFailed(_, _) => 11,
     }
 }
 
@@ -119,9 +174,9 @@ pub fn write_to_client(
     alloc: Global,
     out: &mut Vec<u8>,
     order: Order,
-    message: ToClient,
+    message: &ToClient,
 ) -> Result<(), NoMemory>
-    ensures ok { OnOk result (out.new.items ≡ out.old.items ++ spelled order message) }
+    ensures ok { OnOk result (out.new.items ≡ out.old.items ++ spelled order message.now) }
     ensures err { OnErr result (out.new.items ≡ out.old.items) }
 {
     let mut bytes = Vec::with_capacity(alloc, PAYLOAD)?;

@@ -4,7 +4,8 @@ ghost use Rattle.pva_messages.specs.Values.{int, long, member, structure_head, a
 
 use crate::encode::{int, long, text};
 use crate::no_memory::NoMemory;
-use pva_wire::{Order, write_size};
+use pva_wire::{Order, write_size, write_text};
+use pvd_type::Name;
 use std::alloc::Global;
 
 /// The code of a signed number of 32 bits in a description (pvAccess Protocol Specification, "Introspection data").
@@ -26,13 +27,15 @@ pub enum PvType {
     NtScalarInt,
 }
 
-/// The state of a value (Normative Types, `alarm_t`). Its message is empty so far.
-#[derive(Clone, Copy, Debug, PartialEq, Eq)]
+/// The state of a value (Normative Types, `alarm_t`).
+#[derive(Debug, Drop, PartialEq, Eq)]
 pub struct Alarm {
     /// 0 no alarm, 1 minor, 2 major, 3 invalid.
     pub severity: i32,
     /// What the alarm comes from; 0 is nothing.
     pub status: i32,
+    /// What the alarm says to a reader; empty where there is none.
+    pub message: Name,
 }
 
 /// When a value was set (Normative Types, `time_t`).
@@ -47,7 +50,7 @@ pub struct TimeStamp {
 }
 
 /// A value of the type `PvType::NtScalarInt`.
-#[derive(Clone, Copy, Debug, PartialEq, Eq)]
+#[derive(Debug, Drop, PartialEq, Eq)]
 pub struct PvValue {
     pub value: i32,
     pub alarm: Alarm,
@@ -137,12 +140,12 @@ pub fn write_description(
     }
 }
 
-fn alarm_leaves(out: &mut Vec<u8>, order: Order, alarm: Alarm) -> Result<(), NoMemory>
-    ensures { OnOk result (out.new.items ≡ out.old.items ++ alarm_values order alarm) }
+fn alarm_leaves(out: &mut Vec<u8>, order: Order, alarm: &Alarm) -> Result<(), NoMemory>
+    ensures { OnOk result (out.new.items ≡ out.old.items ++ alarm_values order alarm.now) }
 {
     out.extend_from_slice(&int(order, alarm.severity))?;
     out.extend_from_slice(&int(order, alarm.status))?;
-    write_size(out, order, 0)?;
+    write_text(out, order, &alarm.message)?;
     Ok(())
 }
 
@@ -156,11 +159,11 @@ fn time_leaves(out: &mut Vec<u8>, order: Order, time: TimeStamp) -> Result<(), N
 }
 
 /// Appends a value as a part that has all of its leaves.
-pub fn write_whole_part(out: &mut Vec<u8>, order: Order, value: PvValue) -> Result<(), NoMemory>
-    ensures { OnOk result (out.new.items ≡ out.old.items ++ whole_part order value) }
+pub fn write_whole_part(out: &mut Vec<u8>, order: Order, value: &PvValue) -> Result<(), NoMemory>
+    ensures { OnOk result (out.new.items ≡ out.old.items ++ whole_part order value.now) }
 {
     out.extend_from_slice(&ALL_LEAVES)?;
     out.extend_from_slice(&int(order, value.value))?;
-    alarm_leaves(out, order, value.alarm)?;
+    alarm_leaves(out, order, &value.alarm)?;
     time_leaves(out, order, value.time_stamp)
 }
