@@ -1,3 +1,4 @@
 pub mod Alarms
 pub mod Validity
 pub mod Processing
+pub mod Keeping

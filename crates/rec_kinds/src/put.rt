@@ -10,6 +10,8 @@ use crate::datum::Datum;
 pub enum PutRefusal {
     /// The record's field DISP is 1.
     Disabled,
+    /// Nothing that may be written is marked. `check_put` never gives it: it is for the crates above.
+    NothingWritable,
 }
 
 /// Whether the record takes this put. It takes no memory.
