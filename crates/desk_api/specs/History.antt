@@ -1,7 +1,9 @@
 -- The committed history: the states that the records open with, and what the seats did, in order.
-use Rattle.std.specs.Prelude.{◌≡◌, ℕ, ◌<◌, List, [], ◌∷◌, ◌++◌, length, take, set, ⊤, if◌then◌else◌, ◌==◌}
-use Rattle.desk_api.specs.declared.state.RecState.{RecState}
-use Rattle.desk_api.specs.declared.history.Entry.{Entry}
+use Rattle.std.specs.Prelude.{◌≡◌, ℕ, List, [], ◌∷◌, ◌++◌, map, take, if◌then◌else◌, ◌==◌}
+use Rattle.rec_kinds.specs.declared.state.RecState.{RecState}
+use Rattle.journal_core.specs.declared.entry.Entry.{Entry}
+use Rattle.journal_core.specs.Histories.{state_at as replayed_at, kept}
+use Rattle.journal_core.specs.Legality.{IsLegal as AreLegal}
 use Rattle.desk_api.specs.declared.history.Deed.{Deed}
 use Rattle.desk_api.specs.declared.history.Deed.TheVariants.{Wrote}
 use Rattle.desk_api.specs.declared.history.Story.{Story}
@@ -14,6 +16,10 @@ entries_of ((k, Wrote e) ∷ deeds) = (k, e) ∷ entries_of deeds
 abbrev pub entries : Story → List (ℕ × Entry)
 entries h = entries_of h.deeds
 
+-- the same without their seats
+abbrev pub commits : Story → List Entry
+commits h = map (λ e. e.1) (entries h)
+
 -- what the seat k did, in order
 abbrev pub deeds_by : ℕ → List (ℕ × Deed) → List Deed
 deeds_by k [] = []
@@ -23,38 +29,25 @@ abbrev pub tagged : ℕ → List Deed → List (ℕ × Deed)
 tagged k [] = []
 tagged k (d ∷ deeds) = (k, d) ∷ tagged k deeds
 
--- the states of the records after one entry's writes, and after many entries
-abbrev pub written : List RecState → List (ℕ × RecState) → List RecState
-written states [] = states
-written states (w ∷ writes) = written (set states w.0 w.1) writes
-
-abbrev pub replayed : List RecState → List (ℕ × Entry) → List RecState
-replayed states [] = states
-replayed states (e ∷ entries) = replayed (written states e.1.writes) entries
-
 -- The states of all records after the first n entries: the opening, with the writes of these entries.
 abbrev pub state_at : Story → ℕ → List RecState
-state_at h n = replayed h.base.opening (take n (entries h))
+state_at h n = replayed_at h.base.opening (commits h) n
 
--- An entry writes records of the site.
-abbrev pub WritesWithin : ℕ → List (ℕ × RecState) → Type 0
-WritesWithin count [] = ⊤
-WritesWithin count (w ∷ writes) = (w.0 < count) × WritesWithin count writes
+-- What the first n entries weigh together.
+abbrev pub kept_at : Story → ℕ → ℕ
+kept_at h n = kept (take n (commits h))
 
-abbrev pub AreLegal : ℕ → List (ℕ × Entry) → Type 0
-AreLegal count [] = ⊤
-AreLegal count (e ∷ entries) = WritesWithin count e.1.writes × AreLegal count entries
-
--- A history is legal where each of its entries is.
+-- A history is legal where each of its entries is legal after the states at its own place.
 abbrev pub IsLegal : Story → Type 0
-IsLegal h = AreLegal (length h.base.opening) (entries h)
+IsLegal h = AreLegal h.base.configs h.base.opening (commits h)
 
 -- the second list begins with the first
 pub record IsPrefixOf {X : Type 0} (xs ys : List X) : Type 0 where
   pub rest : List X
   pub whole : ys ≡ xs ++ rest
 
--- The second history begins with the first: it has the same opening, and what the seats did goes on.
+-- The second history begins with the first: it has the same opening and the same limit, and what the seats did goes on.
 pub record Begins (h k : Story) : Type 0 where
   pub same : k.base ≡ h.base
+  pub limit : k.limit ≡ h.limit
   pub deeds : IsPrefixOf h.deeds k.deeds

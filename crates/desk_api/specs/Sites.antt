@@ -1,8 +1,10 @@
 -- The names of a site and the channels that they stand for.
-use Rattle.std.specs.Prelude.{ℕ, ◌+◌, Bool, ◌&&◌, ◌||◌, ◌==◌, not, nat_lt, nat_le, List, [], ◌∷◌, length, Option, None, Some, if◌then◌else◌, bytes_eq}
+use Rattle.std.specs.Prelude.{ℕ, ℤ, ◌+◌, Bool, false, ◌&&◌, ◌||◌, ◌==◌, not, nat_lt, nat_le, List, [], ◌∷◌, length, Option, None, Some, if◌then◌else◌, bytes_eq}
 use Rattle.std.specs.List.{list_all}
 use Rattle.pva_messages.specs.declared.value.PvType.{PvType}
 use Rattle.pva_messages.specs.declared.value.PvType.TheVariants.{NtScalarInt}
+use Rattle.rec_kinds.specs.Processing.{opening}
+use Rattle.rec_kinds.specs.declared.config.Kind.TheVariants.{Longout}
 use Rattle.desk_api.specs.declared.channel.Channel.{Channel}
 use Rattle.desk_api.specs.declared.channel.ChannelKind.TheVariants.{Rec}
 use Rattle.desk_api.specs.declared.history.Base.{Base}
@@ -35,3 +37,7 @@ type_of channel = NtScalarInt
 -- the records that a get of the channel reads
 abbrev pub footprint_of : Channel → List ℕ
 footprint_of channel = channel.number ∷ []
+
+-- The site of one longout that takes puts, with this name and the value that it opens with.
+abbrev pub single : List ℕ → ℤ → Base
+single name value = record { names = name ∷ []; configs = record { kind = Longout; disabled = false } ∷ []; opening = opening (Some value) ∷ [] }

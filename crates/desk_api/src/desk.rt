@@ -2,13 +2,16 @@
 ghost use Rattle.std.specs.Prelude.{◌≡◌, IsTrue, OnOk, option_map, Some};
 ghost use Rattle.desk_api.specs.declared.mark.Seat.{Seat};
 ghost use Rattle.desk_api.specs.Sites as sites;
-ghost use Rattle.desk_api.specs.Marks.{Calls, AreGet, EndsAtLastMark};
+ghost use Rattle.desk_api.specs.Marks.{Calls, AreGet, ArePut, OnMarked, EndsAtLastMark};
 
 use crate::channel::Channel;
+use crate::put::{Done, PutAnswer};
 use pva_messages::{NoMemory, PvType, PvValue};
+use pvd_type::BitSet;
+use rec_kinds::Moment;
 use std::alloc::Global;
 
-/// Where a session reads the records. Others may add entries to the history between two calls.
+/// Where a session reads and writes the records. Others may add entries to the history between two calls.
 pub trait Desk {
     /// The seat: its number, the history that it has seen, and its log. They take no bytes.
     ghost seat: { Self → Seat };
@@ -27,4 +30,18 @@ pub trait Desk {
         requires { IsTrue (sites.is_channel (seat self.old).seen.base channel) }
         ensures calls { Calls (seat self.old) (seat self.new) (AreGet channel result) }
         ensures ends { OnOk result (EndsAtLastMark (seat self.new)) };
+
+    /// Puts the marked leaves of the value at this moment, as one entry of the history. One mark, of the entry or of its
+    /// weight; none where the channel refuses the put, which is decided before anything is done, or memory runs out.
+    fn put(
+        &mut self,
+        alloc: Global,
+        channel: Channel,
+        mask: &BitSet,
+        value: &PvValue,
+        moment: Moment,
+    ) -> Result<Done, PutAnswer>
+        requires { IsTrue (sites.is_channel (seat self.old).seen.base channel) }
+        ensures calls { Calls (seat self.old) (seat self.new) (ArePut (record { base = (seat self.old).seen.base; channel = channel; mask = mask.now; value = value.now; moment = moment }) result) }
+        ensures ends { OnMarked result (EndsAtLastMark (seat self.new)) };
 }

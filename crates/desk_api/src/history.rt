@@ -1,12 +1,7 @@
 //! The committed history, as contracts see it. No value of these types is made.
-use crate::state::RecState;
+use journal_core::Entry;
+use rec_kinds::{RecConfig, RecState};
 use std::collections::LinkedList;
-
-/// One commit.
-pub struct Entry {
-    /// The records that it writes, each by its number, with their new states.
-    pub writes: LinkedList<(u32, RecState)>,
-}
 
 /// What a seat does to the history.
 pub enum Deed {
@@ -14,11 +9,13 @@ pub enum Deed {
     Wrote(Entry),
 }
 
-/// The site that a history begins with.
+/// The site that a history begins with. A record's number is its place in each of the lists.
 pub struct Base {
-    /// The names of its records, as bytes. A record's number is its place here.
+    /// The names of its records, as bytes.
     pub names: LinkedList<LinkedList<u8>>,
-    /// The states of these records at the opening.
+    /// How these records are configured.
+    pub configs: LinkedList<RecConfig>,
+    /// Their states at the opening.
     pub opening: LinkedList<RecState>,
 }
 
@@ -26,6 +23,8 @@ pub struct Base {
 pub struct Story {
     /// The site that it begins with.
     pub base: Base,
+    /// What its entries may weigh together.
+    pub limit: u64,
     /// What the seats did, in order, each with the number of its seat.
     pub deeds: LinkedList<(u64, Deed)>,
 }

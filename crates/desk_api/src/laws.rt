@@ -1,6 +1,6 @@
 // Laws of the definitions. Each is the contract of a function that does nothing.
 ghost use Rattle.std.specs.Prelude.{◌≡◌, ℕ, ◌≤◌, List, [], ◌++◌, length, Some, IsTrue};
-ghost use Rattle.desk_api.specs.History.{Begins, entries, state_at};
+ghost use Rattle.desk_api.specs.History.{Begins, entries, state_at, kept_at};
 ghost use Rattle.desk_api.specs.Marks.{Adds, AllHold};
 ghost use Rattle.desk_api.specs.Sites.{channel_named, is_channel};
 ghost use Rattle.desk_api.specs.declared.channel.Channel.{Channel};
@@ -20,8 +20,9 @@ pub fn calls_in_turn()
     ensures more { (a b c : Seat) (xs ys : List Mark) → Adds a b xs → Adds b c ys → Adds a c (xs ++ ys) }
 {}
 
-/// As a history grows its states stay, and so does the truth of the marks.
+/// As a history grows its states and their weights stay, and so does the truth of the marks.
 pub fn truth_lasts()
     ensures states { (h k : Story) → Begins h k → (at : ℕ) → at ≤ length (entries h) → state_at k at ≡ state_at h at }
+    ensures weights { (h k : Story) → Begins h k → (at : ℕ) → at ≤ length (entries h) → kept_at k at ≡ kept_at h at }
     ensures marks { (h k : Story) → Begins h k → (seat : ℕ) (before marks : List Mark) → AllHold seat h before marks → AllHold seat k before marks }
 {}

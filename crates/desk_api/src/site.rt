@@ -1,11 +1,12 @@
 // The records that are served, as they are configured.
-ghost use Rattle.std.specs.Prelude.{◌≡◌, ◌<◌, ◌∷◌, [], IfOk, IsTrue, length, option_map, slice_get};
+ghost use Rattle.std.specs.Prelude.{◌≡◌, ◌<◌, ◌∷◌, [], IfOk, IsTrue, Some, length, option_map, slice_get};
+ghost use Rattle.journal_core.specs.Legality.{AreValid};
 ghost use Rattle.desk_api.specs.Sites as sites;
 
 use crate::channel::{Channel, ChannelKind};
-use crate::state::RecState;
 use pva_messages::{NoMemory, PvType};
 use pvd_type::Name;
+use rec_kinds::{Kind, RecConfig, RecState};
 use std::alloc::Global;
 use std::marker::Model;
 
@@ -32,28 +33,46 @@ fn is_special(byte: u8) -> bool
 #[derive(Drop)]
 pub struct Site {
     name: Name,
+    config: RecConfig,
     opening: RecState,
 }
 
 impl Model for Site {
     ghost use Rattle.std.specs.Prelude.{◌∷◌, []};
+    ghost use Rattle.rec_kinds.specs.Validity.{IsValid};
     ghost use Rattle.desk_api.specs.declared.history.Base.{Base};
 
     ghost Value = { Base };
 
-    ghost view = { λ s. record { names = s.name ∷ []; opening = s.opening ∷ [] } };
+    ghost view = { λ s. record { names = s.name ∷ []; configs = s.config ∷ []; opening = s.opening ∷ [] } };
+
+    ghost invariant = { λ s. IsValid s.config s.opening };
 }
 
 impl Site {
-    /// A site of one longout with this name and this value.
+    /// A site of one longout with this name, which opens with this value.
     pub fn single(alloc: Global, name: &str, value: i32) -> Result<Site, NoMemory>
         requires { IsTrue (sites.is_record_name name.now) }
-        ensures { IfOk result (λ s. s ≡ record { names = name.now ∷ []; opening = record { value = value } ∷ [] }) }
+        ensures { IfOk result (λ s. s ≡ sites.single name.now value) }
     {
         Ok(Site {
             name: Name::of(alloc, name)?,
-            opening: RecState { value },
+            config: RecConfig {
+                kind: Kind::Longout,
+                disabled: false,
+            },
+            opening: RecState::opening(alloc, Some(value))?,
         })
+    }
+
+    /// The number of records. Each has a name, a configuration and a state at the opening that is valid for it.
+    pub fn records(&self) -> usize
+        ensures names { result ≡ length self.now.names }
+        ensures opening { result ≡ length self.now.opening }
+        ensures valid { AreValid self.now.configs self.now.opening }
+    {
+        let _ = &self.name;
+        1
     }
 
     /// The channel of this name. None exactly where no record has it. It takes no memory.
@@ -79,10 +98,19 @@ impl Site {
         }
     }
 
+    /// The configuration of a record, by its number.
+    pub fn config(&self, rec: usize) -> &RecConfig
+        requires { rec < length self.now.names }
+        ensures { slice_get self.now.configs rec ≡ Some result.now }
+    {
+        let _ = rec;
+        &self.config
+    }
+
     /// The state of a record at the opening, by its number.
     pub fn opening(&self, rec: usize) -> &RecState
         requires { rec < length self.now.names }
-        ensures { Some result.now ≡ slice_get self.now.opening rec }
+        ensures { slice_get self.now.opening rec ≡ Some result.now }
     {
         let _ = rec;
         &self.opening
