@@ -44,11 +44,7 @@ pub enum PutAnswer {
 
 /// What a put of the marked leaves of the value does to a record of this configuration, or why it is refused: where the leaf
 /// `value` isn't marked nothing may be written, and else the record itself refuses or takes it. It takes no memory.
-pub fn action_of(
-    config: &RecConfig,
-    mask: &BitSet,
-    value: &PvValue,
-) -> Result<Action, PutRefusal>
+pub fn action_of(config: &RecConfig, mask: &BitSet, value: &PvValue) -> Result<Action, PutRefusal>
     ensures exact { result ≡ puts.action_of config.now mask.now value.now }
     ensures may { IfOk result (MayBeDone config.now) }
 {

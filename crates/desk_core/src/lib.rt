@@ -1,10 +1,11 @@
 //! The desks that a server reads its records through.
 #![tactic(auto)]
 
+mod draft;
 mod log;
 mod solo;
 #[cfg(test)]
 mod tests;
 
-pub use desk_api::{Channel, Desk, NoMemory, PvType, PvValue, Site};
+pub use desk_api::{Channel, Desk, Done, Moment, NoMemory, PutAnswer, PvType, PvValue, Site};
 pub use solo::SoloDesk;

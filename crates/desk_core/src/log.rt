@@ -1,23 +1,34 @@
 // A log that takes no bytes: the view of the only seat of a table with one word. Each mark is one load of that word.
 ghost use Rattle.std.specs.Prelude.{◌≡◌, [], ◌∷◌, IfOk};
 ghost use Rattle.desk_api.specs.Marks.{first_seat, with_mark};
+ghost use Rattle.desk_api.specs.Puts.{written_by};
 ghost use Rattle.desk_api.specs.Sites.{footprint_of};
 ghost use Rattle.desk_api.specs.declared.mark.Mark.TheVariants as marks;
 
 use atomic_table::{Play, Table, TableRule};
 use desk_api::{Channel, NoMemory, RecState, Seat, Site};
+use journal_core::Entry;
 use std::alloc::Global;
 use std::marker::{Brand, Model, PhantomData};
 
-/// The rule of the table: since there is one seat, its view may be anything. At first it is that of a site without an entry.
+/// What a desk stands on.
+#[derive(Drop)]
+pub struct Terms {
+    /// The records.
+    pub site: Site,
+    /// What the entries of its history may weigh together.
+    pub limit: u64,
+}
+
+/// The rule of the table: since there is one seat, its view may be anything. At first it is that of a history without an entry.
 pub struct OneSeat;
 
-impl TableRule<(), Seat, Site> for OneSeat {
+impl TableRule<(), Seat, Terms> for OneSeat {
     ghost use Rattle.desk_api.specs.Marks.{first_seat};
 
     ghost holds = { λ _ _. Unit {0} };
 
-    ghost first = { λ site. first_seat site };
+    ghost first = { λ terms. first_seat terms.site terms.limit };
 }
 
 /// The mark that a step adds, as a function of its place. Each call picks it.
@@ -51,7 +62,7 @@ impl<B: Picks> Play<(), Seat> for AddMark<B> {
 /// The history and the marks of a desk that nobody shares. Contracts see it as a seat.
 #[derive(Drop)]
 pub struct Log {
-    table: Table<(), Seat, Site, OneSeat, Global>,
+    table: Table<(), Seat, Terms, OneSeat, Global>,
     seat: atomic_table::Seat<(), Seat>,
 }
 
@@ -67,11 +78,11 @@ impl Model for Log {
 }
 
 impl Log {
-    /// The log of this site before any call.
-    pub(crate) fn new(alloc: Global, site: &Site) -> Result<Log, NoMemory>
-        ensures { IfOk result (λ log. log ≡ first_seat site.now) }
+    /// The log of a desk on these terms before any call.
+    pub(crate) fn new(alloc: Global, terms: &Terms) -> Result<Log, NoMemory>
+        ensures { IfOk result (λ log. log ≡ first_seat terms.now.site terms.now.limit) }
     {
-        match Table::of_words(alloc, &[0], site) {
+        match Table::of_words(alloc, &[0], terms) {
             Ok((table, seat)) => Ok(Log { table, seat }),
             Err(_) => Err(NoMemory),
         }
@@ -89,9 +100,31 @@ impl Log {
 // One helper for each kind of mark. Its arguments are the parts of the mark, from which the caller picks it.
 
 /// Notes that a get of the channel found its record in this state.
-pub(crate) fn note_read<B: Picks>(log: &mut Log, _channel: Channel, _state: RecState)
-    requires { B.mark ≡ (λ at. marks.Read at _channel (footprint_of _channel) (_state ∷ [])) }
-    ensures { log.new ≡ with_mark log.old (λ at. marks.Read at _channel (footprint_of _channel) (_state ∷ [])) }
+pub(crate) fn note_read<B: Picks>(log: &mut Log, _channel: Channel, _state: &RecState)
+    requires { B.mark ≡ (λ at. marks.Read at _channel (footprint_of _channel) (_state.now ∷ [])) }
+    ensures { log.new ≡ with_mark log.old (λ at. marks.Read at _channel (footprint_of _channel) (_state.now ∷ [])) }
+{
+    log.add::<B>();
+}
+
+/// Notes that a put added this entry.
+pub(crate) fn note_entered<B: Picks>(log: &mut Log, _entry: &Entry)
+    requires { B.mark ≡ (λ at. marks.Entered at _entry.now) }
+    ensures { log.new ≡ with_mark log.old (λ at. marks.Entered at _entry.now) }
+{
+    log.add::<B>();
+}
+
+/// Notes that this entry would have been too heavy: what is kept, what it weighs, and the limit.
+pub(crate) fn note_overweight<B: Picks>(
+    log: &mut Log,
+    _entry: &Entry,
+    _kept: u64,
+    _weight: u64,
+    _limit: u64,
+)
+    requires { B.mark ≡ (λ at. marks.Overweight at _entry.now.footprint _entry.now.actions _kept _weight _limit) }
+    ensures { log.new ≡ with_mark log.old (λ at. marks.Overweight at _entry.now.footprint _entry.now.actions _kept _weight _limit) }
 {
     log.add::<B>();
 }

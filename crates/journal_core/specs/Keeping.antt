@@ -1,5 +1,5 @@
 -- Legal entries leave the states valid.
-use Rattle.std.specs.Prelude.{◌≡◌, ℕ, ℤ, ◌+◌, ◌≤◌, zero, suc, Bool, List, [], ◌∷◌, ◌++◌, length, take, set, Some, slice_get, refl}
+use Rattle.std.specs.Prelude.{◌≡◌, ℕ, ℤ, ◌≤◌, zero, suc, Bool, List, [], ◌∷◌, ◌++◌, length, take, set, Some, slice_get, refl}
 use Rattle.std.proofs.Common.{sym, ◌∙◌, ap, subst, arith}
 use Rattle.std.proofs.lemmas.Option.{none-some}
 use Rattle.std.proofs.lemmas.List.Sums.{fold-append}
@@ -38,8 +38,8 @@ valid_set (c ∷ configs) (s ∷ states) (suc n) config state valid configured n
 valid_write : (configs : List RecConfig) (states : List RecState) (moment : ℤ × ℕ) (action : ℕ × Action) (drove : Bool) (write : ℕ × RecState) → AreValid configs states → IsProcessed configs states moment action drove write → AreValid configs (set states write.0 write.1)
 valid_write configs states moment action drove write valid p =
     subst (λ (w : ℕ × RecState). AreValid configs (set states w.0 w.1)) (sym p.write_is)
-        (valid_set configs states action.0 p.config (processed p.config p.old action.1 moment drove) valid p.configured
-            (valid_after p.config p.old action.1 moment drove (valid_at configs states action.0 p.config p.old valid p.configured p.found) p.may))
+    (valid_set configs states action.0 p.config (processed p.config p.old action.1 moment drove) valid p.configured
+    (valid_after p.config p.old action.1 moment drove (valid_at configs states action.0 p.config p.old valid p.configured p.found) p.may))
 
 -- the writes of an entry
 valid_writes : (configs : List RecConfig) (states : List RecState) (moment : ℤ × ℕ) (actions : List (ℕ × Action)) (drives : List Bool) (writes : List (ℕ × RecState)) → AreValid configs states → AreProcessed configs states moment actions drives writes → AreValid configs (written states writes)
@@ -69,4 +69,4 @@ valid_history configs opening entries valid legal zero le = valid
 valid_history configs opening entries valid legal (suc n) le =
     let last = one_further entries n le in
     subst (AreValid configs) (sym (ap (replayed opening) last.1.1 ∙ fold-append (λ s e. written s e.writes) opening (take n entries) (last.0 ∷ [])))
-        (valid_entry configs (state_at opening entries n) last.0 (legal n last.0 last.1.0))
+    (valid_entry configs (state_at opening entries n) last.0 (legal n last.0 last.1.0))
