@@ -1,5 +1,5 @@
 -- A smooth connection is closed.
-use Rattle.std.proofs.Common.{◌≡◌, ℕ, inl, inr, List, [], ◌∷◌, ◌++◌, Option, None, Some, refl, sym, ◌∙◌, ap, subst, arith, append_assoc}
+use Rattle.std.proofs.Common.{◌≡◌, ℕ, ℤ, inl, inr, List, [], ◌∷◌, ◌++◌, Option, None, Some, refl, sym, ◌∙◌, ap, subst, arith, append_assoc}
 use Rattle.std.proofs.lemmas.Option.{none-some}
 use Rattle.std.proofs.lemmas.Bool.{false≢true}
 use Rattle.pva_outside.specs.Wire.{Wire}
@@ -8,12 +8,12 @@ use Rattle.pva_messages.specs.Frames.{Frame, frames_from, refusal_from}
 use Rattle.pva_messages.specs.Requests.{message_at}
 use Rattle.pva_messages.specs.declared.frame.Refusal.{Refusal}
 use Rattle.pva_messages.specs.declared.to_server.ToServer.{ToServer}
-use Rattle.pva_messages.specs.declared.to_server.ToServer.TheVariants.{Validation, Create, BeginGet, Get}
+use Rattle.pva_messages.specs.declared.to_server.ToServer.TheVariants.{Validation, Create, BeginGet, Get, BeginPut, Put}
 use Rattle.desk_api.specs.Sites.{channel_named}
 use Rattle.desk_api.specs.declared.channel.Channel.{Channel}
 use Rattle.desk_api.specs.declared.history.Base.{Base}
 use Rattle.desk_api.specs.declared.mark.Mark.{Mark}
-use Rattle.srv_stream.specs.Talk.{State, Step, opening, CreateRow, BeginRow, GetRow, Answers, opened, after_message, AreServed, IsStepAt, AreSteps, state_after, event_list, events_of}
+use Rattle.srv_stream.specs.Talk.{State, Step, opening, CreateRow, BeginRow, GetRow, BeginPutRow, PutRow, Answers, opened, after_message, AreServed, IsStepAt, AreSteps, state_after, event_list, events_of}
 use Rattle.srv_stream.specs.Streams.{Trouble, Stands}
 use Rattle.srv_stream.specs.Served.{Whole, IsSmooth, Completes}
 use Rattle.srv_stream.specs.Served as served
@@ -27,7 +27,7 @@ create_after : (cid : ℕ) (s : State) (o : Option Channel) (marks : List Mark) 
 create_after cid s None marks out t r = r.after_is
 create_after cid s (Some channel) marks out t r = r.after_is
 
-begin_after : (req : ℕ) (s : State) (o : Option Channel) (marks : List Mark) (out : List ℕ) (t : State) → BeginRow req s o marks out t → t ≡ record s { request = Some req }
+begin_after : (req : ℕ) (s : State) (o : Option Channel) (marks : List Mark) (out : List ℕ) (t : State) → BeginRow req s o marks out t → t ≡ record s { get = Some req }
 begin_after req s None marks out t r = absurd r
 begin_after req s (Some channel) marks out t r = r.after_is
 
@@ -35,12 +35,22 @@ get_after : (req : ℕ) (s : State) (o : Option Channel) (marks : List Mark) (ou
 get_after req s None marks out t r = absurd r
 get_after req s (Some channel) marks out t r = r.after_is
 
+begin_put_after : (req : ℕ) (s : State) (o : Option Channel) (marks : List Mark) (out : List ℕ) (t : State) → BeginPutRow req s o marks out t → t ≡ record s { put = Some req }
+begin_put_after req s None marks out t r = absurd r
+begin_put_after req s (Some channel) marks out t r = r.after_is
+
+put_after : (base : Base) (req : ℕ) (number : ℤ) (s : State) (o : Option Channel) (marks : List Mark) (out : List ℕ) (t : State) → PutRow base req number s o marks out t → t ≡ s
+put_after base req number s None marks out t r = absurd r
+put_after base req number s (Some channel) marks out t r = r.after_is
+
 row_after : (base : Base) (s : State) (m : Option ToServer) (marks : List Mark) (out : List ℕ) (t : State) → Answers base s m marks out t → t ≡ after_message base s m
 row_after base s None marks out t r = absurd r
 row_after base s (Some (Validation buffer registry qos)) marks out t r = r.after_is
 row_after base s (Some (Create cid name)) marks out t r = create_after cid s (channel_named base name) marks out t r
 row_after base s (Some (BeginGet sid req)) marks out t r = begin_after req s s.channel marks out t r
 row_after base s (Some (Get sid req)) marks out t r = get_after req s s.channel marks out t r
+row_after base s (Some (BeginPut sid req)) marks out t r = begin_put_after req s s.channel marks out t r
+row_after base s (Some (Put sid req number)) marks out t r = put_after base req number s s.channel marks out t r
 
 -- what is served behind some steps
 served_step : (base : Base) (s : State) (o : Option Frame) (x : Step) (more : List Frame) → IsStepAt base s o x → AreServed base s (event_list o ++ more) → AreServed base x.after more

@@ -1,5 +1,5 @@
 -- A connection has ended.
-use Rattle.std.proofs.Common.{◌≡◌, ℕ, ◌+◌, ◌<◌, ◌≤◌, ◌⊎◌, inl, inr, Bool, true, false, cond, List, [], ◌++◌, length, Option, None, Some, refl, sym, ◌∙◌, ap, subst, arith}
+use Rattle.std.proofs.Common.{◌≡◌, ℕ, ℤ, ◌+◌, ◌<◌, ◌≤◌, ◌⊎◌, inl, inr, Bool, true, false, cond, List, [], ◌++◌, length, Option, None, Some, refl, sym, ◌∙◌, ap, subst, arith}
 use Rattle.std.proofs.lemmas.List.{append-nil}
 use Rattle.std.proofs.lemmas.Option.{none-some}
 use Rattle.pva_outside.specs.Wire.{Wire}
@@ -18,7 +18,7 @@ use Rattle.srv_stream.specs.declared.serve.Ended.{Ended}
 use Rattle.srv_stream.specs.declared.serve.Ended.TheVariants as ends
 use Rattle.srv_stream.proofs.Completing.{completes}
 
-module _ {old new : Seat} {start end : Wire} {order : Order} {v : View} {trouble : Trouble} {at_end : Bool} {calls : ℕ} (a : Going old new start end order v trouble at_end calls) where
+module _ {old new : Seat} {start end : Wire} {told : Option (ℤ × ℕ)} {order : Order} {v : View} {trouble : Trouble} {at_end : Bool} {calls : ℕ} (a : Going old new start end told order v trouble at_end calls) where
   abbrev whole : (out : List ℕ) → greeting order ++ out_of a.steps ≡ out → Whole old.seen.base order a.read (marks_of a.steps) out trouble
   whole out is = record {
     events = events_of a.steps;
@@ -45,19 +45,20 @@ module _ {old new : Seat} {start end : Wire} {order : Order} {v : View} {trouble
   rest ok = sym (ap (λ (z : ℕ). unfinished z v.held) (a.place ok) ∙ ap (λ (z : List ℕ). unfinished (place_from 0 a.read) z) (a.held ok))
 
   -- the clause, by its answer
-  served : (turns : ℕ) (result : Ended) → Answers old.seen.base order start end turns a.read a.written (marks_of a.steps) result → Served old new start end order turns result
+  served : (turns : ℕ) (result : Ended) → Answers old.seen.base order start end turns a.read a.written (marks_of a.steps) result → Served old new start end told order turns result
   served turns result answer = record {
     log = marks_of a.steps;
     read = a.read;
     written = a.written;
     adds = a.adds;
+    moments = a.moments;
     moves = a.moves;
     settled = a.settled;
     answer = answer;
     complete = completes old.seen.base order start end turns a.read a.written (marks_of a.steps) result answer;
   }
 
-to_end : {old new : Seat} {start end : Wire} {order : Order} {v : View} (r : Option ℕ) (x : ToEnd old new start end order v r) → AtEnd old.seen.base order start end x.idling.going.read x.idling.going.written (marks_of x.idling.going.steps) r
+to_end : {old new : Seat} {start end : Wire} {told : Option (ℤ × ℕ)} {order : Order} {v : View} (r : Option ℕ) (x : ToEnd old new start end told order v r) → AtEnd old.seen.base order start end x.idling.going.read x.idling.going.written (marks_of x.idling.going.steps) r
 to_end r x =
     let i = x.idling in record {
       whole = whole i.going i.going.written (complete i.going i.empty);
@@ -72,8 +73,8 @@ not_met : (at_end : Bool) (a b : ℕ) → (at_end ≡ true → ⊥) → SawEnd a
 not_met true a b never saw = absurd (never refl)
 not_met false a b never saw = saw
 
-to_trouble : {old new : Seat} {start end : Wire} {order : Order} {v : View} (refusal : Refusal) (place : ℕ) (x : ToTrouble old new start end order v refusal place) → AtTrouble old.seen.base order start end x.idling.going.read x.idling.going.written (marks_of x.idling.going.steps) refusal place
-to_trouble {old} {new} {start} {end} {order} {v} refusal place x =
+to_trouble : {old new : Seat} {start end : Wire} {told : Option (ℤ × ℕ)} {order : Order} {v : View} (refusal : Refusal) (place : ℕ) (x : ToTrouble old new start end told order v refusal place) → AtTrouble old.seen.base order start end x.idling.going.read x.idling.going.written (marks_of x.idling.going.steps) refusal place
+to_trouble {old} {new} {start} {end} {told} {order} {v} refusal place x =
     let a = x.idling.going in record {
       whole = whole a a.written (complete a x.idling.empty);
       ends = not_met x.at_end start.ends end.ends (λ met. none-some (refusal, place) (sym (a.calm met))) a.ends;
@@ -88,18 +89,18 @@ spent_bound false a b c d h = omega arith
 not_seen : (at_end : Bool) (a b : ℕ) → at_end ≡ false → SawEnd at_end a b → b ≡ a
 not_seen at_end a b is saw = subst (λ (z : Bool). SawEnd z a b) is saw
 
-pub stops_served : (old new : Seat) (start end : Wire) (order : Order) (v : View) (turns : ℕ) (result : Ended) → Stops old new start end order v turns result → Served old new start end order turns result
-stops_served old new start end order v turns ends.Closed x = served x.idling.going turns ends.Closed (to_end None x)
-stops_served old new start end order v turns (ends.Truncated place) x = served x.idling.going turns (ends.Truncated place) (to_end (Some place) x)
-stops_served old new start end order v turns (ends.Bad (faults.Frame fault) place) x = served x.idling.going turns (ends.Bad (faults.Frame fault) place) (to_trouble (refusals.Frame fault) place x)
-stops_served old new start end order v turns (ends.NotBuilt command place) x = served x.idling.going turns (ends.NotBuilt command place) (to_trouble (refusals.NotBuilt command) place x)
-stops_served old new start end order v turns ends.ReadFault x =
+pub stops_served : (old new : Seat) (start end : Wire) (told : Option (ℤ × ℕ)) (order : Order) (v : View) (turns : ℕ) (result : Ended) → Stops old new start end told order v turns result → Served old new start end told order turns result
+stops_served old new start end told order v turns ends.Closed x = served x.idling.going turns ends.Closed (to_end None x)
+stops_served old new start end told order v turns (ends.Truncated place) x = served x.idling.going turns (ends.Truncated place) (to_end (Some place) x)
+stops_served old new start end told order v turns (ends.Bad (faults.Frame fault) place) x = served x.idling.going turns (ends.Bad (faults.Frame fault) place) (to_trouble (refusals.Frame fault) place x)
+stops_served old new start end told order v turns (ends.NotBuilt command place) x = served x.idling.going turns (ends.NotBuilt command place) (to_trouble (refusals.NotBuilt command) place x)
+stops_served old new start end told order v turns ends.ReadFault x =
     let a = x.idling.going in
     served a turns ends.ReadFault (record { whole = whole a a.written (complete a x.idling.empty); ends = a.ends; faults = x.faults })
-stops_served old new start end order v turns ends.WriteFault x =
+stops_served old new start end told order v turns ends.WriteFault x =
     let a = x.going in
     served a turns ends.WriteFault (record { out = greeting order ++ out_of a.steps; trouble = x.trouble; whole = whole a (greeting order ++ out_of a.steps) refl; short = short a x.some; faults = x.faults })
-stops_served old new start end order v turns (ends.Spent calls) x =
+stops_served old new start end told order v turns (ends.Spent calls) x =
     let a = x.going in
     served a turns (ends.Spent calls) (record {
       out = greeting order ++ out_of a.steps;
@@ -113,11 +114,12 @@ stops_served old new start end order v turns (ends.Spent calls) x =
       bound = λ low. spent_bound x.at_end (start.idles + calls) end.idles (length a.read) (length a.written) (a.quota low);
       faults = x.faults;
     })
-stops_served old new start end order v turns ends.NoMemory x = record {
+stops_served old new start end told order v turns ends.NoMemory x = record {
   log = marks_of x.steps ++ x.more;
   read = x.read;
   written = x.written;
   adds = x.adds;
+  moments = x.moments;
   moves = x.moves;
   settled = x.settled;
   answer = record {
@@ -138,6 +140,6 @@ stops_served old new start end order v turns ends.NoMemory x = record {
 }
 
 -- the answer that a refusal gives
-pub stops_refused : (old new : Seat) (start end : Wire) (order : Order) (v : View) (turns : ℕ) (refusal : Refusal) (place : ℕ) → ToTrouble old new start end order v refusal place → Stops old new start end order v turns (ended_by refusal place)
-stops_refused old new start end order v turns (refusals.Frame fault) place x = x
-stops_refused old new start end order v turns (refusals.NotBuilt command) place x = x
+pub stops_refused : (old new : Seat) (start end : Wire) (told : Option (ℤ × ℕ)) (order : Order) (v : View) (turns : ℕ) (refusal : Refusal) (place : ℕ) → ToTrouble old new start end told order v refusal place → Stops old new start end told order v turns (ended_by refusal place)
+stops_refused old new start end told order v turns (refusals.Frame fault) place x = x
+stops_refused old new start end told order v turns (refusals.NotBuilt command) place x = x

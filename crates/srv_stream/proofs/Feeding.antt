@@ -1,5 +1,6 @@
 -- Pieces of a stream, and then more pieces.
-use Rattle.std.proofs.Common.{◌≡◌, ℕ, true, List, [], ◌∷◌, ◌++◌, None, Some, Err, refl, sym, ◌∙◌, ap, subst, append_assoc}
+use Rattle.std.proofs.Common.{◌≡◌, ℕ, ℤ, true, List, [], ◌∷◌, ◌++◌, Option, None, Some, Ok, Err, Result, refl, sym, ◌∙◌, ap, subst, append_assoc}
+use Rattle.std.specs.Prelude.{IfSome}
 use Rattle.std.proofs.lemmas.List.{append-nil}
 use Rattle.std.proofs.lemmas.Option.{none-some}
 use Rattle.pva_messages.specs.Frames.{Frame, Cut, cut, front_of, refused, frames_from, place_from, held_of, refusal_from}
@@ -7,10 +8,11 @@ use Rattle.pva_messages.specs.Cutting.{none_cut, cut_append, frames_append, plac
 use Rattle.pva_messages.specs.declared.frame.Front.{Front}
 use Rattle.pva_messages.specs.declared.frame.Front.TheVariants.{Unfinished, Whole, Refused}
 use Rattle.pva_messages.specs.declared.frame.Refusal.{Refusal}
-use Rattle.desk_api.specs.Marks.{Adds}
-use Rattle.desk_api.specs.Adding.{adds_nothing, adds_more}
+use Rattle.desk_api.specs.Marks.{Adds, HasMoment, HaveMoment}
+use Rattle.desk_api.specs.Adding.{adds_nothing, adds_more, moments_append}
 use Rattle.desk_api.specs.declared.history.Base.{Base}
 use Rattle.desk_api.specs.declared.mark.Mark.{Mark}
+use Rattle.desk_api.specs.declared.mark.Mark.TheVariants.{Read, Entered, Overweight}
 use Rattle.desk_api.specs.declared.mark.Seat.{Seat}
 use Rattle.srv_stream.specs.Talk.{State, Step, AreSteps, state_after, events_of, marks_of, out_of, unreadable, RowPart}
 use Rattle.srv_stream.specs.Streams.{View, Trouble, Stands, Follows, Fed, FedOn, FedPart, Feeds}
@@ -97,17 +99,18 @@ follows_on {base} {site} {s} {u} {at} {place} {xs} {held} ys {as_} {bs} {t} is_b
 
 -- pieces
 
-pub fed_more : {old mid new : Seat} {v u w : View} {xs : List ℕ} (ys : List ℕ) {t : Trouble} (a : FedOn old mid v u xs) → Fed mid new u w ys t → Fed old new v w (xs ++ ys) t
-fed_more {old} {mid} {new} {v} {u} {w} {xs} ys {t} a b = record {
+pub fed_more : {old mid new : Seat} {told : Option (ℤ × ℕ)} {v u w : View} {xs : List ℕ} (ys : List ℕ) {t : Trouble} (a : FedOn old mid told v u xs) → Fed mid new told u w ys t → Fed old new told v w (xs ++ ys) t
+fed_more {old} {mid} {new} {told} {v} {u} {w} {xs} ys {t} a b = record {
   steps = a.fed.steps ++ b.steps;
   follows = subst (λ (z : List ℕ). Follows old.seen.base v.state v.place z (a.fed.steps ++ b.steps) t) (append_assoc v.held xs ys) (follows_on ys a.fed.adds.grows.same a.fed.follows a.fed.state a.place a.held b.follows);
   state = b.state ∙ ap (λ (z : State). state_after z b.steps) a.fed.state ∙ sym (after_append v.state a.fed.steps b.steps);
   adds = subst (λ (z : List Mark). Adds old new z) (sym (marks_append a.fed.steps b.steps)) (adds_more a.fed.adds b.adds);
+  moments = subst (HaveMoment told) (sym (marks_append a.fed.steps b.steps)) (moments_append told (marks_of a.fed.steps) (marks_of b.steps) a.fed.moments b.moments);
   out = b.out ∙ ap (λ (z : List ℕ). z ++ out_of b.steps) a.fed.out ∙ append_assoc v.pending (out_of a.fed.steps) (out_of b.steps) ∙ ap (λ (z : List ℕ). v.pending ++ z) (sym (out_append a.fed.steps b.steps));
 }
 
-pub fed_on_more : {old mid new : Seat} {v u w : View} {xs : List ℕ} (ys : List ℕ) (a : FedOn old mid v u xs) → FedOn mid new u w ys → FedOn old new v w (xs ++ ys)
-fed_on_more {old} {mid} {new} {v} {u} {w} {xs} ys a b = record {
+pub fed_on_more : {old mid new : Seat} {told : Option (ℤ × ℕ)} {v u w : View} {xs : List ℕ} (ys : List ℕ) (a : FedOn old mid told v u xs) → FedOn mid new told u w ys → FedOn old new told v w (xs ++ ys)
+fed_on_more {old} {mid} {new} {told} {v} {u} {w} {xs} ys a b = record {
   fed = fed_more ys a b.fed;
   place = b.place ∙ ap (λ (z : ℕ). place_from z (u.held ++ ys)) a.place ∙ ap (λ (z : List ℕ). place_from (place_from v.place (v.held ++ xs)) (z ++ ys)) a.held
       ∙ sym (place_append v.place (v.held ++ xs) ys) ∙ ap (place_from v.place) (append_assoc v.held xs ys);
@@ -115,15 +118,17 @@ fed_on_more {old} {mid} {new} {v} {u} {w} {xs} ys a b = record {
       ∙ sym (held_append v.place (v.held ++ xs) ys) ∙ ap (held_of v.place) (append_assoc v.held xs ys);
 }
 
-pub fed_part_more : {old mid new : Seat} {v u w : View} {xs : List ℕ} (ys : List ℕ) (a : FedOn old mid v u xs) → FedPart mid new u w ys → FedPart old new v w (xs ++ ys)
-fed_part_more {old} {mid} {new} {v} {u} {w} {xs} ys a b =
+pub fed_part_more : {old mid new : Seat} {told : Option (ℤ × ℕ)} {v u w : View} {xs : List ℕ} (ys : List ℕ) (a : FedOn old mid told v u xs) → FedPart mid new told u w ys → FedPart old new told v w (xs ++ ys)
+fed_part_more {old} {mid} {new} {told} {v} {u} {w} {xs} ys a b =
     let h = all_answered a.fed.follows in
     let at = place_from v.place (v.held ++ xs) in
     let held = held_of v.place (v.held ++ xs) in
     let rules : AreSteps old.seen.base (state_after v.state a.fed.steps) b.steps =
     subst (λ (z : Base). AreSteps z (state_after v.state a.fed.steps) b.steps) a.fed.adds.grows.same (subst (λ (z : State). AreSteps mid.seen.base z b.steps) a.fed.state b.rules) in
     let second : frames_from at (held ++ ys) ≡ events_of b.steps ++ b.front.rest =
-    ap (λ (z : ℕ). frames_from z (held ++ ys)) (sym a.place) ∙ ap (λ (z : List ℕ). frames_from u.place (z ++ ys)) (sym a.held) ∙ b.front.whole in record {
+    ap (λ (z : ℕ). frames_from z (held ++ ys)) (sym a.place) ∙ ap (λ (z : List ℕ). frames_from u.place (z ++ ys)) (sym a.held) ∙ b.front.whole in
+    let marks : marks_of a.fed.steps ++ (marks_of b.steps ++ b.more) ≡ marks_of (a.fed.steps ++ b.steps) ++ b.more =
+    sym (append_assoc (marks_of a.fed.steps) (marks_of b.steps) b.more) ∙ ap (λ (z : List Mark). z ++ b.more) (sym (marks_append a.fed.steps b.steps)) in record {
       steps = a.fed.steps ++ b.steps;
       more = b.more;
       rules = steps_append old.seen.base v.state a.fed.steps b.steps a.fed.follows.rules rules;
@@ -134,26 +139,29 @@ fed_part_more {old} {mid} {new} {v} {u} {w} {xs} ys a b =
             ∙ sym (append_assoc (events_of a.fed.steps) (events_of b.steps) b.front.rest)
             ∙ ap (λ (z : List Frame). z ++ b.front.rest) (sym (events_append a.fed.steps b.steps));
       };
-      part = subst (λ (z : State). RowPart z b.front.rest b.more) (ap (λ (z : State). state_after z b.steps) a.fed.state ∙ sym (after_append v.state a.fed.steps b.steps)) b.part;
-      adds = subst (λ (z : List Mark). Adds old new z) (sym (append_assoc (marks_of a.fed.steps) (marks_of b.steps) b.more) ∙ ap (λ (z : List Mark). z ++ b.more) (sym (marks_append a.fed.steps b.steps))) (adds_more a.fed.adds b.adds);
+      part = subst (λ (z : Base). RowPart z (state_after v.state (a.fed.steps ++ b.steps)) b.front.rest b.more) a.fed.adds.grows.same
+          (subst (λ (z : State). RowPart mid.seen.base z b.front.rest b.more) (ap (λ (z : State). state_after z b.steps) a.fed.state ∙ sym (after_append v.state a.fed.steps b.steps)) b.part);
+      adds = subst (λ (z : List Mark). Adds old new z) marks (adds_more a.fed.adds b.adds);
+      moments = subst (HaveMoment told) marks (moments_append told (marks_of a.fed.steps) (marks_of b.steps ++ b.more) a.fed.moments b.moments);
       out = b.out ∙ ap (λ (z : List ℕ). z ++ out_of b.steps) a.fed.out ∙ append_assoc v.pending (out_of a.fed.steps) (out_of b.steps) ∙ ap (λ (z : List ℕ). v.pending ++ z) (sym (out_append a.fed.steps b.steps));
     }
 
-pub fed_rest : {old new : Seat} {v w : View} {xs : List ℕ} {t : Refusal × ℕ} (ys : List ℕ) → Fed old new v w xs (Some t) → Fed old new v w (xs ++ ys) (Some t)
-fed_rest {old} {new} {v} {w} {xs} {t} ys a = record {
+pub fed_rest : {old new : Seat} {told : Option (ℤ × ℕ)} {v w : View} {xs : List ℕ} {t : Refusal × ℕ} (ys : List ℕ) → Fed old new told v w xs (Some t) → Fed old new told v w (xs ++ ys) (Some t)
+fed_rest {old} {new} {told} {v} {w} {xs} {t} ys a = record {
   steps = a.steps;
   follows = subst (λ (z : List ℕ). Follows old.seen.base v.state v.place z a.steps (Some t)) (append_assoc v.held xs ys) (follows_rest ys a.follows);
   state = a.state;
   adds = a.adds;
+  moments = a.moments;
   out = a.out;
 }
 
-part_grows : (s : State) (rest more : List Frame) (marks : List Mark) → RowPart s rest marks → RowPart s (rest ++ more) marks
-part_grows s [] more marks none = subst (RowPart s more) (sym none) (no_row_part s more)
-part_grows s (e ∷ rest) more marks p = p
+part_grows : (base : Base) (s : State) (rest more : List Frame) (marks : List Mark) → RowPart base s rest marks → RowPart base s (rest ++ more) marks
+part_grows base s [] more marks none = subst (RowPart base s more) (sym none) (no_row_part base s more)
+part_grows base s (e ∷ rest) more marks p = p
 
-pub part_rest : {old new : Seat} {v w : View} {xs : List ℕ} (ys : List ℕ) → FedPart old new v w xs → FedPart old new v w (xs ++ ys)
-part_rest {old} {new} {v} {w} {xs} ys a =
+pub part_rest : {old new : Seat} {told : Option (ℤ × ℕ)} {v w : View} {xs : List ℕ} (ys : List ℕ) → FedPart old new told v w xs → FedPart old new told v w (xs ++ ys)
+part_rest {old} {new} {told} {v} {w} {xs} ys a =
     let later = frames_from (place_from v.place (v.held ++ xs)) (held_of v.place (v.held ++ xs) ++ ys) in record {
       steps = a.steps;
       more = a.more;
@@ -162,32 +170,70 @@ part_rest {old} {new} {v} {w} {xs} ys a =
         rest = a.front.rest ++ later;
         whole = ap (frames_from v.place) (sym (append_assoc v.held xs ys)) ∙ frames_append v.place (v.held ++ xs) ys ∙ ap (λ (z : List Frame). z ++ later) a.front.whole ∙ append_assoc (events_of a.steps) a.front.rest later;
       };
-      part = part_grows (state_after v.state a.steps) a.front.rest later a.more a.part;
+      part = part_grows old.seen.base (state_after v.state a.steps) a.front.rest later a.more a.part;
       adds = a.adds;
+      moments = a.moments;
       out = a.out;
     }
 
 -- behind the bytes at which it stops nothing counts
-pub stops_rest : (old new : Seat) (v w : View) (xs ys : List ℕ) (e : FeedStop) → Feeds old new v w xs (Err e) → Feeds old new v w (xs ++ ys) (Err e)
-stops_rest old new v w xs ys (stops.Refused refusal at) a = fed_rest ys a
-stops_rest old new v w xs ys stops.NoMemory a = part_rest ys a
+pub stops_rest : (old new : Seat) (told : Option (ℤ × ℕ)) (v w : View) (xs ys : List ℕ) (e : FeedStop) → Feeds old new told v w xs (Err e) → Feeds old new told v w (xs ++ ys) (Err e)
+stops_rest old new told v w xs ys (stops.Refused refusal at) a = fed_rest ys a
+stops_rest old new told v w xs ys stops.NoMemory a = part_rest ys a
 
 -- a piece ends early
-pub feeds_err : {old mid : Seat} {v u : View} {xs : List ℕ} (new : Seat) (w : View) (ys : List ℕ) (e : FeedStop) (a : FedOn old mid v u xs) → Feeds mid new u w ys (Err e) → Feeds old new v w (xs ++ ys) (Err e)
+pub feeds_err : {old mid : Seat} {told : Option (ℤ × ℕ)} {v u : View} {xs : List ℕ} (new : Seat) (w : View) (ys : List ℕ) (e : FeedStop) (a : FedOn old mid told v u xs) → Feeds mid new told u w ys (Err e) → Feeds old new told v w (xs ++ ys) (Err e)
 feeds_err new w ys (stops.Refused refusal at) a b = fed_more ys a b
 feeds_err new w ys stops.NoMemory a b = fed_part_more ys a b
 
 -- no byte, where what is held is no whole frame and isn't refused
-pub fed_nothing : (old : Seat) (v : View) → cut v.place v.held ≡ none_cut v.place v.held → refusal_from v.place v.held ≡ None → FedOn old old v v []
-fed_nothing old v none fine =
+pub fed_nothing : (old : Seat) (told : Option (ℤ × ℕ)) (v : View) → cut v.place v.held ≡ none_cut v.place v.held → refusal_from v.place v.held ≡ None → FedOn old old told v v []
+fed_nothing old told v none fine =
     let nil = append-nil v.held in record {
       fed = record {
         steps = [];
         follows = subst (λ (z : List ℕ). Follows old.seen.base v.state v.place z [] None) (sym nil) (follows_nothing old.seen.base v.state v.place v.held (ap (λ (c : Cut). c.frames) none) fine);
         state = refl;
         adds = adds_nothing old;
+        moments = tt;
         out = sym (append-nil v.pending);
       };
       place = sym (ap (λ (c : Cut). c.place) none) ∙ ap (place_from v.place) (sym nil);
       held = sym (ap (λ (c : Cut). c.held) none) ∙ ap (held_of v.place) (sym nil);
     }
+
+-- the moment that a call was given is the one that the clock tells
+
+mark_told : (told : Option (ℤ × ℕ)) (moment : ℤ × ℕ) (mark : Mark) → IfSome told (λ m. (moment.0 ≡ m.0) × (moment.1 ≡ m.1)) → HasMoment (Some moment) mark → HasMoment told mark
+mark_told None moment mark same has = tt
+mark_told (Some m) moment (Read at channel footprint found) same has = tt
+mark_told (Some m) moment (Entered at entry) same has = has ∙ (λ i. (same.0 i, same.1 i))
+mark_told (Some m) moment (Overweight at footprint actions kept added limit) same has = tt
+
+marks_told : (told : Option (ℤ × ℕ)) (moment : ℤ × ℕ) (marks : List Mark) → IfSome told (λ m. (moment.0 ≡ m.0) × (moment.1 ≡ m.1)) → HaveMoment (Some moment) marks → HaveMoment told marks
+marks_told told moment [] same have = tt
+marks_told told moment (mark ∷ marks) same have = (mark_told told moment mark same have.0, marks_told told moment marks same have.1)
+
+fed_told : {old new : Seat} (told : Option (ℤ × ℕ)) (moment : ℤ × ℕ) {v w : View} {bytes : List ℕ} {t : Trouble} → IfSome told (λ m. (moment.0 ≡ m.0) × (moment.1 ≡ m.1)) → Fed old new (Some moment) v w bytes t → Fed old new told v w bytes t
+fed_told told moment same a = record {
+  steps = a.steps;
+  follows = a.follows;
+  state = a.state;
+  adds = a.adds;
+  moments = marks_told told moment (marks_of a.steps) same a.moments;
+  out = a.out;
+}
+
+pub feeds_told : (old new : Seat) (told : Option (ℤ × ℕ)) (moment : ℤ × ℕ) (v w : View) (bytes : List ℕ) (result : Result (Unit {0}) FeedStop) → IfSome told (λ m. (moment.0 ≡ m.0) × (moment.1 ≡ m.1)) → Feeds old new (Some moment) v w bytes result → Feeds old new told v w bytes result
+feeds_told old new told moment v w bytes (Ok u) same a = record { fed = fed_told told moment same a.fed; place = a.place; held = a.held }
+feeds_told old new told moment v w bytes (Err (stops.Refused refusal at)) same a = fed_told told moment same a
+feeds_told old new told moment v w bytes (Err stops.NoMemory) same a = record {
+  steps = a.steps;
+  more = a.more;
+  rules = a.rules;
+  front = a.front;
+  part = a.part;
+  adds = a.adds;
+  moments = marks_told told moment (marks_of a.steps ++ a.more) same a.moments;
+  out = a.out;
+}

@@ -1,5 +1,5 @@
 -- A connection goes on by one call.
-use Rattle.std.proofs.Common.{◌≡◌, ℕ, ◌+◌, ◌<◌, ◌≤◌, ◌⊎◌, inl, inr, Bool, true, false, List, [], ◌∷◌, ◌++◌, length, take, drop, None, refl, sym, ◌∙◌, ap, subst, arith, append_assoc, length-append, length-take, take-append-drop, eqb}
+use Rattle.std.proofs.Common.{◌≡◌, ℕ, ℤ, ◌+◌, ◌<◌, ◌≤◌, ◌⊎◌, inl, inr, Bool, true, false, List, [], ◌∷◌, ◌++◌, length, take, drop, Option, None, refl, sym, ◌∙◌, ap, subst, arith, append_assoc, length-append, length-take, take-append-drop, eqb}
 use Rattle.std.proofs.lemmas.Bool.{false≢true}
 use Rattle.std.proofs.Math.Dec.{eqb-suc-zero}
 use Rattle.std.proofs.lemmas.List.{append-nil}
@@ -9,8 +9,8 @@ use Rattle.pva_wire.specs.declared.order.Order.{Order}
 use Rattle.pva_messages.specs.Frames.{Frame, Cut, frames_from, place_from, held_of}
 use Rattle.pva_messages.specs.Replies.{greeting}
 use Rattle.pva_messages.specs.Cutting.{cut_none, frames_append, place_append, held_append}
-use Rattle.desk_api.specs.Marks.{Adds}
-use Rattle.desk_api.specs.Adding.{adds_nothing, adds_more}
+use Rattle.desk_api.specs.Marks.{Adds, HaveMoment}
+use Rattle.desk_api.specs.Adding.{adds_nothing, adds_more, moments_append}
 use Rattle.desk_api.specs.declared.history.Base.{Base}
 use Rattle.desk_api.specs.declared.mark.Mark.{Mark}
 use Rattle.desk_api.specs.declared.mark.Seat.{Seat}
@@ -58,8 +58,8 @@ settled_log {base} {order} {r} {w} {l} more (inr s) = inr (record {
   begins = s.begins;
 })
 
-pub going_start : (old : Seat) (start : Wire) (order : Order) → Going old old start start order (first_view order) None false 0
-going_start old start order = record {
+pub going_start : (old : Seat) (start : Wire) (told : Option (ℤ × ℕ)) (order : Order) → Going old old start start told order (first_view order) None false 0
+going_start old start told order = record {
   read = [];
   written = [];
   steps = [];
@@ -69,6 +69,7 @@ going_start old start order = record {
   place = λ _. sym (ap (λ (c : Cut). c.place) (cut_none 0));
   held = λ _. sym (ap (λ (c : Cut). c.held) (cut_none 0));
   adds = adds_nothing old;
+  moments = tt;
   bytes = append-nil (greeting order);
   settled = inl refl;
   ends = refl;
@@ -78,8 +79,8 @@ going_start old start order = record {
 }
 
 -- no byte moved, and a count may have risen
-module _ {old new : Seat} {start wire : Wire} {order : Order} {v : View} {trouble : Trouble} {at_end : Bool} {calls : ℕ} (a : Going old new start wire order v trouble at_end calls) where
-  pub going_idle : (wire2 : Wire) → Idled wire wire2 → Going old new start wire2 order v trouble at_end (calls + 1)
+module _ {old new : Seat} {start wire : Wire} {told : Option (ℤ × ℕ)} {order : Order} {v : View} {trouble : Trouble} {at_end : Bool} {calls : ℕ} (a : Going old new start wire told order v trouble at_end calls) where
+  pub going_idle : (wire2 : Wire) → Idled wire wire2 → Going old new start wire2 told order v trouble at_end (calls + 1)
   going_idle wire2 x = record {
     read = a.read;
     written = a.written;
@@ -90,6 +91,7 @@ module _ {old new : Seat} {start wire : Wire} {order : Order} {v : View} {troubl
     place = a.place;
     held = a.held;
     adds = a.adds;
+    moments = a.moments;
     bytes = a.bytes;
     settled = a.settled;
     ends = subst (λ (z : ℕ). SawEnd at_end start.ends z) (sym x.ends) a.ends;
@@ -98,7 +100,7 @@ module _ {old new : Seat} {start wire : Wire} {order : Order} {v : View} {troubl
     quota = λ low. let rose = x.idles.more low in let before = a.quota (omega (arith, x.idles.kept)) in omega arith;
   }
 
-  pub going_failed : (wire2 : Wire) → Failed wire wire2 → Going old new start wire2 order v trouble at_end calls
+  pub going_failed : (wire2 : Wire) → Failed wire wire2 → Going old new start wire2 told order v trouble at_end calls
   going_failed wire2 x = record {
     read = a.read;
     written = a.written;
@@ -109,6 +111,7 @@ module _ {old new : Seat} {start wire : Wire} {order : Order} {v : View} {troubl
     place = a.place;
     held = a.held;
     adds = a.adds;
+    moments = a.moments;
     bytes = a.bytes;
     settled = a.settled;
     ends = subst (λ (z : ℕ). SawEnd at_end start.ends z) (sym x.ends) a.ends;
@@ -118,7 +121,7 @@ module _ {old new : Seat} {start wire : Wire} {order : Order} {v : View} {troubl
   }
 
   -- bytes were written
-  pub going_took : (wire2 : Wire) (w : View) (n : ℕ) → Taken wire wire2 n v.pending → w ≡ record v { pending = drop n v.pending } → Going old new start wire2 order w trouble at_end (calls + 1)
+  pub going_took : (wire2 : Wire) (w : View) (n : ℕ) → Taken wire wire2 n v.pending → w ≡ record v { pending = drop n v.pending } → Going old new start wire2 told order w trouble at_end (calls + 1)
   going_took wire2 w n x is = record {
     read = a.read;
     written = a.written ++ take n v.pending;
@@ -129,6 +132,7 @@ module _ {old new : Seat} {start wire : Wire} {order : Order} {v : View} {troubl
     place = λ ok. ap (λ (z : View). z.place) is ∙ a.place ok;
     held = λ ok. ap (λ (z : View). z.held) is ∙ a.held ok;
     adds = a.adds;
+    moments = a.moments;
     bytes = a.bytes ∙ ap (λ (z : List ℕ). a.written ++ z) (sym (take-append-drop n v.pending)) ∙ sym (append_assoc a.written (take n v.pending) (drop n v.pending)) ∙ ap (λ (z : List ℕ). (a.written ++ take n v.pending) ++ z) (sym (ap (λ (z : View). z.pending) is));
     settled = settled_written (take n v.pending) a.settled;
     ends = subst (λ (z : ℕ). SawEnd at_end start.ends z) (sym x.counts.ends) a.ends;
@@ -138,7 +142,7 @@ module _ {old new : Seat} {start wire : Wire} {order : Order} {v : View} {troubl
         let more : length (a.written ++ take n v.pending) ≡ length a.written + n = length-append a.written (take n v.pending) ∙ simp length-take (omega (arith, x.fits)) in omega (arith, x.counts.idles, x.some);
   }
 
-  pub broken_by_call : (wire2 : Wire) → Unchanged wire wire2 → Broken old new start wire2 order
+  pub broken_by_call : (wire2 : Wire) → Unchanged wire wire2 → Broken old new start wire2 told order
   broken_by_call wire2 x = record {
     read = a.read;
     written = a.written;
@@ -147,14 +151,15 @@ module _ {old new : Seat} {start wire : Wire} {order : Order} {v : View} {troubl
     moves = moves_rest a.moves x.rests;
     rules = a.follows.rules;
     front = record { rest = a.follows.remaining; whole = a.follows.all };
-    part = no_row_part (state_after (opening order) a.steps) a.follows.remaining;
+    part = no_row_part old.seen.base (state_after (opening order) a.steps) a.follows.remaining;
     adds = subst (λ (z : List Mark). Adds old new z) (sym (append-nil (marks_of a.steps))) a.adds;
+    moments = subst (HaveMoment told) (sym (append-nil (marks_of a.steps))) a.moments;
     begins = record { rest = v.pending; whole = a.bytes };
     settled = settled_log [] a.settled;
   }
 
 -- a read, where all was written
-module _ {old new : Seat} {start wire : Wire} {order : Order} {v : View} {calls : ℕ} (i : Idling old new start wire order v None false calls) (wire2 : Wire) where
+module _ {old new : Seat} {start wire : Wire} {told : Option (ℤ × ℕ)} {order : Order} {v : View} {calls : ℕ} (i : Idling old new start wire told order v None false calls) (wire2 : Wire) where
   written_is : greeting order ++ out_of i.going.steps ≡ i.going.written
   written_is = i.going.bytes ∙ ap (λ (z : List ℕ). i.going.written ++ z) i.empty ∙ append-nil i.going.written
 
@@ -174,7 +179,7 @@ module _ {old new : Seat} {start wire : Wire} {order : Order} {v : View} {calls 
         begins = record { rest = []; whole = sym (append-nil i.going.written) };
       })
 
-  pub going_end : CameToEnd wire wire2 → Going old new start wire2 order v None true (calls + 1)
+  pub going_end : CameToEnd wire wire2 → Going old new start wire2 told order v None true (calls + 1)
   going_end x = record {
     read = i.going.read;
     written = i.going.written;
@@ -185,6 +190,7 @@ module _ {old new : Seat} {start wire : Wire} {order : Order} {v : View} {calls 
     place = i.going.place;
     held = i.going.held;
     adds = i.going.adds;
+    moments = i.going.moments;
     bytes = i.going.bytes;
     settled = i.going.settled;
     ends = subst (λ (z : ℕ). Rose z wire2.ends) i.going.ends x.ends;
@@ -200,7 +206,7 @@ module _ {old new : Seat} {start wire : Wire} {order : Order} {v : View} {calls 
     long : length (take n buffer) ≡ n
     long = simp length-take (omega (arith, x.fits))
 
-    pub going_fed : {new2 : Seat} {w : View} (trouble : Trouble) (b : Fed new new2 v w (take n buffer) trouble) → (trouble ≡ None → w.place ≡ place_from v.place (v.held ++ take n buffer)) → (trouble ≡ None → w.held ≡ held_of v.place (v.held ++ take n buffer)) → Going old new2 start wire2 order w trouble false (calls + 1)
+    pub going_fed : {new2 : Seat} {w : View} (trouble : Trouble) (b : Fed new new2 told v w (take n buffer) trouble) → (trouble ≡ None → w.place ≡ place_from v.place (v.held ++ take n buffer)) → (trouble ≡ None → w.held ≡ held_of v.place (v.held ++ take n buffer)) → Going old new2 start wire2 told order w trouble false (calls + 1)
     going_fed {new2} {w} trouble b place held =
         let g = i.going in record {
           read = g.read ++ take n buffer;
@@ -212,6 +218,7 @@ module _ {old new : Seat} {start wire : Wire} {order : Order} {v : View} {calls 
           place = λ ok. place ok ∙ ap (λ (z : ℕ). place_from z (v.held ++ take n buffer)) (g.place refl) ∙ ap (λ (z : List ℕ). place_from (place_from 0 g.read) (z ++ take n buffer)) (g.held refl) ∙ sym (place_append 0 g.read (take n buffer));
           held = λ ok. held ok ∙ ap (λ (z : ℕ). held_of z (v.held ++ take n buffer)) (g.place refl) ∙ ap (λ (z : List ℕ). held_of (place_from 0 g.read) (z ++ take n buffer)) (g.held refl) ∙ sym (held_append 0 g.read (take n buffer));
           adds = subst (λ (z : List Mark). Adds old new2 z) (sym (marks_append g.steps b.steps)) (adds_more g.adds b.adds);
+          moments = subst (HaveMoment told) (sym (marks_append g.steps b.steps)) (moments_append told (marks_of g.steps) (marks_of b.steps) g.moments b.moments);
           bytes = ap (λ (z : List ℕ). greeting order ++ z) (out_append g.steps b.steps) ∙ sym (append_assoc (greeting order) (out_of g.steps) (out_of b.steps))
               ∙ ap (λ (z : List ℕ). z ++ out_of b.steps) g.bytes ∙ append_assoc g.written v.pending (out_of b.steps) ∙ ap (λ (z : List ℕ). g.written ++ z) (sym b.out);
           settled = subst (λ (z : List Mark). (g.read ++ take n buffer ≡ []) ⊎ Settled old.seen.base order (g.read ++ take n buffer) g.written z) (sym (marks_append g.steps b.steps)) (settle (take n buffer) (marks_of b.steps) (omega (arith, long, x.fits)));
@@ -221,7 +228,7 @@ module _ {old new : Seat} {start wire : Wire} {order : Order} {v : View} {calls 
           quota = λ low. let before = g.quota (omega (arith, x.counts.idles)) in omega (arith, x.counts.idles, x.some, long, length-append g.read (take n buffer));
         }
 
-    pub broken_by_feed : {new2 : Seat} {w : View} → FedPart new new2 v w (take n buffer) → Broken old new2 start wire2 order
+    pub broken_by_feed : {new2 : Seat} {w : View} → FedPart new new2 told v w (take n buffer) → Broken old new2 start wire2 told order
     broken_by_feed {new2} {w} b =
         let g = i.going in
         let h = all_answered g.follows in
@@ -229,7 +236,9 @@ module _ {old new : Seat} {start wire : Wire} {order : Order} {v : View} {calls 
         let rules : AreSteps old.seen.base (state_after (opening order) g.steps) b.steps =
         subst (λ (z : Base). AreSteps z (state_after (opening order) g.steps) b.steps) g.adds.grows.same (subst (λ (z : State). AreSteps new.seen.base z b.steps) g.state b.rules) in
         let second : frames_from (place_from 0 g.read) (held_of 0 g.read ++ piece) ≡ events_of b.steps ++ b.front.rest =
-        ap (λ (z : ℕ). frames_from z (held_of 0 g.read ++ piece)) (sym (g.place refl)) ∙ ap (λ (z : List ℕ). frames_from v.place (z ++ piece)) (sym (g.held refl)) ∙ b.front.whole in record {
+        ap (λ (z : ℕ). frames_from z (held_of 0 g.read ++ piece)) (sym (g.place refl)) ∙ ap (λ (z : List ℕ). frames_from v.place (z ++ piece)) (sym (g.held refl)) ∙ b.front.whole in
+        let marks : marks_of g.steps ++ (marks_of b.steps ++ b.more) ≡ marks_of (g.steps ++ b.steps) ++ b.more =
+        sym (append_assoc (marks_of g.steps) (marks_of b.steps) b.more) ∙ ap (λ (z : List Mark). z ++ b.more) (sym (marks_append g.steps b.steps)) in record {
           read = g.read ++ piece;
           written = g.written;
           steps = g.steps ++ b.steps;
@@ -242,27 +251,28 @@ module _ {old new : Seat} {start wire : Wire} {order : Order} {v : View} {calls 
                 ∙ sym (append_assoc (events_of g.steps) (events_of b.steps) b.front.rest)
                 ∙ ap (λ (z : List Frame). z ++ b.front.rest) (sym (events_append g.steps b.steps));
           };
-          part = subst (λ (z : State). RowPart z b.front.rest b.more) (ap (λ (z : State). state_after z b.steps) g.state ∙ sym (after_append (opening order) g.steps b.steps)) b.part;
-          adds = subst (λ (z : List Mark). Adds old new2 z) (sym (append_assoc (marks_of g.steps) (marks_of b.steps) b.more) ∙ ap (λ (z : List Mark). z ++ b.more) (sym (marks_append g.steps b.steps))) (adds_more g.adds b.adds);
+          part = subst (λ (z : Base). RowPart z (state_after (opening order) (g.steps ++ b.steps)) b.front.rest b.more) g.adds.grows.same
+              (subst (λ (z : State). RowPart new.seen.base z b.front.rest b.more) (ap (λ (z : State). state_after z b.steps) g.state ∙ sym (after_append (opening order) g.steps b.steps)) b.part);
+          adds = subst (λ (z : List Mark). Adds old new2 z) marks (adds_more g.adds b.adds);
+          moments = subst (HaveMoment told) marks (moments_append told (marks_of g.steps) (marks_of b.steps ++ b.more) g.moments b.moments);
           begins = record {
             rest = out_of b.steps;
             whole = ap (λ (z : List ℕ). greeting order ++ z) (out_append g.steps b.steps) ∙ sym (append_assoc (greeting order) (out_of g.steps) (out_of b.steps)) ∙ ap (λ (z : List ℕ). z ++ out_of b.steps) written_is;
           };
-          settled = subst (λ (z : List Mark). (g.read ++ piece ≡ []) ⊎ Settled old.seen.base order (g.read ++ piece) g.written z)
-              (sym (append_assoc (marks_of g.steps) (marks_of b.steps) b.more) ∙ ap (λ (z : List Mark). z ++ b.more) (sym (marks_append g.steps b.steps)))
+          settled = subst (λ (z : List Mark). (g.read ++ piece ≡ []) ⊎ Settled old.seen.base order (g.read ++ piece) g.written z) marks
               (settle piece (marks_of b.steps ++ b.more) (omega (arith, long, x.fits)));
         }
 
 -- by other names
-pub going_as : {old new : Seat} {start wire : Wire} {order : Order} {v : View} {trouble other : Trouble} {at_end at_end2 : Bool} {calls : ℕ} → trouble ≡ other → at_end ≡ at_end2 → Going old new start wire order v trouble at_end calls → Going old new start wire order v other at_end2 calls
-going_as {old} {new} {start} {wire} {order} {v} {trouble} {other} {at_end} {at_end2} {calls} is_trouble is_end i =
-    subst (λ (z : Bool). Going old new start wire order v other z calls) is_end (subst (λ (z : Trouble). Going old new start wire order v z at_end calls) is_trouble i)
+pub going_as : {old new : Seat} {start wire : Wire} {told : Option (ℤ × ℕ)} {order : Order} {v : View} {trouble other : Trouble} {at_end at_end2 : Bool} {calls : ℕ} → trouble ≡ other → at_end ≡ at_end2 → Going old new start wire told order v trouble at_end calls → Going old new start wire told order v other at_end2 calls
+going_as {old} {new} {start} {wire} {told} {order} {v} {trouble} {other} {at_end} {at_end2} {calls} is_trouble is_end i =
+    subst (λ (z : Bool). Going old new start wire told order v other z calls) is_end (subst (λ (z : Trouble). Going old new start wire told order v z at_end calls) is_trouble i)
 
 -- nothing is to be written
-pub idle_at : {old new : Seat} {start wire : Wire} {order : Order} {v : View} {trouble other : Trouble} {at_end at_end2 : Bool} {calls : ℕ} → Going old new start wire order v trouble at_end calls → v.pending ≡ [] → trouble ≡ other → at_end ≡ at_end2 → Idling old new start wire order v other at_end2 calls
+pub idle_at : {old new : Seat} {start wire : Wire} {told : Option (ℤ × ℕ)} {order : Order} {v : View} {trouble other : Trouble} {at_end at_end2 : Bool} {calls : ℕ} → Going old new start wire told order v trouble at_end calls → v.pending ≡ [] → trouble ≡ other → at_end ≡ at_end2 → Idling old new start wire told order v other at_end2 calls
 idle_at a empty is_trouble is_end = record { going = going_as is_trouble is_end a; empty = empty }
 
-pub idling_failed : {old new : Seat} {start wire : Wire} {order : Order} {v : View} {trouble : Trouble} {at_end : Bool} {calls : ℕ} (i : Idling old new start wire order v trouble at_end calls) (wire2 : Wire) → Failed wire wire2 → Idling old new start wire2 order v trouble at_end calls
+pub idling_failed : {old new : Seat} {start wire : Wire} {told : Option (ℤ × ℕ)} {order : Order} {v : View} {trouble : Trouble} {at_end : Bool} {calls : ℕ} (i : Idling old new start wire told order v trouble at_end calls) (wire2 : Wire) → Failed wire wire2 → Idling old new start wire2 told order v trouble at_end calls
 idling_failed i wire2 x = record { going = going_failed i.going wire2 x; empty = i.empty }
 
 pub rose_from : (a b c : ℕ) → b ≡ a → Rose b c → Rose a c

@@ -1,12 +1,12 @@
 -- One frame, or bytes that make none.
-use Rattle.std.proofs.Common.{◌≡◌, ℕ, ◌+◌, true, List, [], ◌∷◌, ◌++◌, length, take, drop, None, Some, Err, refl, sym, ◌∙◌, ap, subst, arith, length-drop, get_or, take-append-drop}
+use Rattle.std.proofs.Common.{◌≡◌, ℕ, ℤ, ◌+◌, true, List, [], ◌∷◌, ◌++◌, length, take, drop, Option, None, Some, Err, refl, sym, ◌∙◌, ap, subst, arith, length-drop, get_or, take-append-drop}
 use Rattle.std.proofs.lemmas.List.{append-nil, take_all, drop_all, length-take-le}
 use Rattle.pva_messages.specs.Frames.{command, number, Frame, Cut, cut, with_frame, front_of, refused, frames_from, refusal_from}
 use Rattle.pva_messages.specs.Cutting.{takes, front_is, front_from, same_header, cut_whole, cut_unfinished, cut_refused, cut_none}
 use Rattle.pva_messages.specs.declared.frame.Front.{Front}
 use Rattle.pva_messages.specs.declared.frame.Front.TheVariants.{Unfinished, Whole, Refused}
 use Rattle.pva_messages.specs.declared.frame.Refusal.{Refusal}
-use Rattle.desk_api.specs.Marks.{Adds}
+use Rattle.desk_api.specs.Marks.{Adds, HaveMoment}
 use Rattle.desk_api.specs.Adding.{adds_nothing}
 use Rattle.desk_api.specs.declared.mark.Mark.{Mark}
 use Rattle.desk_api.specs.declared.mark.Seat.{Seat}
@@ -37,14 +37,15 @@ pub unrefused_none : (at : ℕ) → refusal_from at [] ≡ None
 unrefused_none at = ap (λ (c : Cut). refused (front_of c.held) c.place) (cut_none at) ∙ none_refused at
 
 -- bytes are kept
-pub kept : (old : Seat) (v w : View) (bytes : List ℕ) → front_of (v.held ++ bytes) ≡ Unfinished → w ≡ record v { held = v.held ++ bytes } → FedOn old old v w bytes
-kept old v w bytes e is =
+pub kept : (old : Seat) (told : Option (ℤ × ℕ)) (v w : View) (bytes : List ℕ) → front_of (v.held ++ bytes) ≡ Unfinished → w ≡ record v { held = v.held ++ bytes } → FedOn old old told v w bytes
+kept old told v w bytes e is =
     let none = cut_unfinished v.place (v.held ++ bytes) e in record {
       fed = record {
         steps = [];
         follows = follows_nothing old.seen.base v.state v.place (v.held ++ bytes) (ap (λ (c : Cut). c.frames) none) (unrefused v.place (v.held ++ bytes) e);
         state = ap (λ (z : View). z.state) is;
         adds = adds_nothing old;
+        moments = tt;
         out = ap (λ (z : View). z.pending) is ∙ sym (append-nil v.pending);
       };
       place = ap (λ (z : View). z.place) is ∙ sym (ap (λ (c : Cut). c.place) none);
@@ -52,8 +53,8 @@ kept old v w bytes e is =
     }
 
 -- a header is refused
-pub refused_header : (old : Seat) (v w : View) (bytes : List ℕ) (why : Refusal) → front_of (v.held ++ bytes) ≡ Refused why → w.state ≡ v.state → w.pending ≡ v.pending → Fed old old v w bytes (Some (why, v.place))
-refused_header old v w bytes why e state out = record {
+pub refused_header : (old : Seat) (told : Option (ℤ × ℕ)) (v w : View) (bytes : List ℕ) (why : Refusal) → front_of (v.held ++ bytes) ≡ Refused why → w.state ≡ v.state → w.pending ≡ v.pending → Fed old old told v w bytes (Some (why, v.place))
+refused_header old told v w bytes why e state out = record {
   steps = [];
   follows = record {
     rules = tt;
@@ -63,18 +64,20 @@ refused_header old v w bytes why e state out = record {
   };
   state = state;
   adds = adds_nothing old;
+  moments = tt;
   out = out ∙ sym (append-nil v.pending);
 }
 
 -- memory ran out before a frame was answered
-pub none_taken : (old : Seat) (v w : View) (bytes : List ℕ) → w.pending ≡ v.pending → ((s : State) (events : List Frame) → RowPart s events []) → FedPart old old v w bytes
-none_taken old v w bytes out none = record {
+pub none_taken : (old : Seat) (told : Option (ℤ × ℕ)) (v w : View) (bytes : List ℕ) → w.pending ≡ v.pending → ((s : State) (events : List Frame) → RowPart old.seen.base s events []) → FedPart old old told v w bytes
+none_taken old told v w bytes out none = record {
   steps = [];
   more = [];
   rules = tt;
   front = record { rest = frames_from v.place (v.held ++ bytes); whole = refl };
   part = none v.state (frames_from v.place (v.held ++ bytes));
   adds = adds_nothing old;
+  moments = tt;
   out = out ∙ sym (append-nil v.pending);
 }
 
@@ -96,7 +99,7 @@ whole_alone xs c size e =
     })
 
 -- One whole frame: what was held and these bytes are it, and the session answers it in the view `u`.
-module _ (old new : Seat) (v u : View) (bytes xs : List ℕ) (c size : ℕ) (is : xs ≡ v.held ++ bytes) (front : front_of xs ≡ Whole c size) (all : length xs ≡ 8 + size) (state : u.state ≡ v.state) (place : u.place ≡ v.place) (pending : u.pending ≡ v.pending) where
+module _ (old new : Seat) (moment : ℤ × ℕ) (v u : View) (bytes xs : List ℕ) (c size : ℕ) (is : xs ≡ v.held ++ bytes) (front : front_of xs ≡ Whole c size) (all : length xs ≡ 8 + size) (state : u.state ≡ v.state) (place : u.place ≡ v.place) (pending : u.pending ≡ v.pending) where
   abbrev frame : Frame
   frame = record { command = c; payload = drop 8 xs; place = u.place }
 
@@ -120,7 +123,7 @@ module _ (old new : Seat) (v u : View) (bytes xs : List ℕ) (c size : ℕ) (is 
   unrefused_rest : refusal_from v.place (v.held ++ bytes) ≡ None
   unrefused_rest = ap (λ (k : Cut). refused (front_of k.held) k.place) alone ∙ none_refused (v.place + (8 + size))
 
-  pub passed : (t w : View) → Passed old new u t frame → w ≡ record t { held = [] } → FedOn old new v w bytes
+  pub passed : (t w : View) → Passed old new moment u t frame → w ≡ record t { held = [] } → FedOn old new (Some moment) v w bytes
   passed t w x same = record {
     fed = record {
       steps = x.step ∷ [];
@@ -132,6 +135,7 @@ module _ (old new : Seat) (v u : View) (bytes xs : List ℕ) (c size : ℕ) (is 
       };
       state = ap (λ (z : View). z.state) same ∙ x.state;
       adds = subst (λ (z : List Mark). Adds old new z) (sym (append-nil x.step.marks)) x.adds;
+      moments = subst (HaveMoment (Some moment)) (sym (append-nil x.step.marks)) x.moments;
       out = ap (λ (z : View). z.pending) same ∙ x.out ∙ ap (λ (z : List ℕ). z ++ x.step.out) pending ∙ ap (λ (z : List ℕ). v.pending ++ z) (sym (append-nil x.step.out));
     };
     place =
@@ -140,7 +144,7 @@ module _ (old new : Seat) (v u : View) (bytes xs : List ℕ) (c size : ℕ) (is 
     held = ap (λ (z : View). z.held) same ∙ sym (ap (λ (k : Cut). k.held) alone);
   }
 
-  not_passed : (w : View) (refusal : Refusal) (at : ℕ) → NotPassed old new u w frame refusal at → Fed old new v w bytes (Some (refusal, at))
+  not_passed : (w : View) (refusal : Refusal) (at : ℕ) → NotPassed old new u w frame refusal at → Fed old new (Some moment) v w bytes (Some (refusal, at))
   not_passed w refusal at x = record {
     steps = [];
     follows = record {
@@ -151,20 +155,22 @@ module _ (old new : Seat) (v u : View) (bytes xs : List ℕ) (c size : ℕ) (is 
     };
     state = x.state ∙ state;
     adds = subst (λ (z : Seat). Adds old z []) (sym x.seat) (adds_nothing old);
+    moments = tt;
     out = x.out ∙ pending ∙ sym (append-nil v.pending);
   }
 
-  gave_up : (w : View) → GaveUp old new u.pending w.pending (Part u.state (message_at c (drop 8 xs))) → FedPart old new v w bytes
+  gave_up : (w : View) → GaveUp old new moment u.pending w.pending (Part old.seen.base u.state (message_at c (drop 8 xs))) → FedPart old new (Some moment) v w bytes
   gave_up w x = record {
     steps = [];
     more = x.marks;
     rules = tt;
     front = record { rest = frames_from v.place (v.held ++ bytes); whole = refl };
-    part = subst (λ (l : List Frame). RowPart v.state l x.marks) (sym frames) (subst (λ (z : State). Part z (message_at c (drop 8 xs)) x.marks) state x.part_is);
+    part = subst (λ (l : List Frame). RowPart old.seen.base v.state l x.marks) (sym frames) (subst (λ (z : State). Part old.seen.base z (message_at c (drop 8 xs)) x.marks) state x.part_is);
     adds = x.adds;
+    moments = x.moments;
     out = x.out ∙ pending ∙ sym (append-nil v.pending);
   }
 
-  pub stopped : (w : View) (e : FeedStop) → Passes old new u w frame (Err e) → Feeds old new v w bytes (Err e)
+  pub stopped : (w : View) (e : FeedStop) → Passes old new moment u w frame (Err e) → Feeds old new (Some moment) v w bytes (Err e)
   stopped w (stops.Refused refusal at) x = not_passed w refusal at x
   stopped w stops.NoMemory x = gave_up w x

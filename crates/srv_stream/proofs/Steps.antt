@@ -1,15 +1,15 @@
 -- Steps, and then more steps.
-use Rattle.std.proofs.Common.{◌≡◌, ℕ, List, [], ◌∷◌, ◌++◌, Option, None, Some, refl, sym, ◌∙◌, ap, subst, append_assoc}
+use Rattle.std.proofs.Common.{◌≡◌, ℕ, ℤ, List, [], ◌∷◌, ◌++◌, Option, None, Some, refl, sym, ◌∙◌, ap, subst, append_assoc}
 use Rattle.pva_messages.specs.Frames.{Frame}
 use Rattle.pva_messages.specs.Requests.{message_at}
 use Rattle.pva_messages.specs.declared.to_server.ToServer.{ToServer}
-use Rattle.pva_messages.specs.declared.to_server.ToServer.TheVariants.{Validation, Create, BeginGet, Get}
+use Rattle.pva_messages.specs.declared.to_server.ToServer.TheVariants.{Validation, Create, BeginGet, Get, BeginPut, Put}
 use Rattle.desk_api.specs.Naming.{found_is_channel}
 use Rattle.desk_api.specs.Sites.{channel_named}
 use Rattle.desk_api.specs.declared.channel.Channel.{Channel}
 use Rattle.desk_api.specs.declared.history.Base.{Base}
 use Rattle.desk_api.specs.declared.mark.Mark.{Mark}
-use Rattle.srv_stream.specs.Talk.{State, Step, CreateRow, BeginRow, GetRow, Answers, IsStepAt, AreSteps, state_after, event_list, events_of, marks_of, out_of, IsOf}
+use Rattle.srv_stream.specs.Talk.{State, Step, CreateRow, BeginRow, GetRow, BeginPutRow, PutRow, Answers, IsStepAt, AreSteps, state_after, event_list, events_of, marks_of, out_of, IsOf}
 
 pub after_append : (s : State) (xs ys : List Step) → state_after s (xs ++ ys) ≡ state_after (state_after s xs) ys
 after_append s [] ys = refl
@@ -46,12 +46,22 @@ get_on_site : (base : Base) (req : ℕ) (s : State) (o : Option Channel) (marks 
 get_on_site base req s None marks out t r ok = absurd r
 get_on_site base req s (Some channel) marks out t r ok = subst (IsOf base) (sym r.after_is) ok
 
+begin_put_on_site : (base : Base) (req : ℕ) (s : State) (o : Option Channel) (marks : List Mark) (out : List ℕ) (t : State) → BeginPutRow req s o marks out t → IsOf base s → IsOf base t
+begin_put_on_site base req s None marks out t r ok = absurd r
+begin_put_on_site base req s (Some channel) marks out t r ok = subst (IsOf base) (sym r.after_is) ok
+
+put_on_site : (base : Base) (req : ℕ) (number : ℤ) (s : State) (o : Option Channel) (marks : List Mark) (out : List ℕ) (t : State) → PutRow base req number s o marks out t → IsOf base s → IsOf base t
+put_on_site base req number s None marks out t r ok = absurd r
+put_on_site base req number s (Some channel) marks out t r ok = subst (IsOf base) (sym r.after_is) ok
+
 answer_on_site : (base : Base) (s : State) (m : Option ToServer) (marks : List Mark) (out : List ℕ) (t : State) → Answers base s m marks out t → IsOf base s → IsOf base t
 answer_on_site base s None marks out t r ok = absurd r
 answer_on_site base s (Some (Validation buffer registry qos)) marks out t r ok = subst (IsOf base) (sym r.after_is) ok
 answer_on_site base s (Some (Create cid name)) marks out t r ok = create_on_site base cid name s (channel_named base name) marks out t refl r ok
 answer_on_site base s (Some (BeginGet sid req)) marks out t r ok = begin_on_site base req s s.channel marks out t r ok
 answer_on_site base s (Some (Get sid req)) marks out t r ok = get_on_site base req s s.channel marks out t r ok
+answer_on_site base s (Some (BeginPut sid req)) marks out t r ok = begin_put_on_site base req s s.channel marks out t r ok
+answer_on_site base s (Some (Put sid req number)) marks out t r ok = put_on_site base req number s s.channel marks out t r ok
 
 step_on_site : (base : Base) (s : State) (o : Option Frame) (x : Step) → IsStepAt base s o x → IsOf base s → IsOf base x.after
 step_on_site base s None x r ok = absurd r

@@ -1,5 +1,5 @@
 -- What serving one connection means.
-use Rattle.std.specs.Prelude.{◌≡◌, ℕ, ◌+◌, ◌<◌, ◌≤◌, ◌^◌, ◌⊎◌, List, [], ◌++◌, length, Option, None, Some}
+use Rattle.std.specs.Prelude.{◌≡◌, ℕ, ℤ, ◌+◌, ◌<◌, ◌≤◌, ◌^◌, ◌⊎◌, List, [], ◌++◌, length, Option, None, Some}
 use Rattle.pva_outside.specs.Count.{Rose}
 use Rattle.pva_outside.specs.Wire.{Wire}
 use Rattle.pva_wire.specs.declared.order.Order.{Order}
@@ -8,7 +8,7 @@ use Rattle.pva_messages.specs.Replies.{greeting}
 use Rattle.pva_messages.specs.declared.frame.Refusal.{Refusal}
 use Rattle.pva_messages.specs.declared.frame.Refusal.TheVariants as refusals
 use Rattle.desk_api.specs.History.{IsPrefixOf}
-use Rattle.desk_api.specs.Marks.{Adds}
+use Rattle.desk_api.specs.Marks.{Adds, HaveMoment}
 use Rattle.desk_api.specs.declared.history.Base.{Base}
 use Rattle.desk_api.specs.declared.mark.Mark.{Mark}
 use Rattle.desk_api.specs.declared.mark.Seat.{Seat}
@@ -115,7 +115,7 @@ pub record AtNoMemory (base : Base) (order : Order) (read written : List ℕ) (l
   pub state : State
   pub talk : Talk base order events said out
   pub front : IsPrefixOf events (frames_from 0 read)
-  pub part : RowPart (state_after (opening order) talk.steps) front.rest more
+  pub part : RowPart base (state_after (opening order) talk.steps) front.rest more
   pub ends : AreEndings state endings
   pub log_is : (said ++ more) ++ endings ≡ log
   pub begins : IsPrefixOf written out
@@ -143,12 +143,14 @@ pub record IsSmooth (base : Base) (order : Order) (start end : Wire) (turns : �
 abbrev pub Completes : Base → Order → Wire → Wire → ℕ → List ℕ → List ℕ → Ended → Type 0
 Completes base order start end turns read written result = IsSmooth base order start end turns read written → (result ≡ ends.Closed) ⊎ (result ≡ ends.NoMemory)
 
--- One connection: what was read and written, the marks of the desk, and why it ended.
-pub record Served (old new : Seat) (start end : Wire) (order : Order) (turns : ℕ) (result : Ended) : Type 0 where
+-- One connection: what was read and written, the marks of the desk, and why it ended. The entries of the seat are those of
+-- its marks (`adds.own`), each at the moment that the clock tells.
+pub record Served (old new : Seat) (start end : Wire) (told : Option (ℤ × ℕ)) (order : Order) (turns : ℕ) (result : Ended) : Type 0 where
   pub log : List Mark
   pub read : List ℕ
   pub written : List ℕ
   pub adds : Adds old new log
+  pub moments : HaveMoment told log
   pub moves : Moves start end read written
   pub settled : (read ≡ []) ⊎ Settled old.seen.base order read written log
   pub answer : Answers old.seen.base order start end turns read written log result

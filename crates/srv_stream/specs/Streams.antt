@@ -1,11 +1,11 @@
 -- What pieces of a stream make a session say.
-use Rattle.std.specs.Prelude.{◌≡◌, ℕ, ◌+◌, ◌<◌, ◌≤◌, true, List, [], ◌∷◌, ◌++◌, length, take, Option, None, Some, Result, Ok, Err}
+use Rattle.std.specs.Prelude.{◌≡◌, ℕ, ℤ, ◌+◌, ◌<◌, ◌≤◌, true, List, [], ◌∷◌, ◌++◌, length, take, Option, None, Some, Result, Ok, Err}
 use Rattle.pva_messages.specs.Frames.{Frame, frames_from, place_from, held_of, refusal_from, unfinished}
 use Rattle.pva_messages.specs.Requests.{message_at}
 use Rattle.pva_messages.specs.declared.frame.Refusal.{Refusal}
 use Rattle.pva_messages.specs.declared.frame.Refusal.TheVariants as refusals
 use Rattle.desk_api.specs.History.{IsPrefixOf}
-use Rattle.desk_api.specs.Marks.{Adds}
+use Rattle.desk_api.specs.Marks.{Adds, HaveMoment}
 use Rattle.desk_api.specs.declared.history.Base.{Base}
 use Rattle.desk_api.specs.declared.mark.Mark.{Mark}
 use Rattle.desk_api.specs.declared.mark.Seat.{Seat}
@@ -40,51 +40,54 @@ pub record Follows (base : Base) (s : State) (at : ℕ) (bytes : List ℕ) (step
   pub all : frames_from at bytes ≡ events_of steps ++ remaining
   pub stands : Stands (state_after s steps) remaining (refusal_from at bytes) trouble
 
--- the bytes were taken, up to the first trouble
-pub record Fed (old new : Seat) (v w : View) (bytes : List ℕ) (trouble : Trouble) : Type 0 where
+-- The bytes were taken, up to the first trouble. The entries have the moment that is told.
+pub record Fed (old new : Seat) (told : Option (ℤ × ℕ)) (v w : View) (bytes : List ℕ) (trouble : Trouble) : Type 0 where
   pub steps : List Step
   pub follows : Follows old.seen.base v.state v.place (v.held ++ bytes) steps trouble
   pub state : w.state ≡ state_after v.state steps
   pub adds : Adds old new (marks_of steps)
+  pub moments : HaveMoment told (marks_of steps)
   pub out : w.pending ≡ v.pending ++ out_of steps
 
-pub record FedOn (old new : Seat) (v w : View) (bytes : List ℕ) : Type 0 where
-  pub fed : Fed old new v w bytes None
+pub record FedOn (old new : Seat) (told : Option (ℤ × ℕ)) (v w : View) (bytes : List ℕ) : Type 0 where
+  pub fed : Fed old new told v w bytes None
   pub place : w.place ≡ place_from v.place (v.held ++ bytes)
   pub held : w.held ≡ held_of v.place (v.held ++ bytes)
 
 -- Memory ran out: a part of the frames was answered, and marks of one more row may stand in the log.
-pub record FedPart (old new : Seat) (v w : View) (bytes : List ℕ) : Type 0 where
+pub record FedPart (old new : Seat) (told : Option (ℤ × ℕ)) (v w : View) (bytes : List ℕ) : Type 0 where
   pub steps : List Step
   pub more : List Mark
   pub rules : AreSteps old.seen.base v.state steps
   pub front : IsPrefixOf (events_of steps) (frames_from v.place (v.held ++ bytes))
-  pub part : RowPart (state_after v.state steps) front.rest more
+  pub part : RowPart old.seen.base (state_after v.state steps) front.rest more
   pub adds : Adds old new (marks_of steps ++ more)
+  pub moments : HaveMoment told (marks_of steps ++ more)
   pub out : w.pending ≡ v.pending ++ out_of steps
 
-abbrev pub Feeds : Seat → Seat → View → View → List ℕ → Result (Unit {0}) FeedStop → Type 0
-Feeds old new v w bytes (Ok u) = FedOn old new v w bytes
-Feeds old new v w bytes (Err (stops.Refused refusal at)) = Fed old new v w bytes (Some (refusal, at))
-Feeds old new v w bytes (Err stops.NoMemory) = FedPart old new v w bytes
+abbrev pub Feeds : Seat → Seat → Option (ℤ × ℕ) → View → View → List ℕ → Result (Unit {0}) FeedStop → Type 0
+Feeds old new told v w bytes (Ok u) = FedOn old new told v w bytes
+Feeds old new told v w bytes (Err (stops.Refused refusal at)) = Fed old new told v w bytes (Some (refusal, at))
+Feeds old new told v w bytes (Err stops.NoMemory) = FedPart old new told v w bytes
 
 -- some bytes of a piece were taken, or a refusal stands in it
-pub record Took (old new : Seat) (v w : View) (piece : List ℕ) (count : ℕ) : Type 0 where
+pub record Took (old new : Seat) (told : Option (ℤ × ℕ)) (v w : View) (piece : List ℕ) (count : ℕ) : Type 0 where
   pub some : 0 < count
   pub within : count ≤ length piece
-  pub fed : FedOn old new v w (take count piece)
+  pub fed : FedOn old new told v w (take count piece)
 
-abbrev pub Takes : Seat → Seat → View → View → List ℕ → Result ℕ FeedStop → Type 0
-Takes old new v w piece (Ok count) = Took old new v w piece count
-Takes old new v w piece (Err stop) = Feeds old new v w piece (Err stop)
+abbrev pub Takes : Seat → Seat → Option (ℤ × ℕ) → View → View → List ℕ → Result ℕ FeedStop → Type 0
+Takes old new told v w piece (Ok count) = Took old new told v w piece count
+Takes old new told v w piece (Err stop) = Feeds old new told v w piece (Err stop)
 
 -- one frame was answered, and the stream goes on behind it
-pub record Passed (old new : Seat) (v w : View) (e : Frame) : Type 0 where
+pub record Passed (old new : Seat) (moment : ℤ × ℕ) (v w : View) (e : Frame) : Type 0 where
   pub step : Step
   pub rule : IsStep old.seen.base v.state step
   pub event : step.event ≡ Some e
   pub state : w.state ≡ step.after
   pub adds : Adds old new step.marks
+  pub moments : HaveMoment (Some moment) step.marks
   pub out : w.pending ≡ v.pending ++ step.out
   pub place : w.place ≡ v.place + (8 + length e.payload)
   pub held : w.held ≡ v.held
@@ -98,10 +101,10 @@ pub record NotPassed (old new : Seat) (v w : View) (e : Frame) (refusal : Refusa
   pub state : w.state ≡ v.state
   pub out : w.pending ≡ v.pending
 
-abbrev pub Passes : Seat → Seat → View → View → Frame → Result (Unit {0}) FeedStop → Type 0
-Passes old new v w e (Ok u) = Passed old new v w e
-Passes old new v w e (Err (stops.Refused refusal at)) = NotPassed old new v w e refusal at
-Passes old new v w e (Err stops.NoMemory) = GaveUp old new v.pending w.pending (Part v.state (message_at e.command e.payload))
+abbrev pub Passes : Seat → Seat → ℤ × ℕ → View → View → Frame → Result (Unit {0}) FeedStop → Type 0
+Passes old new moment v w e (Ok u) = Passed old new moment v w e
+Passes old new moment v w e (Err (stops.Refused refusal at)) = NotPassed old new v w e refusal at
+Passes old new moment v w e (Err stops.NoMemory) = GaveUp old new moment v.pending w.pending (Part old.seen.base v.state (message_at e.command e.payload))
 
-abbrev pub AnswersFrame : Seat → Seat → View → View → ℕ → List ℕ → Result (Unit {0}) FeedStop → Type 0
-AnswersFrame old new v w command payload result = Passes old new v w (record { command = command; payload = payload; place = v.place }) result
+abbrev pub AnswersFrame : Seat → Seat → ℤ × ℕ → View → View → ℕ → List ℕ → Result (Unit {0}) FeedStop → Type 0
+AnswersFrame old new moment v w command payload result = Passes old new moment v w (record { command = command; payload = payload; place = v.place }) result

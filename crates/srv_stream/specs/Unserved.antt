@@ -1,5 +1,5 @@
 -- A connection that was never begun, since memory ran out first.
-use Rattle.std.specs.Prelude.{ℕ, List, [], ◌∷◌, Option, None, Some, refl}
+use Rattle.std.specs.Prelude.{ℕ, ℤ, List, [], ◌∷◌, Option, None, Some, Err, refl, pos}
 use Rattle.std.proofs.Common.{inl, inr, sym}
 use Rattle.std.proofs.lemmas.List.{append-nil}
 use Rattle.std.specs.Io.KnownBytes.{Appends, Consumes}
@@ -9,11 +9,13 @@ use Rattle.pva_messages.specs.Frames.{Frame, frames_from}
 use Rattle.pva_messages.specs.Replies.{greeting}
 use Rattle.pva_messages.specs.Requests.{message_at}
 use Rattle.pva_messages.specs.declared.to_server.ToServer.{ToServer}
-use Rattle.pva_messages.specs.declared.to_server.ToServer.TheVariants.{Validation, Create, BeginGet, Get}
+use Rattle.pva_messages.specs.declared.to_server.ToServer.TheVariants.{Validation, Create, BeginGet, Get, BeginPut, Put}
 use Rattle.desk_api.specs.Adding.{adds_nothing}
 use Rattle.desk_api.specs.declared.channel.Channel.{Channel}
+use Rattle.desk_api.specs.declared.history.Base.{Base}
 use Rattle.desk_api.specs.declared.mark.Seat.{Seat}
-use Rattle.srv_stream.specs.Talk.{State, opening, GetPart, Part, RowPart}
+use Rattle.desk_api.specs.declared.put.PutAnswer.TheVariants as answers
+use Rattle.srv_stream.specs.Talk.{State, opening, GetPart, PutPart, Part, RowPart}
 use Rattle.srv_stream.specs.Moves.{Moves}
 use Rattle.srv_stream.specs.Served.{Served}
 use Rattle.srv_stream.specs.declared.serve.Ended.TheVariants as ends
@@ -24,16 +26,22 @@ no_get : (o : Option Channel) → GetPart o []
 no_get None = refl
 no_get (Some channel) = inl refl
 
-pub no_part : (s : State) (m : Option ToServer) → Part s m []
-no_part s None = refl
-no_part s (Some (Validation buffer registry qos)) = refl
-no_part s (Some (Create cid name)) = refl
-no_part s (Some (BeginGet sid req)) = refl
-no_part s (Some (Get sid req)) = no_get s.channel
+pub no_put : (base : Base) (number : ℤ) (o : Option Channel) → PutPart base number o []
+no_put base number None = refl
+no_put base number (Some channel) = (Err (answers.NoMemory 0), ((pos 0, 0), record { marks_are = refl; done_is = refl }))
 
-pub no_row_part : (s : State) (events : List Frame) → RowPart s events []
-no_row_part s [] = refl
-no_row_part s (e ∷ more) = no_part s (message_at e.command e.payload)
+pub no_part : (base : Base) (s : State) (m : Option ToServer) → Part base s m []
+no_part base s None = refl
+no_part base s (Some (Validation buffer registry qos)) = refl
+no_part base s (Some (Create cid name)) = refl
+no_part base s (Some (BeginGet sid req)) = refl
+no_part base s (Some (Get sid req)) = no_get s.channel
+no_part base s (Some (BeginPut sid req)) = refl
+no_part base s (Some (Put sid req number)) = no_put base number s.channel
+
+pub no_row_part : (base : Base) (s : State) (events : List Frame) → RowPart base s events []
+no_row_part base s [] = refl
+no_row_part base s (e ∷ more) = no_part base s (message_at e.command e.payload)
 
 -- no byte moved
 
@@ -49,12 +57,13 @@ pub moves_nothing : (w : Wire) → Moves w w [] []
 moves_nothing w = record { taken = consumes_none w.left; given = appends_none w.written }
 
 -- nothing was begun
-pub never_served : (old : Seat) (start : Wire) (order : Order) (turns : ℕ) → Served old old start start order turns ends.NoMemory
-never_served old start order turns = record {
+pub never_served : (old : Seat) (start : Wire) (told : Option (ℤ × ℕ)) (order : Order) (turns : ℕ) → Served old old start start told order turns ends.NoMemory
+never_served old start told order turns = record {
   log = [];
   read = [];
   written = [];
   adds = adds_nothing old;
+  moments = tt;
   moves = moves_nothing start;
   settled = inl refl;
   answer = record {
@@ -66,7 +75,7 @@ never_served old start order turns = record {
     state = opening order;
     talk = record { steps = []; rules = tt; events_are = refl; marks_are = refl; out_is = append-nil (greeting order) };
     front = record { rest = frames_from 0 []; whole = refl };
-    part = no_row_part (opening order) (frames_from 0 []);
+    part = no_row_part old.seen.base (opening order) (frames_from 0 []);
     ends = refl;
     log_is = refl;
     begins = record { rest = greeting order; whole = refl };

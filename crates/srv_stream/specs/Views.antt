@@ -4,7 +4,7 @@ use Rattle.srv_stream.specs.Talk.{State}
 use Rattle.srv_stream.specs.declared.session.Session.{Session}
 
 abbrev pub state_of : Session → State
-state_of s = record { order = s.order; validated = s.validated; channel = s.channel; request = s.request }
+state_of s = record { order = s.order; validated = s.validated; channel = s.channel; get = s.get; put = s.put }
 
 -- what is still to be written
 abbrev pub output_of : Session → List ℕ

@@ -1,12 +1,14 @@
 // One connection, from its greeting to its end.
 ghost use Rattle.std.specs.Prelude.{◌≡◌, ◌≤◌};
 ghost use Rattle.srv_stream.specs.ServingView.{view_of, first_view};
+ghost use Rattle.srv_stream.specs.Streams.{Feeds};
+ghost use Rattle.srv_stream.specs.Talk.{IsOf};
 ghost use Rattle.srv_stream.specs.Going.{Stops};
 ghost use Rattle.srv_stream.specs.Going as going;
 ghost use Rattle.srv_stream.specs.Served.{Served};
 
 use crate::serving::{FeedStop, Serving};
-use desk_api::Desk;
+use desk_api::{Desk, Moment};
 use pva_messages::{FrameFault, Refusal};
 use pva_outside::{Clock, Link, ReadStep, WriteStep};
 use pva_wire::Order;
@@ -47,16 +49,32 @@ fn ended_by(refusal: Refusal, place: u64) -> Ended
     }
 }
 
+/// Answers the frames that a piece completes, at the moment that the clock then tells.
+fn feed<D: Desk, C: Clock>(
+    alloc: Global,
+    serving: &mut Serving,
+    desk: &mut D,
+    clock: &C,
+    piece: &[u8],
+) -> Result<(), FeedStop>
+    requires { IsOf (D.seat desk.old).seen.base (view_of serving.old).state }
+    ensures { Feeds (D.seat desk.old) (D.seat desk.new) (C.moment clock.now) (view_of serving.old) (view_of serving.new) piece.now result }
+{
+    let (seconds, nanoseconds) = clock.now();
+    serving.feed(alloc, desk, piece, Moment::new(seconds, nanoseconds))
+}
+
 /// Writes and reads until something ends it.
-fn serve<D: Desk, L: Link>(
+fn serve<D: Desk, L: Link, C: Clock>(
     alloc: Global,
     serving: &mut Serving,
     desk: &mut D,
     link: &mut L,
+    clock: &C,
     turns: u64,
 ) -> Ended
     requires { view_of serving.old ≡ first_view (view_of serving.old).state.order }
-    ensures { Stops (D.seat desk.old) (D.seat desk.new) (L.wire link.old) (L.wire link.new) (view_of serving.old).state.order (view_of serving.new) turns result }
+    ensures { Stops (D.seat desk.old) (D.seat desk.new) (L.wire link.old) (L.wire link.new) (C.moment clock.now) (view_of serving.old).state.order (view_of serving.new) turns result }
 {
     let mut buffer = [0u8; 4096];
     let mut calls = 0;
@@ -92,7 +110,7 @@ fn serve<D: Desk, L: Link>(
         }
         calls += 1;
         match link.read(&mut buffer) {
-            ReadStep::Got(n) => match serving.feed(alloc, desk, &buffer[..n]) {
+            ReadStep::Got(n) => match feed(alloc, serving, desk, clock, &buffer[..n]) {
                 Ok(()) => continue 'turns,
                 Err(stop) => match stop {
                     FeedStop::Refused(refusal, place) => {
@@ -115,19 +133,19 @@ fn serve<D: Desk, L: Link>(
 
 /// Serves one connection: writes what is pending, else reads up to 4,096 bytes and answers their frames, until the client
 /// ends the stream, something fails, or `turns` calls of the link's read or write were made. The replies are in this
-/// byte order. The clock tells a put its moment; nothing is put so far.
+/// byte order. A put has the moment that the clock tells when the piece is read that ends its message.
 pub fn serve_connection<D: Desk, L: Link, C: Clock>(
     alloc: Global,
     desk: &mut D,
     link: &mut L,
-    _clock: &C,
+    clock: &C,
     order: Order,
     turns: u64,
 ) -> Ended
-    ensures { Served (D.seat desk.old) (D.seat desk.new) (L.wire link.old) (L.wire link.new) order turns result }
+    ensures { Served (D.seat desk.old) (D.seat desk.new) (L.wire link.old) (L.wire link.new) (C.moment clock.now) order turns result }
 {
     let Ok(mut serving) = Serving::start(alloc, order) else {
         return Ended::NoMemory;
     };
-    serve(alloc, &mut serving, desk, link, turns)
+    serve(alloc, &mut serving, desk, link, clock, turns)
 }

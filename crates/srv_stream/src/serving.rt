@@ -1,10 +1,10 @@
 // A session behind the bytes of a stream.
-ghost use Rattle.std.specs.Prelude.{◌≡◌, ◌<◌, ◌≤◌, [], drop, length, IfOk};
+ghost use Rattle.std.specs.Prelude.{◌≡◌, ◌<◌, ◌≤◌, [], drop, length, Some, IfOk};
 ghost use Rattle.pva_messages.specs.Frames.{front_of};
 ghost use Rattle.pva_messages.specs.declared.frame.Front.TheVariants.{Unfinished};
 
 use crate::session::{Session, SessionStop};
-use desk_api::{Desk, NoMemory};
+use desk_api::{Desk, Moment, NoMemory};
 use pva_messages::{Front, Refusal, missing, read_front};
 use pva_wire::Order;
 use std::alloc::Global;
@@ -79,16 +79,20 @@ impl Serving {
         desk: &mut D,
         command: u8,
         frame: &[u8],
+        moment: Moment,
     ) -> Result<(), FeedStop>
         requires header { 8 ≤ length frame.now }
         requires site { IsOf (D.seat desk.old).seen.base (view_of self.old).state }
-        ensures { AnswersFrame (D.seat desk.old) (D.seat desk.new) (view_of self.old) (view_of self.new) command (drop 8 frame.now) result }
+        ensures { AnswersFrame (D.seat desk.old) (D.seat desk.new) moment (view_of self.old) (view_of self.new) command (drop 8 frame.now) result }
     {
         let size = frame.len() as u64;
         if self.place > u64::MAX - size {
             return Err(FeedStop::NoMemory);
         }
-        match self.session.handle(alloc, command, &frame[HEADER..], desk) {
+        match self
+            .session
+            .handle(alloc, command, &frame[HEADER..], desk, moment)
+        {
             Ok(()) => {
                 self.place += size;
                 Ok(())
@@ -106,11 +110,12 @@ impl Serving {
         alloc: Global,
         desk: &mut D,
         piece: &[u8],
+        moment: Moment,
     ) -> Result<usize, FeedStop>
         requires some { 0 < length piece.now }
         requires none { (view_of self.old).held ≡ [] }
         requires site { IsOf (D.seat desk.old).seen.base (view_of self.old).state }
-        ensures { Takes (D.seat desk.old) (D.seat desk.new) (view_of self.old) (view_of self.new) piece.now result }
+        ensures { Takes (D.seat desk.old) (D.seat desk.new) (Some moment) (view_of self.old) (view_of self.new) piece.now result }
     {
         match read_front(piece) {
             Front::Unfinished => match self.held.extend_from_slice(piece) {
@@ -120,7 +125,7 @@ impl Serving {
             Front::Refused(refusal) => Err(FeedStop::Refused(refusal, self.place)),
             Front::Whole(command, size) => {
                 let end = HEADER + size;
-                match self.answer(alloc, desk, command, &piece[..end]) {
+                match self.answer(alloc, desk, command, &piece[..end], moment) {
                     Ok(()) => Ok(end),
                     Err(stop) => Err(stop),
                 }
@@ -134,10 +139,11 @@ impl Serving {
         alloc: Global,
         desk: &mut D,
         piece: &[u8],
+        moment: Moment,
     ) -> Result<usize, FeedStop>
         requires some { 0 < length piece.now }
         requires site { IsOf (D.seat desk.old).seen.base (view_of self.old).state }
-        ensures { Takes (D.seat desk.old) (D.seat desk.new) (view_of self.old) (view_of self.new) piece.now result }
+        ensures { Takes (D.seat desk.old) (D.seat desk.new) (Some moment) (view_of self.old) (view_of self.new) piece.now result }
     {
         let count = missing(&self.held).min(piece.len());
         let mut frame = replace(&mut self.held, Vec::new(alloc));
@@ -151,7 +157,7 @@ impl Serving {
             }
             Front::Refused(refusal) => Err(FeedStop::Refused(refusal, self.place)),
             Front::Whole(command, _) => {
-                match self.answer(alloc, desk, command, &frame) {
+                match self.answer(alloc, desk, command, &frame, moment) {
                     Ok(()) => {
                         frame.clear();
                         self.held = frame;
@@ -169,31 +175,33 @@ impl Serving {
         alloc: Global,
         desk: &mut D,
         piece: &[u8],
+        moment: Moment,
     ) -> Result<usize, FeedStop>
         requires some { 0 < length piece.now }
         requires site { IsOf (D.seat desk.old).seen.base (view_of self.old).state }
-        ensures { Takes (D.seat desk.old) (D.seat desk.new) (view_of self.old) (view_of self.new) piece.now result }
+        ensures { Takes (D.seat desk.old) (D.seat desk.new) (Some moment) (view_of self.old) (view_of self.new) piece.now result }
     {
         if self.held.is_empty() {
-            return self.take_front(alloc, desk, piece);
+            return self.take_front(alloc, desk, piece, moment);
         }
-        self.take_more(alloc, desk, piece)
+        self.take_more(alloc, desk, piece, moment)
     }
 
-    /// Takes the next bytes of the stream and answers the frames that they complete. After `Refused` the output still has
-    /// the replies to the frames before it.
+    /// Takes the next bytes of the stream and answers the frames that they complete. What these put has this moment. After
+    /// `Refused` the output still has the replies to the frames before it.
     pub fn feed<D: Desk>(
         &mut self,
         alloc: Global,
         desk: &mut D,
         piece: &[u8],
+        moment: Moment,
     ) -> Result<(), FeedStop>
         requires { IsOf (D.seat desk.old).seen.base (view_of self.old).state }
-        ensures { Feeds (D.seat desk.old) (D.seat desk.new) (view_of self.old) (view_of self.new) piece.now result }
+        ensures { Feeds (D.seat desk.old) (D.seat desk.new) (Some moment) (view_of self.old) (view_of self.new) piece.now result }
     {
         let mut at = 0;
         'frames: while at < piece.len() {
-            match self.take_next(alloc, desk, &piece[at..]) {
+            match self.take_next(alloc, desk, &piece[at..], moment) {
                 Ok(count) => {
                     at += count;
                     continue 'frames;

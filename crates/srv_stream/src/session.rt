@@ -1,14 +1,21 @@
 // One session: messages in, replies out.
-ghost use Rattle.std.specs.Prelude.{◌≡◌, ◌≤◌, ◌++◌, Some, drop, length, IfOk, OnOk, OnErr, IsTrue};
+ghost use Rattle.std.specs.Prelude.{◌≡◌, ◌≤◌, ◌++◌, ℕ, ℤ, true, Some, drop, length, IfOk, OnOk, OnErr, IsTrue};
 ghost use Rattle.pva_messages.specs.Replies.{spelled, greeting};
 ghost use Rattle.pva_messages.specs.Requests.{message_at};
-ghost use Rattle.srv_stream.specs.Talk.{opening, is_next};
+ghost use Rattle.pva_messages.specs.Values.{value_leaf};
+ghost use Rattle.srv_stream.specs.Talk.{opening, is_next, with_number, error_of, put_reply};
 
-use desk_api::{Channel, Desk, NoMemory};
-use pva_messages::{ToClient, ToServer, greeting, read_to_server, write_to_client};
+use desk_api::{Channel, Desk, Done, Moment, NoMemory, PutAnswer, PutRefusal};
+use pva_messages::{
+    Alarm, PutError, PvValue, TimeStamp, ToClient, ToServer, greeting, read_to_server,
+    write_to_client,
+};
 use pva_wire::Order;
-use pvd_type::Name;
+use pvd_type::{BitSet, Name};
 use std::alloc::Global;
+
+/// The number of the leaf `value`, the only one that a message of a put marks (Normative Types, NTScalar).
+const VALUE: u32 = 1;
 
 /// Why a session stops at a message. It has then ended.
 #[derive(Clone, Copy, Debug, PartialEq, Eq)]
@@ -29,20 +36,74 @@ impl From<NoMemory> for SessionStop {
     }
 }
 
-/// What one client is told. It has one channel and one get so far.
+/// The set of the leaf `value` alone.
+fn value_leaf(alloc: Global) -> Result<BitSet, NoMemory>
+    ensures { IfOk result (λ mask. mask ≡ value_leaf) }
+{
+    let mut mask = BitSet::new(alloc);
+    mask.insert(VALUE)?;
+    Ok(mask)
+}
+
+/// The value that a message of a put carries. The leaves that it doesn't mark are blank.
+fn with_number(alloc: Global, number: i32) -> Result<PvValue, NoMemory>
+    ensures { IfOk result (λ value. value ≡ with_number number) }
+{
+    let alarm = Alarm {
+        severity: 0,
+        status: 0,
+        message: Name::of(alloc, "")?,
+    };
+    let time_stamp = TimeStamp {
+        seconds_past_epoch: 0,
+        nanoseconds: 0,
+        user_tag: 0,
+    };
+    Ok(PvValue {
+        value: number,
+        alarm,
+        time_stamp,
+    })
+}
+
+fn error_of(refusal: PutRefusal) -> PutError
+    ensures { result ≡ error_of refusal }
+{
+    match refusal {
+        PutRefusal::Disabled => PutError::Disabled,
+        PutRefusal::NothingWritable => PutError::NothingWritable,
+    }
+}
+
+/// What the client of a put is told; none where memory ran out.
+fn put_reply(req: u32, answer: Result<Done, PutAnswer>) -> Option<ToClient>
+    ensures { result ≡ put_reply req answer }
+{
+    match answer {
+        Ok(_) => Some(ToClient::PutDone(req)),
+        Err(PutAnswer::Refused(refusal)) => Some(ToClient::PutFailed(req, error_of(refusal))),
+        Err(PutAnswer::JournalFull { .. }) => {
+            Some(ToClient::PutFailed(req, PutError::JournalFull))
+        }
+        Err(PutAnswer::NoMemory { .. }) => None,
+    }
+}
+
+/// What one client is told. It has one channel so far, with one get and one put.
 #[derive(Drop)]
 pub struct Session {
     order: Order,
     validated: bool,
     channel: Option<Channel>,
-    request: Option<u32>,
+    get: Option<u32>,
+    put: Option<u32>,
     output: Vec<u8>,
     sent: usize,
     ghost within: { sent ≤ length output.items },
 }
 
 impl Session {
-    ghost use Rattle.srv_stream.specs.Talk.{ValidationRow, CreateRow, BeginRow, GetRow, NoPart, GetPart, IsOf};
+    ghost use Rattle.srv_stream.specs.Talk.{ValidationRow, CreateRow, BeginRow, GetRow, BeginPutRow, PutRow, NoPart, GetPart, PutPart, Answers, Part, IsOf};
     ghost use Rattle.srv_stream.specs.Views.{state_of, output_of};
     ghost use Rattle.srv_stream.specs.Calls.{Handles, AnswersRow};
     ghost use Rattle.desk_api.specs.Sites.{channel_named, is_channel};
@@ -56,7 +117,8 @@ impl Session {
             order,
             validated: false,
             channel: None,
-            request: None,
+            get: None,
+            put: None,
             output: greeting(alloc, order)?,
             sent: 0,
         })
@@ -83,9 +145,9 @@ impl Session {
     }
 
     /// Adds a reply.
-    fn say(&mut self, alloc: Global, reply: ToClient) -> Result<(), NoMemory>
+    fn say(&mut self, alloc: Global, reply: &ToClient) -> Result<(), NoMemory>
         ensures state { state_of self.new ≡ state_of self.old }
-        ensures ok { OnOk result (output_of self.new ≡ output_of self.old ++ spelled (state_of self.old).order reply) }
+        ensures ok { OnOk result (output_of self.new ≡ output_of self.old ++ spelled (state_of self.old).order reply.now) }
         ensures err { OnErr result (output_of self.new ≡ output_of self.old) }
     {
         write_to_client(alloc, &mut self.output, self.order, reply)
@@ -98,25 +160,33 @@ impl Session {
         match message {
             ToServer::Validation(_, _, _) => !self.validated,
             ToServer::Create(_, _) => self.validated && self.channel.is_none(),
-            ToServer::BeginGet(sid, _) => {
-                *sid == 0 && self.channel.is_some() && self.request.is_none()
+            ToServer::BeginGet(sid, req) => {
+                *sid == 0 && self.channel.is_some() && self.get.is_none() && self.put != Some(*req)
             }
             ToServer::Get(sid, req) => {
-                *sid == 0 && self.channel.is_some() && self.request == Some(*req)
+                *sid == 0 && self.channel.is_some() && self.get == Some(*req)
+            }
+            ToServer::BeginPut(sid, req) => {
+                *sid == 0 && self.channel.is_some() && self.put.is_none() && self.get != Some(*req)
+            }
+            ToServer::Put(sid, req, _) => {
+                *sid == 0 && self.channel.is_some() && self.put == Some(*req)
             }
         }
     }
 
-    /// The replies to one message, which stands in a payload behind this command. After an `Err` the session has ended.
+    /// The replies to one message, which stands in a payload behind this command. What it puts has this moment. After an
+    /// `Err` the session has ended.
     pub fn handle<D: Desk>(
         &mut self,
         alloc: Global,
         command: u8,
         payload: &[u8],
         desk: &mut D,
+        moment: Moment,
     ) -> Result<(), SessionStop>
         requires { IsOf (D.seat desk.old).seen.base (state_of self.old) }
-        ensures { Handles (D.seat desk.old) (D.seat desk.new) (state_of self.old) (state_of self.new) (output_of self.old) (output_of self.new) command payload.now result }
+        ensures { Handles (D.seat desk.old) (D.seat desk.new) moment (state_of self.old) (state_of self.new) (output_of self.old) (output_of self.new) command payload.now result }
     {
         let Some(message) = read_to_server(alloc, command, payload)? else {
             return Err(SessionStop::NotBuilt);
@@ -124,25 +194,48 @@ impl Session {
         if !self.is_next(&message) {
             return Err(SessionStop::NotBuilt);
         }
+        Ok(self.answer(alloc, message, desk, moment)?)
+    }
+
+    /// The reply to a message that is served next.
+    fn answer<D: Desk>(
+        &mut self,
+        alloc: Global,
+        message: ToServer,
+        desk: &mut D,
+        moment: Moment,
+    ) -> Result<(), NoMemory>
+        requires site { IsOf (D.seat desk.old).seen.base (state_of self.old) }
+        requires next { is_next (state_of self.old) message ≡ true }
+        ensures { AnswersRow (D.seat desk.old) (D.seat desk.new) moment (state_of self.new) (output_of self.old) (output_of self.new) (Answers (D.seat desk.old).seen.base (state_of self.old) (Some message)) (Part (D.seat desk.old).seen.base (state_of self.old) (Some message)) result }
+    {
         match message {
-            ToServer::Validation(_, _, _) => Ok(self.answer_validation(alloc, desk)?),
-            ToServer::Create(cid, name) => Ok(self.answer_create(alloc, cid, name, desk)?),
+            ToServer::Validation(_, _, _) => self.answer_validation(alloc, desk),
+            ToServer::Create(cid, name) => self.answer_create(alloc, cid, name, desk),
             ToServer::BeginGet(_, req) => match self.channel {
-                Some(channel) => Ok(self.answer_begin(alloc, req, channel, desk)?),
-                None => Err(SessionStop::NotBuilt),
+                Some(channel) => self.answer_begin(alloc, req, channel, desk),
+                None => unreachable!(),
             },
             ToServer::Get(_, req) => match self.channel {
-                Some(channel) => Ok(self.answer_get(alloc, req, channel, desk)?),
-                None => Err(SessionStop::NotBuilt),
+                Some(channel) => self.answer_get(alloc, req, channel, desk),
+                None => unreachable!(),
+            },
+            ToServer::BeginPut(_, req) => match self.channel {
+                Some(channel) => self.answer_begin_put(alloc, req, channel, desk),
+                None => unreachable!(),
+            },
+            ToServer::Put(_, req, number) => match self.channel {
+                Some(channel) => self.answer_put(alloc, req, number, channel, desk, moment),
+                None => unreachable!(),
             },
         }
     }
 
     fn answer_validation<D: Desk>(&mut self, alloc: Global, desk: &mut D) -> Result<(), NoMemory>
-        ensures { AnswersRow (D.seat desk.old) (D.seat desk.new) (state_of self.new) (output_of self.old) (output_of self.new) (ValidationRow (state_of self.old)) NoPart result }
+        ensures { (moment : ℤ × ℕ) → AnswersRow (D.seat desk.old) (D.seat desk.new) moment (state_of self.new) (output_of self.old) (output_of self.new) (ValidationRow (state_of self.old)) NoPart result }
     {
         let _ = desk;
-        self.say(alloc, ToClient::Validated)?;
+        self.say(alloc, &ToClient::Validated)?;
         self.validated = true;
         Ok(())
     }
@@ -154,12 +247,12 @@ impl Session {
         name: Name,
         desk: &mut D,
     ) -> Result<(), NoMemory>
-        ensures { AnswersRow (D.seat desk.old) (D.seat desk.new) (state_of self.new) (output_of self.old) (output_of self.new) (CreateRow cid (state_of self.old) (channel_named (D.seat desk.old).seen.base name)) NoPart result }
+        ensures { (moment : ℤ × ℕ) → AnswersRow (D.seat desk.old) (D.seat desk.new) moment (state_of self.new) (output_of self.old) (output_of self.new) (CreateRow cid (state_of self.old) (channel_named (D.seat desk.old).seen.base name)) NoPart result }
     {
         let Some(channel) = desk.find(name.as_str()) else {
-            return self.say(alloc, ToClient::NotFound(cid));
+            return self.say(alloc, &ToClient::NotFound(cid));
         };
-        self.say(alloc, ToClient::Created(cid, 0))?;
+        self.say(alloc, &ToClient::Created(cid, 0))?;
         self.channel = Some(channel);
         Ok(())
     }
@@ -172,13 +265,13 @@ impl Session {
         desk: &mut D,
     ) -> Result<(), NoMemory>
         requires { IsTrue (is_channel (D.seat desk.old).seen.base channel) }
-        ensures { AnswersRow (D.seat desk.old) (D.seat desk.new) (state_of self.new) (output_of self.old) (output_of self.new) (BeginRow req (state_of self.old) (Some channel)) NoPart result }
+        ensures { (moment : ℤ × ℕ) → AnswersRow (D.seat desk.old) (D.seat desk.new) moment (state_of self.new) (output_of self.old) (output_of self.new) (BeginRow req (state_of self.old) (Some channel)) NoPart result }
     {
         let Some(ty) = desk.type_of(channel) else {
             return Err(NoMemory);
         };
-        self.say(alloc, ToClient::GetBegun(req, *ty))?;
-        self.request = Some(req);
+        self.say(alloc, &ToClient::GetBegun(req, *ty))?;
+        self.get = Some(req);
         Ok(())
     }
 
@@ -190,9 +283,48 @@ impl Session {
         desk: &mut D,
     ) -> Result<(), NoMemory>
         requires { IsTrue (is_channel (D.seat desk.old).seen.base channel) }
-        ensures { AnswersRow (D.seat desk.old) (D.seat desk.new) (state_of self.new) (output_of self.old) (output_of self.new) (GetRow req (state_of self.old) (Some channel)) (GetPart (Some channel)) result }
+        ensures { (moment : ℤ × ℕ) → AnswersRow (D.seat desk.old) (D.seat desk.new) moment (state_of self.new) (output_of self.old) (output_of self.new) (GetRow req (state_of self.old) (Some channel)) (GetPart (Some channel)) result }
     {
         let value = desk.get(alloc, channel)?;
-        self.say(alloc, ToClient::Got(req, value))
+        self.say(alloc, &ToClient::Got(req, value))
+    }
+
+    fn answer_begin_put<D: Desk>(
+        &mut self,
+        alloc: Global,
+        req: u32,
+        channel: Channel,
+        desk: &mut D,
+    ) -> Result<(), NoMemory>
+        requires { IsTrue (is_channel (D.seat desk.old).seen.base channel) }
+        ensures { (moment : ℤ × ℕ) → AnswersRow (D.seat desk.old) (D.seat desk.new) moment (state_of self.new) (output_of self.old) (output_of self.new) (BeginPutRow req (state_of self.old) (Some channel)) NoPart result }
+    {
+        let Some(ty) = desk.type_of(channel) else {
+            return Err(NoMemory);
+        };
+        self.say(alloc, &ToClient::PutBegun(req, *ty))?;
+        self.put = Some(req);
+        Ok(())
+    }
+
+    fn answer_put<D: Desk>(
+        &mut self,
+        alloc: Global,
+        req: u32,
+        number: i32,
+        channel: Channel,
+        desk: &mut D,
+        moment: Moment,
+    ) -> Result<(), NoMemory>
+        requires { IsTrue (is_channel (D.seat desk.old).seen.base channel) }
+        ensures { AnswersRow (D.seat desk.old) (D.seat desk.new) moment (state_of self.new) (output_of self.old) (output_of self.new) (PutRow (D.seat desk.old).seen.base req number (state_of self.old) (Some channel)) (PutPart (D.seat desk.old).seen.base number (Some channel)) result }
+    {
+        let mask = value_leaf(alloc)?;
+        let value = with_number(alloc, number)?;
+        let answer = desk.put(alloc, channel, &mask, &value, moment);
+        let Some(reply) = put_reply(req, answer) else {
+            return Err(NoMemory);
+        };
+        self.say(alloc, &reply)
     }
 }

@@ -38,6 +38,9 @@ fn joined(alloc: Global, parts: &[&[u8]]) -> Result<Vec<u8>, NoMemory> {
     Ok(bytes)
 }
 
+/// What the entries of a desk may weigh together.
+const LIMIT: u64 = 1000;
+
 /// Serves the record X, which is 42, over an input that comes by this script.
 fn served(
     alloc: Global,
@@ -46,7 +49,7 @@ fn served(
     order: Order,
     turns: u64,
 ) -> Result<(Ended, MemoryLink), NoMemory> {
-    let mut desk = SoloDesk::new(alloc, Site::single(alloc, "X", 42)?)?;
+    let mut desk = SoloDesk::new(alloc, Site::single(alloc, "X", 42)?, LIMIT)?;
     let mut link = MemoryLink::new(alloc, joined(alloc, input)?, script);
     let clock = FixedClock::new(100, 5);
     let ended = serve_connection(alloc, &mut desk, &mut link, &clock, order, turns);
@@ -56,7 +59,7 @@ fn served(
 #[test]
 fn a_get_of_one_record(rt: HostRuntime) -> Result<(), Fail> {
     let alloc = rt.alloc();
-    let mut desk = SoloDesk::new(alloc, Site::single(alloc, "X", 42)?)?;
+    let mut desk = SoloDesk::new(alloc, Site::single(alloc, "X", 42)?, LIMIT)?;
     let mut link = PlainLink::new(alloc, joined(alloc, &[VALIDATION, CREATE, BEGIN, GET])?);
     let clock = FixedClock::new(100, 5);
     let ended = serve_connection(alloc, &mut desk, &mut link, &clock, Order::Little, 100);

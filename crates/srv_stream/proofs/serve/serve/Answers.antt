@@ -14,11 +14,12 @@ pub turns-init : goal.turns-init
 turns-init g c =
     let old = g.D.Desk.seat c.args.desk.now in
     let wire = g.L.Link.wire c.args.link.now in
+    let told = g.C.Clock.moment c.args.clock.now in
     let order = (view_of c.args.serving.now).state.order in record {
       size = refl;
       within = omega arith;
       faults = refl;
-      going = subst (λ (v : View). Going old old wire wire order v None false 0) (sym c.requires) (going_start old wire order);
+      going = subst (λ (v : View). Going old old wire wire told order v None false 0) (sym c.requires) (going_start old wire told order);
     }
 
 pub turns-preserved-in-Took : goal.turns-preserved-in-Took

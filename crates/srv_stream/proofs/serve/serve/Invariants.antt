@@ -8,7 +8,7 @@ invariant-turns g l = record {
   size : length l.buffer ≡ 4096;
   within : l.calls ≤ l.turns;
   faults : (g.L.Link.wire l.link).faults ≡ (g.L.Link.wire l.fn.link).faults;
-  going : Going (g.D.Desk.seat l.fn.desk) (g.D.Desk.seat l.desk) (g.L.Link.wire l.fn.link) (g.L.Link.wire l.link) (view_of l.fn.serving).state.order (view_of l.serving) l.trouble l.at_end l.calls;
+  going : Going (g.D.Desk.seat l.fn.desk) (g.D.Desk.seat l.desk) (g.L.Link.wire l.fn.link) (g.L.Link.wire l.link) (g.C.Clock.moment l.clock) (view_of l.fn.serving).state.order (view_of l.serving) l.trouble l.at_end l.calls;
 }
 
 abbrev pub decreases-turns : goal.decreases-turns

@@ -1,4 +1,4 @@
-use Rattle.std.proofs.Common.{◌≡◌, ◌-◌, ℕ, List, Err, take, drop, length, sym, subst, arith, take-append-drop, length-drop}
+use Rattle.std.proofs.Common.{◌≡◌, ◌-◌, ℕ, List, Some, Err, take, drop, length, sym, subst, arith, take-append-drop, length-drop}
 use Rattle.std.proofs.lemmas.List.{take_all}
 use Rattle.std.proofs.Math.Seq.{take-add}
 use Rattle.pva_messages.specs.Cutting.{cut_unfinished}
@@ -15,7 +15,7 @@ pub frames-init : goal.frames-init
 frames-init g c =
     let v = view_of c.args.self.now in record {
       within = omega arith;
-      fed = fed_nothing (g.D.Desk.seat c.args.desk.now) v (cut_unfinished v.place v.held c.args.self.now.begun) (unrefused v.place v.held c.args.self.now.begun);
+      fed = fed_nothing (g.D.Desk.seat c.args.desk.now) _ v (cut_unfinished v.place v.held c.args.self.now.begun) (unrefused v.place v.held c.args.self.now.begun);
     }
 
 pub take_next-requires-clause-site : goal.take_next-requires-clause-site
@@ -38,9 +38,9 @@ frames-preserved g c =
     let piece = c.args.piece.now in
     let at = c.frames.at in
     let all : take (length piece - at) (drop at piece) ≡ drop at piece = take_all (length piece - at) (drop at piece) (omega (arith, length-drop at piece)) in
-    let x = subst (λ (z : List ℕ). Took mid new u w z c.in-Ok.count) all c.in-Ok.ensures in record {
+    let x = subst (λ (z : List ℕ). Took mid new (Some c.args.moment) u w z c.in-Ok.count) all c.in-Ok.ensures in record {
       within = omega (arith, x.within, length-drop at piece, c.frames.invariant.within);
-      fed = subst (λ (z : List ℕ). FedOn old new v w z) (sym (take-add at c.in-Ok.count piece)) (fed_on_more (take c.in-Ok.count (drop at piece)) c.frames.invariant.fed x.fed);
+      fed = subst (λ (z : List ℕ). FedOn old new (Some c.args.moment) v w z) (sym (take-add at c.in-Ok.count piece)) (fed_on_more (take c.in-Ok.count (drop at piece)) c.frames.invariant.fed x.fed);
     }
 
 pub returns-in-Err : goal.returns-in-Err
@@ -54,5 +54,5 @@ returns-in-Err g c =
     let piece = c.args.piece.now in
     let at = c.frames.at in
     let all : take (length piece - at) (drop at piece) ≡ drop at piece = take_all (length piece - at) (drop at piece) (omega (arith, length-drop at piece)) in
-    let x = subst (λ (z : List ℕ). Feeds mid new u w z (Err c.in-Err.stop)) all c.in-Err.ensures in
-    subst (λ (z : List ℕ). Feeds old new v w z (Err c.in-Err.stop)) (take-append-drop at piece) (feeds_err new w (drop at piece) c.in-Err.stop c.frames.invariant.fed x)
+    let x = subst (λ (z : List ℕ). Feeds mid new (Some c.args.moment) u w z (Err c.in-Err.stop)) all c.in-Err.ensures in
+    subst (λ (z : List ℕ). Feeds old new (Some c.args.moment) v w z (Err c.in-Err.stop)) (take-append-drop at piece) (feeds_err new w (drop at piece) c.in-Err.stop c.frames.invariant.fed x)

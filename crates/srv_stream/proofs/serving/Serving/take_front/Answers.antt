@@ -1,4 +1,4 @@
-use Rattle.std.proofs.Common.{◌≡◌, ◌+◌, ◌≤◌, ℕ, List, Err, ◌++◌, take, drop, rules, refl, sym, ◌∙◌, ap, subst, arith, take-append-drop}
+use Rattle.std.proofs.Common.{◌≡◌, ◌+◌, ◌≤◌, ℕ, List, Some, Err, ◌++◌, take, drop, rules, refl, sym, ◌∙◌, ap, subst, arith, take-append-drop}
 use Rattle.std.proofs.lemmas.List.{length-take-le}
 use Rattle.std.proofs.Math.Seq.{take-length}
 use Rattle.pva_messages.specs.declared.frame.Front.TheVariants.{Unfinished}
@@ -34,18 +34,18 @@ returns-in-Ok g c =
     let front : front_of (v.held ++ piece) ≡ Unfinished = ap (λ (z : List ℕ). front_of (z ++ piece)) c.requires.none ∙ (sym c.read_front.ensures ∙ c.in-Unfinished.is) in record {
       some = c.requires.some;
       within = omega arith;
-      fed = subst (λ (z : List ℕ). FedOn (g.D.Desk.seat c.args.desk.now) (g.D.Desk.seat c.args.desk.now) v (record v { held = c.extend_from_slice.new.self.items }) z) (sym (take-length piece))
-          (kept (g.D.Desk.seat c.args.desk.now) v (record v { held = c.extend_from_slice.new.self.items }) piece front (ap (λ (z : List ℕ). record v { held = z }) c.in-Ok.ensures.items));
+      fed = subst (λ (z : List ℕ). FedOn (g.D.Desk.seat c.args.desk.now) (g.D.Desk.seat c.args.desk.now) (Some c.args.moment) v (record v { held = c.extend_from_slice.new.self.items }) z) (sym (take-length piece))
+          (kept (g.D.Desk.seat c.args.desk.now) _ v (record v { held = c.extend_from_slice.new.self.items }) piece front (ap (λ (z : List ℕ). record v { held = z }) c.in-Ok.ensures.items));
     }
 
 pub returns-in-Err : goal.returns-in-Err
-returns-in-Err g c = none_taken _ (view_of c.args.self.now) _ c.args.piece.now refl no_row_part
+returns-in-Err g c = none_taken _ _ (view_of c.args.self.now) _ c.args.piece.now refl (no_row_part _)
 
 pub returns-in-Refused : goal.returns-in-Refused
 returns-in-Refused g c =
     let v = view_of c.args.self.now in
     let piece = c.args.piece.now in
-    refused_header (g.D.Desk.seat c.args.desk.now) v v piece c.in-Refused.refusal
+    refused_header (g.D.Desk.seat c.args.desk.now) _ v v piece c.in-Refused.refusal
     (ap (λ (z : List ℕ). front_of (z ++ piece)) c.requires.none ∙ (sym c.read_front.ensures ∙ c.in-Refused.is)) refl refl
 
 pub returns-in-Ok-answer : goal.returns-in-Ok-answer
@@ -60,7 +60,7 @@ returns-in-Ok-answer g c =
     let x = c.in-Ok-answer.ensures {u = tt} in record {
       some = omega arith;
       within = front.fits;
-      fed = passed (g.D.Desk.seat c.args.desk.now) (g.D.Desk.seat c.answer.new.desk) v v xs xs c.in-Whole.command size
+      fed = passed (g.D.Desk.seat c.args.desk.now) (g.D.Desk.seat c.answer.new.desk) c.args.moment v v xs xs c.in-Whole.command size
           (sym (ap (λ (z : List ℕ). z ++ xs) c.requires.none)) (whole_alone piece c.in-Whole.command size e) (length-take-le (8 + size) piece front.fits) refl refl refl
           t t x (ap (λ (z : List ℕ). record t { held = z }) (x.held ∙ c.requires.none));
     }
@@ -76,8 +76,8 @@ returns-in-Err-answer g c =
     let xs = take (8 + size) piece in
     let old = g.D.Desk.seat c.args.desk.now in
     let new = g.D.Desk.seat c.answer.new.desk in
-    subst (λ (z : List ℕ). Feeds old new v t z (Err c.in-Err-answer.stop)) (take-append-drop (8 + size) piece)
-    (stops_rest old new v t xs (drop (8 + size) piece) c.in-Err-answer.stop
-    (stopped old new v v xs xs c.in-Whole.command size
+    subst (λ (z : List ℕ). Feeds old new (Some c.args.moment) v t z (Err c.in-Err-answer.stop)) (take-append-drop (8 + size) piece)
+    (stops_rest old new (Some c.args.moment) v t xs (drop (8 + size) piece) c.in-Err-answer.stop
+    (stopped old new c.args.moment v v xs xs c.in-Whole.command size
     (sym (ap (λ (z : List ℕ). z ++ xs) c.requires.none)) (whole_alone piece c.in-Whole.command size e) (length-take-le (8 + size) piece front.fits) refl refl refl
     t c.in-Err-answer.stop (c.in-Err-answer.ensures {u = tt})))

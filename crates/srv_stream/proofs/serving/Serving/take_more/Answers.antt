@@ -19,7 +19,7 @@ pub invariant_of-self-in-Whole-1 : goal.invariant_of-self-in-Whole-1
 invariant_of-self-in-Whole-1 g c = record { begun = none_held c.replace-frame.new.dest.items (rw c.replace-frame.ensures.after c.new.ensures.items) }
 
 pub returns-in_default : goal.returns-in_default
-returns-in_default g c = none_taken _ (view_of c.args.self.now) _ c.args.piece.now refl no_row_part
+returns-in_default g c = none_taken _ _ (view_of c.args.self.now) _ c.args.piece.now refl (no_row_part _)
 
 pub returns-in-Unfinished : goal.returns-in-Unfinished
 returns-in-Unfinished g c =
@@ -31,7 +31,7 @@ returns-in-Unfinished g c =
     let front : front_of (v.held ++ take count piece) ≡ Unfinished = ap front_of (sym is) ∙ ap front_of (sym c.deref-2.ensures.value) ∙ sym c.read_front.ensures ∙ c.in-Unfinished.is in record {
       some = omega (arith, c.missing.ensures.some, c.requires.some, c.min-count.ensures);
       within = omega (arith, c.min-count.ensures);
-      fed = kept (g.D.Desk.seat c.args.desk.now) v (record v { held = xs }) (take count piece) front (ap (λ (z : List ℕ). record v { held = z }) is);
+      fed = kept (g.D.Desk.seat c.args.desk.now) _ v (record v { held = xs }) (take count piece) front (ap (λ (z : List ℕ). record v { held = z }) is);
     }
 
 pub returns-in-Refused : goal.returns-in-Refused
@@ -44,8 +44,8 @@ returns-in-Refused g c =
     let w : View = record v { held = c.replace-frame.new.dest.items } in
     let is : xs ≡ v.held ++ take count piece = rw c.replace-frame.ensures.value at c.in-Ok.ensures.items in
     let front : front_of (v.held ++ take count piece) ≡ Refused c.in-Refused.refusal = ap front_of (sym is) ∙ ap front_of (sym c.deref-2.ensures.value) ∙ sym c.read_front.ensures ∙ c.in-Refused.is in
-    subst (λ (z : List ℕ). Fed old old v w z (Some (c.in-Refused.refusal, v.place))) (take-append-drop count piece)
-    (fed_rest (drop count piece) (refused_header old v w (take count piece) c.in-Refused.refusal front refl refl))
+    subst (λ (z : List ℕ). Fed old old (Some c.args.moment) v w z (Some (c.in-Refused.refusal, v.place))) (take-append-drop count piece)
+    (fed_rest (drop count piece) (refused_header old _ v w (take count piece) c.in-Refused.refusal front refl refl))
 
 pub returns-in-Ok-answer : goal.returns-in-Ok-answer
 returns-in-Ok-answer g c =
@@ -68,7 +68,7 @@ returns-in-Ok-answer g c =
     let x = c.in-Ok-answer.ensures {u = tt} in record {
       some = omega (arith, c.missing.ensures.some, c.requires.some, c.min-count.ensures);
       within = within;
-      fed = passed (g.D.Desk.seat c.args.desk.now) (g.D.Desk.seat c.answer.new.desk) v u bytes xs command size is (ap front_of is ∙ front) (ap length is ∙ all) refl refl refl
+      fed = passed (g.D.Desk.seat c.args.desk.now) (g.D.Desk.seat c.answer.new.desk) c.args.moment v u bytes xs command size is (ap front_of is ∙ front) (ap length is ∙ all) refl refl refl
           t (record t { held = c.clear.new.self.items }) x (ap (λ (z : List ℕ). record t { held = z }) c.clear.ensures.items);
     }
 
@@ -92,7 +92,7 @@ returns-in-Err g c =
     let within : count ≤ length piece = omega (arith, c.min-count.ensures) in
     let long : length bytes ≤ c.missing.result = omega (arith, length-take-le count piece within) in
     let all : length (v.held ++ bytes) ≡ 8 + size = subst (λ (z : List ℕ). front_of (z ++ bytes) ≡ Whole command size → length (z ++ bytes) ≡ 8 + size) c.deref.ensures.value (c.missing.ensures.whole bytes long command size) front in
-    subst (λ (z : List ℕ). Feeds old new v t z (Err c.in-Err.stop)) (take-append-drop count piece)
-    (stops_rest old new v t bytes (drop count piece) c.in-Err.stop
-    (stopped old new v u bytes xs command size is (ap front_of is ∙ front) (ap length is ∙ all) refl refl refl
+    subst (λ (z : List ℕ). Feeds old new (Some c.args.moment) v t z (Err c.in-Err.stop)) (take-append-drop count piece)
+    (stops_rest old new (Some c.args.moment) v t bytes (drop count piece) c.in-Err.stop
+    (stopped old new c.args.moment v u bytes xs command size is (ap front_of is ∙ front) (ap length is ∙ all) refl refl refl
     t c.in-Err.stop (c.in-Err.ensures {u = tt})))
