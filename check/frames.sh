@@ -61,8 +61,15 @@ client_words() {
     07-*) echo "create a channel of $(text_at 14), under the client's id $(number_at 10 4)" ;;
     0a-08) echo "request $(number_at 12 4) begins a get on channel $(number_at 8 4)" ;;
     0a-00) echo "request $(number_at 12 4): get" ;;
+    0b-08) echo "request $(number_at 12 4) begins a put on channel $(number_at 8 4)" ;;
+    0b-00) echo "request $(number_at 12 4): put $(int_at 19)" ;;
     *) echo "another message" ;;
     esac
+}
+
+# What the reply to a put says of it.
+put_outcome() {
+    if [ "${frame[13]:-}" = ff ]; then echo "is done"; else echo "failed: $(text_at 14)"; fi
 }
 
 # What a frame of the server says.
@@ -72,8 +79,9 @@ server_words() {
     0-01-*) echo "validation request: the methods are $(text_at 15) and $(text_at $((16 + 0x${frame[15]})))" ;;
     0-09-*) echo "validated" ;;
     0-07-*) echo "channel $(number_at 8 4) is created, under the server's id $(number_at 12 4)" ;;
-    0-0a-08) echo "request $(number_at 8 4) has begun: the channel's type is $(text_at 15)" ;;
-    0-0a-00) echo "request $(number_at 8 4): the value is $(int_at 17)" ;;
+    0-0a-08 | 0-0b-08) echo "request $(number_at 8 4) has begun: the channel's type is $(text_at 15)" ;;
+    0-0a-00) echo "request $(number_at 8 4): the value is $(int_at 17), of second $(number_at 30 8)" ;;
+    0-0b-00) echo "request $(number_at 8 4): the put $(put_outcome)" ;;
     *) echo "another message" ;;
     esac
 }

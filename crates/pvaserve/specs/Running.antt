@@ -1,9 +1,10 @@
 -- What a run of the program does.
-use Rattle.std.specs.Prelude.{◌≡◌, ◌⊎◌, ℕ, ◌^◌, List, [], ◌∷◌, Option}
+use Rattle.std.specs.Prelude.{◌≡◌, ◌⊎◌, ℕ, ℤ, ◌^◌, List, Option}
 use Rattle.pva_outside.specs.Wire.{Wire}
 use Rattle.pva_wire.specs.declared.order.Order.TheVariants.{Little}
-use Rattle.desk_api.specs.History.{entries}
-use Rattle.desk_api.specs.Marks.{first_seat}
+use Rattle.desk_api.specs.History.{IsLegal, tagged}
+use Rattle.desk_api.specs.Marks.{first_seat, deeds_of}
+use Rattle.desk_api.specs.Sites.{single}
 use Rattle.desk_api.specs.declared.history.Base.{Base}
 use Rattle.desk_api.specs.declared.mark.Seat.{Seat}
 use Rattle.srv_stream.specs.Served.{Served}
@@ -19,7 +20,7 @@ pub record Outside : Type 0 where
 
 -- the site of one record
 abbrev pub site_of : Source → Base
-site_of source = record { names = source.name ∷ []; opening = record { value = source.value } ∷ [] }
+site_of source = single source.name source.value
 
 -- the exit status that tells why a connection ended
 abbrev pub status_of : Ended → ℕ
@@ -32,18 +33,20 @@ status_of ends.WriteFault = 6
 status_of ends.NoMemory = 7
 status_of (ends.Spent calls) = 8
 
--- The link was served in little endian, for at most 2^62 calls of it, from a desk of this site whose history got no entry.
-pub record Serves (site : Base) (start end : Wire) (ended : Ended) : Type 0 where
+-- The link was served in little endian, for at most 2^62 calls of it, from a desk of this site whose entries may weigh
+-- 268,435,456 together. Its history is the one that the marks of the connection make, and it is legal.
+pub record Serves (site : Base) (start end : Wire) (told : Option (ℤ × ℕ)) (ended : Ended) : Type 0 where
   pub seat : Seat
-  pub served : Served (first_seat site) seat start end Little (2 ^ 62) ended
-  pub no_entry : entries seat.seen ≡ []
+  pub served : Served (first_seat site 268_435_456) seat start end told Little (2 ^ 62) ended
+  pub deeds_are : seat.seen.deeds ≡ tagged seat.number (deeds_of served.log)
+  pub legal : IsLegal seat.seen
 
 -- The words name a source: its site was served over the link, and nothing was printed.
-pub record Inetd (words : List (List ℕ)) (old new : Outside) (status : ℕ) : Type 0 where
+pub record Inetd (words : List (List ℕ)) (told : Option (ℤ × ℕ)) (old new : Outside) (status : ℕ) : Type 0 where
   pub source : Source
   pub words_are : IsWords words source
   pub ended : Ended
-  pub serves : Serves (site_of source) old.wire new.wire ended
+  pub serves : Serves (site_of source) old.wire new.wire told ended
   pub status_is : status ≡ status_of ended
   pub printed : new.printed ≡ old.printed
   pub print_faults : new.print_faults ≡ old.print_faults
@@ -54,6 +57,6 @@ pub record Refused (words : List (List ℕ)) (old new : Outside) (status : ℕ) 
   pub status_is : status ≡ 2
   pub untouched : new ≡ old
 
--- one run of the program with these words
-abbrev pub Runs : List (List ℕ) → Outside → Outside → ℕ → Type 0
-Runs words old new status = Inetd words old new status ⊎ Refused words old new status
+-- one run of the program with these words, at the moment that the clock tells
+abbrev pub Runs : List (List ℕ) → Option (ℤ × ℕ) → Outside → Outside → ℕ → Type 0
+Runs words told old new status = Inetd words told old new status ⊎ Refused words old new status

@@ -16,6 +16,9 @@ use std::alloc::Global;
 /// How many calls of the link one connection may take.
 const TURNS: u64 = 1 << 62;
 
+/// What the entries of the history may weigh together.
+const LIMIT: u64 = 268_435_456;
+
 /// What the exit status tells.
 #[derive(Clone, Copy, Debug, PartialEq, Eq)]
 pub enum Status {
@@ -55,12 +58,12 @@ fn serve_source<L: Link, C: Clock>(
     clock: &C,
 ) -> Ended
     requires { IsTrue (is_record_name source.name.now) }
-    ensures { Serves (site_of (source_of source.entry)) (L.wire link.old) (L.wire link.new) result }
+    ensures { Serves (site_of (source_of source.entry)) (L.wire link.old) (L.wire link.new) (C.moment clock.now) result }
 {
     let Ok(site) = Site::single(alloc, source.name, source.value) else {
         return Ended::NoMemory;
     };
-    let Ok(mut desk) = SoloDesk::new(alloc, site) else {
+    let Ok(mut desk) = SoloDesk::new(alloc, site, LIMIT) else {
         return Ended::NoMemory;
     };
     serve_connection(alloc, &mut desk, link, clock, Order::Little, TURNS)
@@ -72,7 +75,7 @@ fn serve_source<L: Link, C: Clock>(
 /// a name that a record may have, and VALUE is a decimal number of 32 signed bits, without a zero in front. With all other
 /// words the status is 2, and nothing is done. Nothing is printed.
 pub fn run<W: Kinds>(alloc: Global, words: &[&str], world: &mut World<W>) -> u8
-    ensures { Runs (map (λ w. w.now) words.now)
+    ensures { Runs (map (λ w. w.now) words.now) (W.Clock.moment world.old.clock)
         (record { wire = W.Link.wire world.old.link; printed = W.Sink.written world.old.sink; print_faults = W.Sink.faults world.old.sink })
         (record { wire = W.Link.wire world.new.link; printed = W.Sink.written world.new.sink; print_faults = W.Sink.faults world.new.sink })
         result }
