@@ -39,6 +39,7 @@ fn put<D: Desk>(
 ) -> Result<Result<Done, PutAnswer>, Fail>
     requires leaf { leaf < 65536 }
     requires channel { IsTrue (is_channel (D.seat desk.old).seen.base RECORD) }
+    ensures { IsTrue (is_channel (D.seat desk.new).seen.base RECORD) }
 {
     let mut mask = BitSet::new(alloc);
     mask.insert(leaf)?;
@@ -49,6 +50,7 @@ fn put<D: Desk>(
 /// The number that the record's channel shows, and the seconds of its moment.
 fn got<D: Desk>(alloc: Global, desk: &mut D) -> Result<(i32, i64), Fail>
     requires { IsTrue (is_channel (D.seat desk.old).seen.base RECORD) }
+    ensures { IsTrue (is_channel (D.seat desk.new).seen.base RECORD) }
 {
     let value = desk.get(alloc, RECORD)?;
     Ok((value.value, value.time_stamp.seconds_past_epoch))
