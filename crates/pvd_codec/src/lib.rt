@@ -1,4 +1,12 @@
 //! Values of every pvData type on the wire, whole and in parts.
 #![tactic(auto)]
 
+mod cursor;
+mod fault;
+mod lists;
+mod reading;
+mod scalars;
+
+pub use cursor::read_full;
+pub use fault::{ValueCause, ValueFault, ValueStop};
 pub use pvd_type::NoMemory;
