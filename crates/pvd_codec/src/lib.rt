@@ -4,9 +4,10 @@
 mod cursor;
 mod fault;
 mod lists;
+mod parts;
 mod reading;
 mod scalars;
 
-pub use cursor::read_full;
+pub use cursor::{read_full, read_part};
 pub use fault::{ValueCause, ValueFault, ValueStop};
 pub use pvd_type::NoMemory;
