@@ -1,12 +1,16 @@
 -- The one spelling of a value that is written (pvAccess Protocol Specification, "pvData Encoding").
-use Rattle.std.specs.Prelude.{◌≡◌, ℕ, ◌<◌, ◌^◌, FitsSigned, true, false, List, [], ◌∷◌, ◌++◌, Option, Some, None}
+use Rattle.std.specs.Prelude.{◌≡◌, ℕ, ◌+◌, Bool, length, ◌<◌, ◌^◌, FitsSigned, true, false, List, [], ◌∷◌, ◌++◌, Option, Some, None}
 use Rattle.std.specs.List.{flat_map}
 use Rattle.std.specs.Int.{w8, w16, w32, w64, cast_unsigned}
+use Rattle.std.specs.Ordering.{nat_cmp}
+use Rattle.std.specs.FinSet.{FinSet, contains}
 use Rattle.pva_wire.specs.declared.order.Order.{Order}
 use Rattle.pva_wire.specs.Spelling.{IsSize, IsText, number_bytes, canonical_size, canonical_text}
+use Rattle.pva_wire.specs.Bits.{canonical_bits}
 use Rattle.pvd_type.specs.declared.shape.Extent.{Extent}
 use Rattle.pvd_type.specs.declared.shape.Extent.TheVariants.{Variable, Bounded, Fixed}
 use Rattle.pvd_type.specs.Tree.{Tree, leaf, node, plain, bound_text, list, variant, variant_list, struct, union, struct_list, union_list, Fields, field}
+use Rattle.pvd_type.specs.Numbers.{numbered, leaves}
 use Rattle.pvd_value.specs.Data.{Data, Single, boolean, byte, short, int, long, ubyte, ushort, uint, ulong, float, double, text, Many, booleans, bytes, shorts, ints, longs, ubytes, ushorts, uints, ulongs, floats, doubles, texts, single, many, members, unset, selected, empty, carried, structs, unions, variants, Row, end, more, gap}
 use Rattle.pvd_value.specs.Fits.{count_of, member_at}
 use Rattle.pvd_desc.specs.Grammar.{CanDesc, canonical_desc}
@@ -155,3 +159,42 @@ abbrev mutual
   CanElements end t = Unit {0}
   CanElements (gap vs) t = CanElements vs t
   CanElements (more v vs) t = IsElement t v × CanValue v t × CanElements vs t
+
+-- a leaf, where it is marked
+abbrev pub canonical_leaf : Order → Bool → Data → Tree → List ℕ
+canonical_leaf order true v t = canonical_value order v t
+canonical_leaf order false v t = []
+
+-- The marked leaves of a value, in the order of their numbers, which are counted from n. Only structures are entered.
+abbrev mutual
+  pub canonical_marked : Order → (ℕ → Bool) → ℕ → Data → Tree → List ℕ
+  canonical_marked order marked n (members vs) (node struct id fs) = canonical_marked_row order marked (n + 1) vs fs
+  canonical_marked order marked n v (node struct id fs) = []
+  canonical_marked order marked n v t = canonical_leaf order (marked n) v t
+
+  pub canonical_marked_row : Order → (ℕ → Bool) → ℕ → Row → Fields → List ℕ
+  canonical_marked_row order marked n (more v vs) (field name t fs) = canonical_marked order marked n v t ++ canonical_marked_row order marked (n + length (numbered t)) vs fs
+  canonical_marked_row order marked n _ _ = []
+
+-- A part of a value, "Partial Structures": the set of the marked leaves, and their values.
+abbrev pub canonical_part : Order → FinSet nat_cmp → Data → Tree → List ℕ
+canonical_part order mask v t = canonical_bits order mask ++ canonical_marked order (contains mask) 0 v t
+
+-- the numbers, sizes, texts and types of the marked leaves have spellings
+abbrev pub CanLeaf : Bool → Data → Tree → Type 0
+CanLeaf true v t = CanValue v t
+CanLeaf false v t = Unit {0}
+
+abbrev mutual
+  pub CanMarked : (ℕ → Bool) → ℕ → Data → Tree → Type 0
+  CanMarked marked n (members vs) (node struct id fs) = CanMarkedRow marked (n + 1) vs fs
+  CanMarked marked n v (node struct id fs) = Unit {0}
+  CanMarked marked n v t = CanLeaf (marked n) v t
+
+  pub CanMarkedRow : (ℕ → Bool) → ℕ → Row → Fields → Type 0
+  CanMarkedRow marked n (more v vs) (field name t fs) = CanMarked marked n v t × CanMarkedRow marked (n + length (numbered t)) vs fs
+  CanMarkedRow marked n _ _ = Unit {0}
+
+-- a set of leaf numbers of a type, and no other
+abbrev pub HoldsLeaves : Tree → FinSet nat_cmp → Type 0
+HoldsLeaves t mask = (n : ℕ) → contains mask n ≡ true → contains (leaves t) n ≡ true
