@@ -1,2 +1,4 @@
 pub mod Growing
 pub mod Elements
+pub mod Spelled
+pub mod SpelledParts

@@ -10,11 +10,15 @@ use Rattle.pva_wire.specs.Bits.{canonical_bits}
 use Rattle.pvd_type.specs.declared.shape.Extent.{Extent}
 use Rattle.pvd_type.specs.declared.shape.Extent.TheVariants.{Variable, Bounded, Fixed}
 use Rattle.pvd_type.specs.Tree.{Tree, leaf, node, plain, bound_text, list, variant, variant_list, struct, union, struct_list, union_list, Fields, field}
+use Rattle.pvd_type.specs.Check.{IsType}
 use Rattle.pvd_type.specs.Numbers.{numbered, leaves}
 use Rattle.pvd_value.specs.Data.{Data, Single, boolean, byte, short, int, long, ubyte, ushort, uint, ulong, float, double, text, Many, booleans, bytes, shorts, ints, longs, ubytes, ushorts, uints, ulongs, floats, doubles, texts, single, many, members, unset, selected, empty, carried, structs, unions, variants, Row, end, more, gap}
-use Rattle.pvd_value.specs.Fits.{count_of, member_at}
+use Rattle.pvd_value.specs.Fits.{count_of, member_at, fits_of}
 use Rattle.pvd_desc.specs.Grammar.{CanDesc, canonical_desc}
-use Rattle.pvd_codec.specs.Grammar.{flag, row_length, IsElement}
+use Rattle.pvd_value.specs.Blank.{blank_of}
+use Rattle.pvd_value.specs.Merge.{merged}
+use Rattle.pvd_desc.specs.Types.{Types}
+use Rattle.pvd_codec.specs.Grammar.{flag, row_length, IsElement, Full, Part}
 
 -- one list begins another
 pub record Begins (old new : List ℕ) : Type 0 where
@@ -198,3 +202,12 @@ abbrev mutual
 -- a set of leaf numbers of a type, and no other
 abbrev pub HoldsLeaves : Tree → FinSet nat_cmp → Type 0
 HoldsLeaves t mask = (n : ℕ) → contains mask n ≡ true → contains (leaves t) n ≡ true
+
+-- The law: what is written of a value that fits spells the value, and defines no type.
+abbrev pub WrittenIsFull : Type 0
+WrittenIsFull = (order : Order) (before : Types) (t : Tree) (v : Data) → fits_of 16 v t ≡ true → CanValue v t → Full order before t (canonical_value order v t) v before
+
+-- The law for parts: what is written of a value spells its marked leaves, and blank ones elsewhere.
+abbrev pub WrittenIsPart : Type 0
+WrittenIsPart = (order : Order) (before : Types) (t : Tree) (mask : FinSet nat_cmp) (v : Data) → IsType t → fits_of 16 v t ≡ true → HoldsLeaves t mask → CanMarked (contains mask) 0 v t
+    → Part order before t (canonical_part order mask v t) mask (merged (contains mask) 0 t (blank_of t) v) before

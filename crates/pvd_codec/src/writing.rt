@@ -10,7 +10,7 @@ ghost use Rattle.pvd_desc.specs.Grammar.{CanDesc, canonical_desc};
 ghost use Rattle.pvd_codec.specs.Grammar.{row_length};
 ghost use Rattle.pvd_codec.specs.Written.{Begins, canonical_selected, canonical_value, canonical_row, canonical_elements, CanSelected, CanValue, CanRow, CanElements};
 
-use crate::scalars::{write_count, write_list, write_single};
+use crate::scalars_writing::{write_count, write_list, write_single};
 use pva_wire::{Order, write_size};
 use pvd_desc::write_desc;
 use pvd_type::{Extent, Member, NoMemory, Node, PvType, Shape};

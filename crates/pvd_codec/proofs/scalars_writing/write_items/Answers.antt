@@ -3,7 +3,7 @@ use Rattle.std.proofs.lemmas.Result.{on_ok_weaker}
 use Rattle.pvd_value.specs.Data.{Many, text, texts}
 use Rattle.pvd_value.specs.View.{items_view}
 use Rattle.pvd_codec.specs.Written.{CanSingle, CanEach, CanItems}
-use Rattle.pvd_codec.proofs.scalars.write_items.Goals as goal
+use Rattle.pvd_codec.proofs.scalars_writing.write_items.Goals as goal
 
 pub returns-in-Text-clause-can : goal.returns-in-Text-clause-can
 returns-in-Text-clause-can c =

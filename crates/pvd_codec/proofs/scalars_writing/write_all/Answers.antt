@@ -4,7 +4,7 @@ use Rattle.std.specs.List.{flat_map}
 use Rattle.pvd_codec.specs.Written.{canonical_single}
 use Rattle.pvd_codec.proofs.Growing.{begins_on}
 use Rattle.pvd_codec.proofs.Elements.{on_err}
-use Rattle.pvd_codec.proofs.scalars.write_all.Goals as goal
+use Rattle.pvd_codec.proofs.scalars_writing.write_all.Goals as goal
 
 pub returns-in_err-write-clause-begins : goal.returns-in_err-write-clause-begins
 returns-in_err-write-clause-begins g c = on_err c.from_residual.result (begins_on _ _ _ c.loop-value.invariant.begins c.in_err-write.ensures.begins)

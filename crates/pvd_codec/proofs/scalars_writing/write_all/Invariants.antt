@@ -1,7 +1,7 @@
 use Rattle.std.proofs.Common.{◌≡◌, ◌++◌, take, drop}
 use Rattle.std.specs.List.{flat_map}
 use Rattle.pvd_codec.specs.Written.{Begins, canonical_single, CanSingle, CanEach}
-use Rattle.pvd_codec.proofs.scalars.write_all.Given as goal
+use Rattle.pvd_codec.proofs.scalars_writing.write_all.Given as goal
 
 abbrev pub invariant-loop-value : goal.invariant-loop-value
 invariant-loop-value g l = record {
