@@ -1,3 +1,8 @@
+pub mod Room
+pub mod Loop
+pub mod Numbers
+pub mod Parts
+pub mod Calls
 pub mod Growing
 pub mod Elements
 pub mod Spelled

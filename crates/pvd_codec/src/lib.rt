@@ -1,11 +1,18 @@
 //! Values of every pvData type on the wire, whole and in parts.
 #![tactic(auto)]
 
+mod cursor;
+mod fault;
 mod laws;
+mod lists;
 mod parts_writing;
+mod reading;
+mod scalars;
 mod scalars_writing;
 mod writing;
 
+pub use cursor::read_full;
+pub use fault::{ValueCause, ValueFault, ValueStop};
 pub use laws::written_is_spelled;
 pub use parts_writing::write_part;
 pub use pvd_type::NoMemory;
