@@ -6,3 +6,7 @@ pub mod Calls
 pub mod Marked
 pub mod FirstBits
 pub mod Marks
+pub mod Growing
+pub mod Elements
+pub mod Spelled
+pub mod SpelledParts

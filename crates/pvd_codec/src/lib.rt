@@ -3,11 +3,18 @@
 
 mod cursor;
 mod fault;
+mod laws;
 mod lists;
 mod parts;
+mod parts_writing;
 mod reading;
 mod scalars;
+mod scalars_writing;
+mod writing;
 
 pub use cursor::{read_full, read_part};
 pub use fault::{ValueCause, ValueFault, ValueStop};
+pub use laws::written_is_spelled;
+pub use parts_writing::write_part;
 pub use pvd_type::NoMemory;
+pub use writing::write_full;
