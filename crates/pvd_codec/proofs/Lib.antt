@@ -4,6 +4,9 @@ pub mod Numbers
 pub mod Parts
 pub mod Calls
 pub mod Growing
+pub mod Holding
 pub mod Elements
 pub mod Spelled
 pub mod SpelledParts
+pub mod ReadAgain
+pub mod OneValue
