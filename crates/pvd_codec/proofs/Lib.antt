@@ -7,6 +7,9 @@ pub mod Marked
 pub mod FirstBits
 pub mod Marks
 pub mod Growing
+pub mod Holding
 pub mod Elements
 pub mod Spelled
 pub mod SpelledParts
+pub mod ReadAgain
+pub mod OneValue

@@ -2,3 +2,4 @@ pub mod Grammar
 pub mod Reading
 pub mod Faults
 pub mod Written
+pub mod Laws

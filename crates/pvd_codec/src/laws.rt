@@ -1,3 +1,4 @@
+ghost use Rattle.pvd_codec.specs.Laws.{FullIsRead, OneFull, WrittenFullIsRead};
 ghost use Rattle.pvd_codec.specs.Written.{WrittenIsFull, WrittenIsPart};
 
 /// What is written spells the value that was given, whatever types are known before, and defines none:
@@ -6,4 +7,13 @@ ghost use Rattle.pvd_codec.specs.Written.{WrittenIsFull, WrittenIsPart};
 pub fn written_is_spelled()
     ensures full { WrittenIsFull }
     ensures part { WrittenIsPart }
+{}
+
+/// The laws between the grammar of whole values and their reader: what spells a value at the front of
+/// some bytes is read as it, whatever follows; so two values that one list of bytes begins with, of one
+/// type and after the same definitions, are one; and what is written is read back.
+pub fn values()
+    ensures only { FullIsRead }
+    ensures unique { OneFull }
+    ensures read_back { WrittenFullIsRead }
 {}
