@@ -13,3 +13,7 @@ pub mod Spelled
 pub mod SpelledParts
 pub mod ReadAgain
 pub mod OneValue
+pub mod FoundItems
+pub mod FoundValues
+pub mod FoundParts
+pub mod FittingValues

@@ -28,7 +28,7 @@ use Rattle.pvd_codec.specs.Written.{canonical_leaf, canonical_marked, canonical_
 use Rattle.pvd_codec.proofs.Spelled.{value_written}
 
 -- a leaf of a part is spelled as the leaf that it is
-as_leaf : (m : ℕ → Bool) (n : ℕ) (o : Order) (v : Data) (t : Tree) (before : Types) (bytes : List ℕ) (after : Types) → is_leaf t ≡ true → SpellsLeaf (m n) o v t before bytes after → SpellsMarked m n o v t before bytes after
+pub as_leaf : (m : ℕ → Bool) (n : ℕ) (o : Order) (v : Data) (t : Tree) (before : Types) (bytes : List ℕ) (after : Types) → is_leaf t ≡ true → SpellsLeaf (m n) o v t before bytes after → SpellsMarked m n o v t before bytes after
 as_leaf m n o (single x) (node struct id fs) before bytes after leaf_is h = absurd (false≢true leaf_is)
 as_leaf m n o (single x) t before bytes after leaf_is h = h
 as_leaf m n o (many xs) (node struct id fs) before bytes after leaf_is h = absurd (false≢true leaf_is)

@@ -1,7 +1,12 @@
 -- Faults of values at their places.
 use Rattle.std.specs.Prelude.{◌≡◌, ℕ, ◌-◌, Result, Ok, Err}
+use Rattle.std.specs.Ordering.{nat_cmp}
+use Rattle.std.specs.FinSet.{FinSet}
 use Rattle.pva_wire.specs.Input.{Input}
 use Rattle.pva_wire.specs.Faults as wire
+use Rattle.pvd_value.specs.Data.{Data}
+use Rattle.pvd_value.specs.View.{view}
+use Rattle.pvd_value.specs.declared.value.PvValue.{PvValue}
 use Rattle.pvd_desc.specs.Faults as desc
 use Rattle.pvd_desc.specs.Types.{Types}
 use Rattle.pvd_codec.specs.Reading.{State}
@@ -35,3 +40,13 @@ IsFaultOf end fault read = (cause : ValueCause) × (left : ℕ) × (read ≡ Err
 abbrev pub GivesAt : {X Y : Type 0} → Input → Input → Types → Types → (X → Y) → Result X ValueFault → Result (Y × State) (ValueCause × ℕ) → Type 0
 GivesAt old new before after view (Ok x) read = (read ≡ Ok (view x, (new.rest, after))) × (new ≡ record old { rest = new.rest })
 GivesAt old new before after view (Err fault) read = IsFaultOf old.end fault read × (new ≡ old) × (after ≡ before)
+
+-- a call answers this, unless memory ran out
+abbrev pub Answers : {X Y : Type 0} → (X → Y) → Result X ValueFault → Y → Type 0
+Answers view (Ok x) y = view x ≡ y
+Answers view (Err NoMemory) y = Unit {0}
+Answers view (Err fault) y = ⊥
+
+-- a mask and a value
+abbrev pub part_view : FinSet nat_cmp × PvValue → FinSet nat_cmp × Data
+part_view x = (x.0, view x.1)

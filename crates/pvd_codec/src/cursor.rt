@@ -1,10 +1,13 @@
-ghost use Rattle.std.specs.Prelude.{◌≡◌, true, IfOk};
+ghost use Rattle.std.specs.Prelude.{◌≡◌, ℕ, true, List, ◌++◌, IfOk};
 ghost use Rattle.pva_wire.specs.Faults.{fault_at as wire_fault_at};
+ghost use Rattle.pvd_value.specs.Data.{Data};
 ghost use Rattle.pvd_value.specs.View.{view};
 ghost use Rattle.pvd_value.specs.Fits.{fits_of};
 ghost use Rattle.pvd_desc.specs.Faults.{fault_at as desc_fault_at};
+ghost use Rattle.pvd_desc.specs.Types.{Types};
+ghost use Rattle.pvd_codec.specs.Grammar.{Full, Part};
 ghost use Rattle.pvd_codec.specs.Reading.{full_at, part_at};
-ghost use Rattle.pvd_codec.specs.Faults.{GivesAt, fault_of};
+ghost use Rattle.pvd_codec.specs.Faults.{Answers, GivesAt, part_view, fault_of};
 
 use crate::fault::{ValueCause, ValueFault, ValueStop};
 use crate::parts::part_at;
@@ -70,6 +73,9 @@ pub fn read_full(
     ty: &PvType,
 ) -> Result<PvValue, ValueFault>
     ensures exact { GivesAt from.old from.new registry.old registry.new view result (full_at from.old.order ty.now (from.old.rest, registry.old)) }
+    ensures spelled { IfOk result (λ v. (front : List ℕ) × Full from.old.order registry.old ty.now front (view v) registry.new × (from.old.rest ≡ front ++ from.new.rest)) }
+    ensures found { (front rest : List ℕ) (v : Data) (after : Types) → Full from.old.order registry.old ty.now front v after → from.old.rest ≡ front ++ rest → Answers view result v }
+    ensures fits { IfOk result (λ v. fits_of 16 (view v) ty.now ≡ true) }
 {
     let mut defined = Definitions::new(alloc);
     let bytes = from.rest();
@@ -101,7 +107,9 @@ pub fn read_part(
     registry: &mut Registry,
     ty: &PvType,
 ) -> Result<(BitSet, PvValue), ValueFault>
-    ensures exact { GivesAt from.old from.new registry.old registry.new (λ x. (x.0, view x.1)) result (part_at from.old.order ty.now (from.old.rest, registry.old)) }
+    ensures exact { GivesAt from.old from.new registry.old registry.new part_view result (part_at from.old.order ty.now (from.old.rest, registry.old)) }
+    ensures spelled { IfOk result (λ x. (front : List ℕ) × Part from.old.order registry.old ty.now front x.0 (view x.1) registry.new × (from.old.rest ≡ front ++ from.new.rest)) }
+    ensures fits { IfOk result (λ x. fits_of 16 (view x.1) ty.now ≡ true) }
 {
     let mut defined = Definitions::new(alloc);
     let bytes = from.rest();

@@ -1,3 +1,4 @@
+ghost use Rattle.pvd_codec.specs.Found.{FullFits, PartFits, ReadIsFull, ReadIsPart};
 ghost use Rattle.pvd_codec.specs.Laws.{FullIsRead, OneFull, WrittenFullIsRead};
 ghost use Rattle.pvd_codec.specs.Written.{WrittenIsFull, WrittenIsPart};
 
@@ -16,4 +17,17 @@ pub fn values()
     ensures only { FullIsRead }
     ensures unique { OneFull }
     ensures read_back { WrittenFullIsRead }
+{}
+
+/// What is read at the front of some bytes is spelled there: the readers answer a value, or a part, only
+/// where a front of their input is in the grammar.
+pub fn read_is_spelled()
+    ensures full { ReadIsFull }
+    ensures part { ReadIsPart }
+{}
+
+/// What spells a value, or a part of one, spells one that fits its type.
+pub fn spelled_fits()
+    ensures full { FullFits }
+    ensures part { PartFits }
 {}
