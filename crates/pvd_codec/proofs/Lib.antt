@@ -1,8 +1,11 @@
 pub mod Room
 pub mod Loop
 pub mod Numbers
-pub mod Parts
+pub mod Steps
 pub mod Calls
+pub mod Marked
+pub mod FirstBits
+pub mod Marks
 pub mod Growing
 pub mod Holding
 pub mod Elements

@@ -1,6 +1,6 @@
 -- Reading a value from left to right, with the first fault that is met and how many bytes are left from its item on
 -- (pvAccess Protocol Specification, "Data Encoding").
-use Rattle.std.specs.Prelude.{◌≡◌, ℕ, zero, suc, ◌+◌, ◌*◌, Bool as Truth, true, false, List, [], ◌∷◌, length, take, drop, Option, Some, None, Result, Ok, Err, nat_lt, ◌==◌, if◌then◌else◌}
+use Rattle.std.specs.Prelude.{◌≡◌, ℕ, zero, suc, ◌+◌, ◌-◌, ◌*◌, Bool as Truth, true, false, List, [], ◌∷◌, length, take, Option, Some, None, Result, Ok, Err, nat_lt, ◌==◌, if◌then◌else◌}
 use Rattle.std.specs.Int.{w8, w16, w32, w64, cast_signed}
 use Rattle.std.specs.Ordering.{nat_cmp}
 use Rattle.std.specs.FinSet.{FinSet, contains}
@@ -10,7 +10,7 @@ use Rattle.pva_wire.specs.declared.fault.Cause.TheVariants.{Short}
 use Rattle.pva_wire.specs.declared.fault.Stop as wire_stop
 use Rattle.pva_wire.specs.declared.fault.Stop.TheVariants as wire_stops
 use Rattle.pva_wire.specs.Reading.{◌>>=◌, number_at, size_at, count_at, counted_at, text_at}
-use Rattle.pva_wire.specs.Bits.{byte_bit, bits_of}
+use Rattle.pva_wire.specs.Bits.{byte_bit, bits_at}
 use Rattle.pvd_type.specs.declared.shape.Scalar.{Scalar}
 use Rattle.pvd_type.specs.declared.shape.Scalar.TheVariants.{Bool, I8, I16, I32, I64, U8, U16, U32, U64, F32, F64, Text}
 use Rattle.pvd_type.specs.declared.shape.Extent.{Extent}
@@ -248,15 +248,16 @@ unfoldable pub first_marked : (ℕ → Truth) → ℕ → ℕ → Option ℕ
 first_marked marked n zero = None
 first_marked marked n (suc k) = if marked n then Some n else first_marked marked (n + 1) k
 
-abbrev pub unless_outside : {A : Type 0} → Option ℕ → ℕ → A → Result A (ValueCause × ℕ)
-unless_outside None left x = Ok x
-unless_outside (Some n) left x = Err (BitOutside n, left)
+abbrev pub unless_outside : Option ℕ → ℕ → Result (Unit {0}) (ValueCause × ℕ)
+unless_outside None left = Ok tt
+unless_outside (Some n) left = Err (BitOutside n, left)
 
--- The leaves that a set of bits marks. A bit at or above the count of the type's nodes is a fault, at the set; it may be above 65,535.
+-- The leaves that a set of bits marks. The least bit at or above the count of the type's nodes is a fault, at the set; it may be above 65,535.
 unfoldable pub marks_at : Order → Tree → List ℕ → Read (List ℕ) (FinSet nat_cmp)
 marks_at order t bytes =
     lifted (counted_at order 1 bytes) >>= λ n.
-    unless_outside (first_marked (byte_bit order (take n.0 n.1)) (length (numbered t)) (8 * n.0)) (length bytes) (marked_leaves t (bits_of order (take n.0 n.1)), drop n.0 n.1)
+    unless_outside (first_marked (byte_bit order (take n.0 n.1)) (length (numbered t)) (8 * n.0 - length (numbered t))) (length bytes) >>= λ u.
+    lifted (bits_at order bytes) >>= λ s. Ok (marked_leaves t s.0, s.1)
 
 -- what stands under a number: a value where the number is marked
 abbrev pub slot_at : Truth → Order → Tree → State → Read State Data

@@ -3,19 +3,17 @@ ghost use Rattle.pva_wire.specs.Faults.{fault_at as wire_fault_at};
 ghost use Rattle.pvd_value.specs.View.{view};
 ghost use Rattle.pvd_value.specs.Fits.{fits_of};
 ghost use Rattle.pvd_desc.specs.Faults.{fault_at as desc_fault_at};
-ghost use Rattle.pvd_codec.specs.Reading.{full_at};
+ghost use Rattle.pvd_codec.specs.Reading.{full_at, part_at};
 ghost use Rattle.pvd_codec.specs.Faults.{GivesAt, fault_of};
 
 use crate::fault::{ValueCause, ValueFault, ValueStop};
-use crate::reading::value_at;
+use crate::parts::part_at;
+use crate::reading::{DEPTH, value_at};
 use pva_wire::{Cause, Cursor, WireFault};
 use pvd_desc::{Definitions, DescCause, DescFault, Registry};
-use pvd_type::PvType;
+use pvd_type::{BitSet, PvType};
 use pvd_value::PvValue;
 use std::alloc::Global;
-
-/// How many variants may stand inside one another.
-const DEPTH: u32 = 16;
 
 /// The fault of an item of the basic coding, at its place.
 fn placed_wire(cause: Cause, place: usize) -> WireFault
@@ -88,6 +86,30 @@ pub fn read_full(
             registry.commit(defined)?;
             from.go_to(rest);
             Ok(value)
+        }
+        Err(stop) => Err(placed(from, stop)),
+    }
+}
+
+/// Reads a part of a value of a type: a set of bits, and the leaves that it marks, in the order of their
+/// numbers (pvAccess Protocol Specification, "BitSets" and "Data Encoding"). The set that is answered has
+/// leaves alone; the leaves outside it are blank. A bit at or above the count of the type's nodes is
+/// BitOutside, before any value is read. After a refusal the cursor and the registry are as before.
+pub fn read_part(
+    alloc: Global,
+    from: &mut Cursor,
+    registry: &mut Registry,
+    ty: &PvType,
+) -> Result<(BitSet, PvValue), ValueFault>
+    ensures exact { GivesAt from.old from.new registry.old registry.new (λ x. (x.0, view x.1)) result (part_at from.old.order ty.now (from.old.rest, registry.old)) }
+{
+    let mut defined = Definitions::new(alloc);
+    let bytes = from.rest();
+    match part_at(alloc, from.order(), registry, &mut defined, ty, bytes) {
+        Ok((mask, value, rest)) => {
+            registry.commit(defined)?;
+            from.go_to(rest);
+            Ok((mask, value))
         }
         Err(stop) => Err(placed(from, stop)),
     }

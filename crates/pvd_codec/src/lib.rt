@@ -5,6 +5,7 @@ mod cursor;
 mod fault;
 mod laws;
 mod lists;
+mod parts;
 mod parts_writing;
 mod reading;
 mod scalars;
@@ -13,7 +14,7 @@ mod writing;
 #[cfg(test)]
 mod writing_tests;
 
-pub use cursor::read_full;
+pub use cursor::{read_full, read_part};
 pub use fault::{ValueCause, ValueFault, ValueStop};
 pub use laws::{values, written_is_spelled};
 pub use parts_writing::write_part;

@@ -17,6 +17,9 @@ use std::alloc::Global;
 // The functions of the cycle below are given how many variants may stand inside one another. A variant
 // takes one from that; all else goes down in the type.
 
+/// How many variants may stand inside one another.
+pub const DEPTH: u32 = 16;
+
 /// What stands in a list of structures or unions.
 #[derive(Clone, Copy)]
 pub enum Element {

@@ -15,7 +15,7 @@ use Rattle.pvd_desc.specs.Types.{laid}
 use Rattle.pvd_desc.specs.Reading.{desc_at}
 use Rattle.pvd_codec.specs.Reading.{State, Parcel, described_stop, items_at, flagged, row_at, element_at, parcel_at}
 use Rattle.pvd_codec.proofs.Loop.{goes_on, ends, is_done}
-use Rattle.pvd_codec.proofs.Parts.{nodes_at, row_ends, row_goes, row_push, row_done, none_left, structs_tree, unions_tree, described_fails, structs_fail, structs_are, unions_fail, unions_are, variant_is, union_bad, union_fails, union_is, parcel_none, parcel_fails, parcel_null, parcel_value_fails, parcel_is}
+use Rattle.pvd_codec.proofs.Steps.{nodes_at, row_ends, row_goes, row_push, row_done, none_left, structs_tree, unions_tree, described_fails, structs_fail, structs_are, unions_fail, unions_are, variant_is, union_bad, union_fails, union_is, parcel_none, parcel_fails, parcel_null, parcel_value_fails, parcel_is}
 use Rattle.pvd_codec.proofs.reading.+value.Goals as goal
 
 pub elements_at-returns-in_err-value : goal.elements_at-returns-in_err-value

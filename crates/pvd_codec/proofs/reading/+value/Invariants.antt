@@ -6,7 +6,7 @@ use Rattle.pvd_value.proofs.Rows.{joined}
 use Rattle.pvd_desc.specs.Types.{laid}
 use Rattle.pvd_codec.specs.Reading.{items_at, flagged, row_at, element_at, parcel_at}
 use Rattle.pvd_codec.proofs.Loop.{with_front}
-use Rattle.pvd_codec.proofs.Parts.{with_row}
+use Rattle.pvd_codec.proofs.Steps.{with_row}
 use Rattle.pvd_codec.proofs.reading.+value.Given as goal
 
 abbrev pub decreases-value_at : goal.decreases-value_at

@@ -60,7 +60,7 @@ pub nested : {A B C E : Type 0} (r : Result A E) (f : A → Result B E) (g : B �
 nested (Ok x) f g = refl
 nested (Err e) f g = refl
 
-over : (r : Read State Data) (k : State → Read State Row) (f : Row → Row) → with_row f (r >>= λ v. k v.1 >>= λ vs. Ok (more v.0 vs.0, vs.1)) ≡ (r >>= λ v. with_row (λ r. f (more v.0 r)) (k v.1))
+pub over : (r : Read State Data) (k : State → Read State Row) (f : Row → Row) → with_row f (r >>= λ v. k v.1 >>= λ vs. Ok (more v.0 vs.0, vs.1)) ≡ (r >>= λ v. with_row (λ r. f (more v.0 r)) (k v.1))
 over (Ok x) k f = nested (k x.1) (λ vs. Ok (more x.0 vs.0, vs.1)) (λ y. Ok (f y.0, y.1))
 over (Err e) k f = refl
 

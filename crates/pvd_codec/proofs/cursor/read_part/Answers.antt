@@ -1,0 +1,25 @@
+use Rattle.std.proofs.Common.{◌≡◌, ◌∙◌, ap, sym, refl, List, ℕ, Ok}
+use Rattle.pva_wire.specs.Input.{Input}
+use Rattle.pvd_value.specs.View.{view}
+use Rattle.pvd_codec.specs.Reading.{part_at}
+use Rattle.pvd_codec.proofs.Calls.{read_gave, read_failed}
+use Rattle.pvd_codec.proofs.cursor.read_part.Goals as goal
+
+pub returns-in_ok-commit-in-Ok : goal.returns-in_ok-commit-in-Ok
+returns-in_ok-commit-in-Ok c =
+    let from = c.args.from.now in
+    let gave = rw (c.new-defined.ensures, c.order.ensures, c.rest-bytes.ensures) at c.in-Ok.ensures in
+    let rest_is : c.go_to.new.self.rest ≡ c.in-Ok.rest.now = ap (λ (input : Input). input.rest) c.go_to.ensures in
+    record {
+      exact = (
+        read_gave (part_at from.order c.args.ty.now) c.args.registry.now from.rest c.in-Ok.rest.now c.part_at.new.changed c.commit.new.self ((c.in-Ok.mask, view c.in-Ok.value)) gave c.in_ok-commit-in-Ok.ensures.ok
+            ∙ ap (λ (rest : List ℕ). Ok ((c.in-Ok.mask, view c.in-Ok.value), (rest, c.commit.new.self))) (sym rest_is),
+        c.go_to.ensures ∙ ap (λ (rest : List ℕ). record { order = from.order; end = from.end; rest = rest }) (sym rest_is),
+      );
+    }
+
+pub returns-in-Err : goal.returns-in-Err
+returns-in-Err c =
+    let from = c.args.from.now in
+    let failed = rw (c.new-defined.ensures, c.order.ensures, c.rest-bytes.ensures) at c.in-Err.ensures in
+    record { exact = (rw c.placed.ensures (read_failed (part_at from.order c.args.ty.now) c.args.registry.now from.rest from.end c.in-Err.stop failed), refl, refl) }
