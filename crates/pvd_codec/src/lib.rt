@@ -11,6 +11,8 @@ mod reading;
 mod scalars;
 mod scalars_writing;
 mod writing;
+#[cfg(test)]
+mod writing_tests;
 
 pub use cursor::{read_full, read_part};
 pub use fault::{ValueCause, ValueFault, ValueStop};
