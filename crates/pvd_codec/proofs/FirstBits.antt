@@ -60,9 +60,10 @@ counted_size order width bytes x h =
     elim (chosen (ltb (length b.0.1) (b.0.0 * width)) (Err (Short, length bytes)) (Ok (b.0.0, b.0.1)) (Ok x) b.2) [
       | inl short ↦ absurd cc
       | inr enough ↦
-          let same = ok_is (b.0.0, b.0.1) x enough.1 in
-          (s.1 ∙ ap (λ (y : Option ℕ × List ℕ). Ok y) (λ i. (of.0 i, of.1 i)) ∙ ap (λ (y : ℕ × List ℕ). Ok (Some y.0, y.1)) same,
-          subst (λ (y : ℕ × List ℕ). y.0 * width ≤ length y.1) same (ltb-false (length b.0.1) (b.0.0 * width) enough.0))
+          let same = ok_is (b.0.0, b.0.1) x enough.1 in (
+            s.1 ∙ ap (λ (y : Option ℕ × List ℕ). Ok y) (λ i. (of.0 i, of.1 i)) ∙ ap (λ (y : ℕ × List ℕ). Ok (Some y.0, y.1)) same,
+            subst (λ (y : ℕ × List ℕ). y.0 * width ≤ length y.1) same (ltb-false (length b.0.1) (b.0.0 * width) enough.0),
+          )
     ]
 
 -- a set of bits, after its size

@@ -39,10 +39,10 @@ bool_takes [] x fits h = absurd cc
 bool_takes (b ∷ rest) x fits h =
     elim (chosen (eqb b 0) (Ok (false, rest)) (cond (eqb b 1) (Ok (true, rest)) (Err (BadBool b, suc (length rest)))) (Ok x) h) [
       | inl a ↦ subst (Taken SpellsBool (b ∷ rest)) (ok_is (false, rest) x a.1)
-        (0 ∷ [], refl, record { parts = ap (λ (n : ℕ). n ∷ rest) (eqb-true b 0 a.0); rest_fits = IsBytes-rest b rest fits })
+          (0 ∷ [], refl, record { parts = ap (λ (n : ℕ). n ∷ rest) (eqb-true b 0 a.0); rest_fits = IsBytes-rest b rest fits })
       | inr a ↦ elim (chosen (eqb b 1) (Ok (true, rest)) (Err (BadBool b, suc (length rest))) (Ok x) a.1) [
         | inl c ↦ subst (Taken SpellsBool (b ∷ rest)) (ok_is (true, rest) x c.1)
-          (1 ∷ [], refl, record { parts = ap (λ (n : ℕ). n ∷ rest) (eqb-true b 1 c.0); rest_fits = IsBytes-rest b rest fits })
+            (1 ∷ [], refl, record { parts = ap (λ (n : ℕ). n ∷ rest) (eqb-true b 1 c.0); rest_fits = IsBytes-rest b rest fits })
         | inr c ↦ absurd cc
       ]
     ]

@@ -42,6 +42,7 @@ module _ (o : Order) (marked : ℕ → Bool) where
 
   mutual
     unfolding marked_with marked_row
+
     marked_takes : (n : ℕ) (t : Tree) (st : State) (x : Data × State) → IsBytes st.0 → marked_with o marked n t st ≡ Ok x → MarkedTaken n t st x
     marked_takes n (leaf l) st x fits h = leaf_taken n (leaf l) st x refl fits h
     marked_takes n (node struct id fs) st x fits h =
@@ -73,7 +74,7 @@ marks_take : (o : Order) (t : Tree) (bytes : List ℕ) (m : FinSet nat_cmp × Li
 unfolding marks_at
 marks_take o t bytes m fits h =
     let n = bind_ok (lifted (counted_at o 1 bytes)) (λ n.
-        unless_outside (first_marked (byte_bit o (take n.0 n.1)) (length (numbered t)) (8 * n.0 - length (numbered t))) (length bytes) >>= λ u. lifted (bits_at o bytes) >>= λ s. Ok (marked_leaves t s.0, s.1)) m h in
+    unless_outside (first_marked (byte_bit o (take n.0 n.1)) (length (numbered t)) (8 * n.0 - length (numbered t))) (length bytes) >>= λ u. lifted (bits_at o bytes) >>= λ s. Ok (marked_leaves t s.0, s.1)) m h in
     let u = bind_ok (unless_outside (first_marked (byte_bit o (take n.0.0 n.0.1)) (length (numbered t)) (8 * n.0.0 - length (numbered t))) (length bytes)) (λ u. lifted (bits_at o bytes) >>= λ s. Ok (marked_leaves t s.0, s.1)) m n.2 in
     let s = bind_ok (lifted (bits_at o bytes)) (λ s. Ok (marked_leaves t s.0, s.1)) m u.2 in
     let read = unlifted (bits_at o bytes) s.0 s.1 in

@@ -209,6 +209,7 @@ module _ (left : ℕ) (o : Order) (parcel : State → Read State Parcel) (good :
 
   mutual
     unfolding value_with row_with member_with
+
     pub value_takes : (t : Tree) (st : State) (x : Data × State) → IsBytes st.0 → value_with o parcel t st ≡ Ok x → ValueTaken left o t st x
     value_takes (leaf l) st x fits h = leaf_takes l st x fits h
     value_takes (node struct id fs) st x fits h = struct_taken id fs (λ s r f e. row_takes fs s r f e) st x fits h

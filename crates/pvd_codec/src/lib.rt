@@ -10,6 +10,8 @@ mod parts_writing;
 mod reading;
 mod scalars;
 mod scalars_writing;
+#[cfg(test)]
+mod tests;
 mod writing;
 #[cfg(test)]
 mod writing_tests;

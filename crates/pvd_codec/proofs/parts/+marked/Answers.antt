@@ -46,8 +46,8 @@ marked_row_at-loop-member-preserved t c =
     let after : State = (c.in_ok-value.after.now, laid c.args.base.now c.marked_at.new.changed) in
     record {
       same = rw (c.in_ok-push.ensures.items, c.in_ok-value.ensures.next) (row_push c.loop-member.values.items c.in_ok-value.value (marked_row c.args.order (set.contains c.args.mask.now) (c.loop-member.next + length (numbered (shape_view m.shape))) (members_view (drop (i + 1) ms)) after)
-      ∙ marked_goes c.args.order (set.contains c.args.mask.now) (row_view c.loop-member.values.items) c.loop-member.next m.name (shape_view m.shape) (members_view (drop (i + 1) ms)) (c.loop-member.rest.now, laid c.args.base.now c.loop-member.changed)
-      (view c.in_ok-value.value) after (marked_row c.args.order (set.contains c.args.mask.now) c.args.number (members_view ms) (c.args.bytes.now, laid c.args.base.now c.args.changed.now)) c.in_ok-value.ensures.value (rw rest at c.loop-member.invariant.same));
+          ∙ marked_goes c.args.order (set.contains c.args.mask.now) (row_view c.loop-member.values.items) c.loop-member.next m.name (shape_view m.shape) (members_view (drop (i + 1) ms)) (c.loop-member.rest.now, laid c.args.base.now c.loop-member.changed)
+          (view c.in_ok-value.value) after (marked_row c.args.order (set.contains c.args.mask.now) c.args.number (members_view ms) (c.args.bytes.now, laid c.args.base.now c.args.changed.now)) c.in_ok-value.ensures.value (rw rest at c.loop-member.invariant.same));
       total = omega (arith, c.in_ok-value.ensures.next, rw rest at c.loop-member.invariant.total, length-append (numbered (shape_view m.shape)) (numbered_fields (members_view (drop (i + 1) ms))));
     }
 
