@@ -13,3 +13,4 @@ pub mod Spelled
 pub mod SpelledParts
 pub mod ReadAgain
 pub mod OneValue
+pub mod PartAgain

@@ -1,4 +1,4 @@
-ghost use Rattle.pvd_codec.specs.Laws.{FullIsRead, OneFull, WrittenFullIsRead};
+ghost use Rattle.pvd_codec.specs.Laws.{FullIsRead, OneFull, WrittenFullIsRead, PartIsRead, OnePart, WrittenPartIsRead};
 ghost use Rattle.pvd_codec.specs.Written.{WrittenIsFull, WrittenIsPart};
 
 /// What is written spells the value that was given, whatever types are known before, and defines none:
@@ -16,4 +16,13 @@ pub fn values()
     ensures only { FullIsRead }
     ensures unique { OneFull }
     ensures read_back { WrittenFullIsRead }
+{}
+
+/// The same laws for parts: what spells a part is read as it, mask and value, whatever follows; so two
+/// parts that one list of bytes begins with are one; and what is written of the marked leaves of a value
+/// is read back, with blank leaves elsewhere.
+pub fn value_parts()
+    ensures only { PartIsRead }
+    ensures unique { OnePart }
+    ensures read_back { WrittenPartIsRead }
 {}
