@@ -9,7 +9,6 @@ use Rattle.pva_wire.specs.Reading.{size_at, count_of_size, count_at, counted_at}
 use Rattle.pva_wire.specs.Bits.{byte_bit, is_high, bits_of, bits_of_size, bits_at}
 use Rattle.pva_wire.proofs.Takes.{chosen, ok_is, bind_ok}
 use Rattle.pva_wire.proofs.BitsHeld.{whole}
-use Rattle.pvd_type.specs.Sets.{IsFirstFrom}
 use Rattle.pvd_type.proofs.Sets.{in_set_of}
 use Rattle.pvd_codec.specs.Reading.{first_marked}
 

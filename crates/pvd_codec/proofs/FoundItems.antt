@@ -1,5 +1,5 @@
 -- The scalars and lists of scalars that were read are spelled at the front.
-use Rattle.std.proofs.Common.{◌≡◌, ℕ, zero, suc, ◌+◌, ◌*◌, ◌≤◌, Bool as Truth, true, false, cond, ltb, eqb, List, [], ◌∷◌, ◌++◌, length, Option, Some, None, Result, Ok, Err, refl, sym, ap, subst, ◌∙◌, arith, inl, inr, append_assoc}
+use Rattle.std.proofs.Common.{◌≡◌, ℕ, zero, suc, ◌*◌, ◌≤◌, Bool as Truth, true, false, cond, ltb, eqb, List, [], ◌∷◌, ◌++◌, length, Option, Some, None, Result, Ok, Err, refl, sym, ap, subst, ◌∙◌, arith, inl, inr, append_assoc}
 use Rattle.std.specs.Int.{Width, w8, w16, w32, w64, cast_signed}
 use Rattle.std.proofs.lemmas.Bool.{ltb-false, eqb-true}
 use Rattle.pva_wire.specs.declared.order.Order.{Order}
@@ -9,7 +9,7 @@ use Rattle.pva_wire.specs.Spelling.{IsBytes, SpellsNumber, SpellsSize, SpellsTex
 use Rattle.pva_wire.specs.Reading.{◌>>=◌, number_at, size_at, count_at, counted_at, text_at}
 use Rattle.pva_wire.proofs.Takes.{Takes, IsBytes-rest, chosen, ok_is, bind_ok}
 use Rattle.pva_wire.proofs.Digits.{number_takes}
-use Rattle.pva_wire.proofs.Sizes.{size_again, size_takes}
+use Rattle.pva_wire.proofs.Sizes.{size_again}
 use Rattle.pva_wire.proofs.Texts.{text_takes}
 use Rattle.pvd_type.specs.declared.shape.Scalar.{Scalar}
 use Rattle.pvd_type.specs.declared.shape.Scalar.TheVariants.{Bool, I8, I16, I32, I64, U8, U16, U32, U64, F32, F64, Text}

@@ -1,5 +1,5 @@
 -- The parts that were read are spelled at the front.
-use Rattle.std.proofs.Common.{◌≡◌, ℕ, ◌+◌, ◌-◌, ◌*◌, Bool, true, false, List, [], ◌∷◌, ◌++◌, length, take, Option, Some, None, Ok, refl, sym, ap, subst, ◌∙◌, nat_cmp}
+use Rattle.std.proofs.Common.{◌≡◌, ℕ, ◌+◌, ◌-◌, ◌*◌, Bool, true, false, List, [], ◌++◌, length, take, Option, Some, None, Ok, refl, subst, nat_cmp}
 use Rattle.std.specs.FinSet.{FinSet, contains}
 use Rattle.pva_wire.specs.declared.order.Order.{Order}
 use Rattle.pva_wire.specs.Spelling.{IsBytes}

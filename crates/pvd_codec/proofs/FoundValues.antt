@@ -1,5 +1,5 @@
 -- The values that were read are spelled at the front.
-use Rattle.std.proofs.Common.{◌≡◌, ℕ, zero, suc, ◌+◌, ◌-◌, ◌<◌, Bool, true, false, List, [], ◌∷◌, ◌++◌, length, Option, Some, None, Result, Ok, Err, refl, sym, ap, subst, ◌∙◌, arith, inl, inr, append_assoc, add-one}
+use Rattle.std.proofs.Common.{◌≡◌, ℕ, zero, suc, ◌-◌, Bool, true, false, List, [], ◌∷◌, ◌++◌, length, Option, Some, None, Result, Ok, Err, refl, sym, subst, ◌∙◌, arith, inl, inr}
 use Rattle.pva_wire.specs.declared.order.Order.{Order}
 use Rattle.pva_wire.specs.Spelling.{IsBytes, SpellsSize}
 use Rattle.pva_wire.specs.Reading.{◌>>=◌, size_at, counted_at}
@@ -7,19 +7,19 @@ use Rattle.std.proofs.Math.Seq.{drop-append_seam}
 use Rattle.pva_wire.proofs.Takes.{Takes, IsBytes-drop, ok_is, bind_ok}
 use Rattle.pva_wire.proofs.Sizes.{size_takes}
 use Rattle.pvd_type.specs.Tree.{Tree, leaf, node, Leaf, plain, bound_text, list, variant, variant_list, Kind, struct, union, struct_list, union_list, Fields, no_fields, field}
-use Rattle.pvd_value.specs.Data.{Data, Single, single, many, members, unset, selected, empty, carried, structs, unions, variants, Row, end, more, gap}
+use Rattle.pvd_value.specs.Data.{Data, single, many, members, unset, selected, carried, structs, unions, variants, Row, end, more, gap}
 use Rattle.pvd_value.specs.View.{gaps_of, parcels_of}
 use Rattle.pvd_value.specs.Fits.{member_at}
 use Rattle.pvd_desc.specs.declared.fault.DescCause.{DescCause}
 use Rattle.pvd_desc.specs.Types.{Types}
 use Rattle.pvd_desc.specs.Reading.{desc_at}
 use Rattle.pvd_desc.specs.Grammar.{Desc}
-use Rattle.pvd_desc.proofs.Parts.{joined, after_byte}
+use Rattle.pvd_desc.proofs.Parts.{joined}
 use Rattle.pvd_desc.proofs.FoundThere.{found_there}
-use Rattle.pvd_codec.specs.Grammar.{flag, Counted, on_some, row_length, SpellsNone, SpellsGap, IsElement, Spells, SpellsRow, SpellsElements}
-use Rattle.pvd_codec.specs.Reading.{Read, State, Parcel, lifted, described, steady, bool_at, scalar_at, bound_text_at, list_at, items_at, flagged_of, flagged, listed, present, union_of, union_by, variant_of, variant_with, leaf_with, value_with, row_with, member_with, parcel_of, parcel_at, value_at}
+use Rattle.pvd_codec.specs.Grammar.{flag, Counted, on_some, row_length, SpellsGap, IsElement, Spells, SpellsRow, SpellsElements}
+use Rattle.pvd_codec.specs.Reading.{Read, State, Parcel, lifted, described, steady, bool_at, scalar_at, bound_text_at, list_at, items_at, flagged_of, flagged, listed, present, union_of, union_by, variant_of, leaf_with, value_with, row_with, member_with, parcel_of, parcel_at, value_at}
 use Rattle.pvd_codec.specs.Found.{ReadIsFull}
-use Rattle.pvd_codec.proofs.FoundItems.{unlifted, Taken, bool_takes, scalar_takes, list_takes, bound_takes, count_taken}
+use Rattle.pvd_codec.proofs.FoundItems.{unlifted, bool_takes, scalar_takes, list_takes, bound_takes, count_taken}
 
 undescribed : {A : Type 0} (r : Result A (DescCause × ℕ)) (x : A) → described r ≡ Ok x → r ≡ Ok x
 undescribed (Ok y) x h = cc

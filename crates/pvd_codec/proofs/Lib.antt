@@ -17,3 +17,4 @@ pub mod FoundItems
 pub mod FoundValues
 pub mod FoundParts
 pub mod FittingValues
+pub mod PartAgain

@@ -1,5 +1,5 @@
 -- Reading the marked leaves of members one after another.
-use Rattle.std.proofs.Common.{◌≡◌, ℕ, ◌+◌, Bool, List, length, Result, Ok, Err, refl, sym, ap, ◌∙◌}
+use Rattle.std.proofs.Common.{◌≡◌, ℕ, ◌+◌, Bool, List, length, Ok, refl, sym, ap, ◌∙◌}
 use Rattle.pva_wire.specs.declared.order.Order.{Order}
 use Rattle.pva_wire.specs.Reading.{◌>>=◌}
 use Rattle.pvd_type.specs.Tree.{Tree, Fields, no_fields, field}

@@ -1,5 +1,5 @@
 -- Reading which leaves of a part are marked.
-use Rattle.std.proofs.Common.{◌≡◌, ℕ, ◌-◌, ◌*◌, ◌≤◌, Bool, true, false, List, length, take, Option, Some, None, Result, Ok, Err, refl, sym, ap, ◌∙◌, arith, nat_cmp}
+use Rattle.std.proofs.Common.{◌≡◌, ℕ, ◌-◌, ◌*◌, ◌≤◌, true, List, length, take, Option, Some, None, Result, Ok, Err, refl, sym, ◌∙◌, arith, nat_cmp}
 use Rattle.std.proofs.lemmas.Bool.{false≢true}
 use Rattle.std.proofs.lemmas.List.{length-take}
 use Rattle.std.specs.FinSet.{FinSet, contains}
@@ -14,8 +14,7 @@ use Rattle.pvd_type.specs.Tree.{Tree}
 use Rattle.pvd_type.specs.Numbers.{numbered}
 use Rattle.pvd_value.specs.Leaves.{marked_leaves}
 use Rattle.pvd_codec.specs.declared.fault.ValueCause.TheVariants.{BitOutside}
-use Rattle.pvd_codec.specs.declared.fault.ValueStop.{ValueStop}
-use Rattle.pvd_codec.specs.Reading.{Read, Fails, lifted, lifted_stop, first_marked, marks_at}
+use Rattle.pvd_codec.specs.Reading.{Fails, lifted, lifted_stop, first_marked, marks_at}
 use Rattle.pvd_codec.proofs.FirstBits.{counted_size, inside_bits}
 use Rattle.pvd_codec.proofs.Steps.{along, bind_fails}
 

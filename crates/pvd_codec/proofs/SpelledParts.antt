@@ -121,7 +121,7 @@ one_more : (b : Bool) (n : ℕ) (r s z : List ℕ) → r ≡ s ++ z → cond b (
 one_more true n r s z e = ap (λ (xs : List ℕ). n ∷ xs) e
 one_more false n r s z e = e
 
-leaves_apart : (n : ℕ) (xs ys : List Tree) → leaves_from n (xs ++ ys) ≡ leaves_from n xs ++ leaves_from (n + length xs) ys
+pub leaves_apart : (n : ℕ) (xs ys : List Tree) → leaves_from n (xs ++ ys) ≡ leaves_from n xs ++ leaves_from (n + length xs) ys
 leaves_apart n [] ys = ap (λ k. leaves_from k ys) (sym (add-zero n))
 leaves_apart n (x ∷ xs) ys =
     let e : (n + 1) + length xs ≡ n + suc (length xs) = omega arith in

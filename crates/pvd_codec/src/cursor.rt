@@ -1,4 +1,6 @@
 ghost use Rattle.std.specs.Prelude.{◌≡◌, ℕ, true, List, ◌++◌, IfOk};
+ghost use Rattle.std.specs.Ordering.{nat_cmp};
+ghost use Rattle.std.specs.FinSet.{FinSet};
 ghost use Rattle.pva_wire.specs.Faults.{fault_at as wire_fault_at};
 ghost use Rattle.pvd_value.specs.Data.{Data};
 ghost use Rattle.pvd_value.specs.View.{view};
@@ -64,8 +66,14 @@ fn placed(from: &Cursor, stop: ValueStop) -> ValueFault
 }
 
 /// Reads a whole value of a type (pvAccess Protocol Specification, "Data Encoding"). The types that the
-/// descriptions in variants define go into the registry. After a refusal the cursor and the registry
-/// are as before.
+/// descriptions in variants define go into the registry.
+///
+/// The first item from the left that can't be read is told, with its place. Short stands at a number, a
+/// flag or a size in which the bytes end, at the letters of a text that go past the end, and at a count
+/// of elements that the bytes left can't hold; in a list of a fixed length, at its first element. A null
+/// count, a bound and a selector are judged first, at the size. TooNested stands at the description of a
+/// variant inside sixteen others, whatever stands there. After a refusal the cursor and the registry are
+/// as before.
 pub fn read_full(
     alloc: Global,
     from: &mut Cursor,
@@ -108,6 +116,7 @@ pub fn read_part(
     ty: &PvType,
 ) -> Result<(BitSet, PvValue), ValueFault>
     ensures exact { GivesAt from.old from.new registry.old registry.new part_view result (part_at from.old.order ty.now (from.old.rest, registry.old)) }
+    ensures found { (front rest : List ℕ) (mask : FinSet nat_cmp) (v : Data) (after : Types) → Part from.old.order registry.old ty.now front mask v after → from.old.rest ≡ front ++ rest → Answers part_view result (mask, v) }
     ensures spelled { IfOk result (λ x. (front : List ℕ) × Part from.old.order registry.old ty.now front x.0 (view x.1) registry.new × (from.old.rest ≡ front ++ from.new.rest)) }
     ensures fits { IfOk result (λ x. fits_of 16 (view x.1) ty.now ≡ true) }
 {

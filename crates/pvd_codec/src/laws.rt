@@ -1,5 +1,5 @@
 ghost use Rattle.pvd_codec.specs.Found.{FullFits, PartFits, ReadIsFull, ReadIsPart};
-ghost use Rattle.pvd_codec.specs.Laws.{FullIsRead, OneFull, WrittenFullIsRead};
+ghost use Rattle.pvd_codec.specs.Laws.{FullIsRead, OneFull, WrittenFullIsRead, PartIsRead, OnePart, WrittenPartIsRead};
 ghost use Rattle.pvd_codec.specs.Written.{WrittenIsFull, WrittenIsPart};
 
 /// What is written spells the value that was given, whatever types are known before, and defines none:
@@ -17,6 +17,15 @@ pub fn values()
     ensures only { FullIsRead }
     ensures unique { OneFull }
     ensures read_back { WrittenFullIsRead }
+{}
+
+/// The same laws for parts: what spells a part is read as it, mask and value, whatever follows; so two
+/// parts that one list of bytes begins with are one; and what is written of the marked leaves of a value
+/// is read back, with blank leaves elsewhere.
+pub fn value_parts()
+    ensures only { PartIsRead }
+    ensures unique { OnePart }
+    ensures read_back { WrittenPartIsRead }
 {}
 
 /// What is read at the front of some bytes is spelled there: the readers answer a value, or a part, only

@@ -18,7 +18,7 @@ mod writing_tests;
 
 pub use cursor::{read_full, read_part};
 pub use fault::{ValueCause, ValueFault, ValueStop};
-pub use laws::{read_is_spelled, spelled_fits, values, written_is_spelled};
+pub use laws::{read_is_spelled, spelled_fits, value_parts, values, written_is_spelled};
 pub use parts_writing::write_part;
 pub use pvd_type::NoMemory;
 pub use writing::write_full;

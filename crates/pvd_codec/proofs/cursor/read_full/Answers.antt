@@ -1,4 +1,4 @@
-use Rattle.std.proofs.Common.{◌≡◌, ◌∙◌, ◌<◌, ap, sym, subst, refl, List, ℕ, Ok, Err, rules, get_or}
+use Rattle.std.proofs.Common.{◌≡◌, ◌∙◌, ap, sym, subst, refl, List, ℕ, Ok, Err, rules}
 use Rattle.pva_wire.specs.Input.{Input}
 use Rattle.pva_wire.specs.Spelling.{IsBytes}
 use Rattle.pvd_value.specs.View.{view}
@@ -22,7 +22,7 @@ returns-in_ok-commit-in-Ok-clause-exact c =
 pub returns-in_ok-commit-in-Ok-clause-spelled : goal.returns-in_ok-commit-in-Ok-clause-spelled
 returns-in_ok-commit-in-Ok-clause-spelled c =
     let from = c.args.from.now in
-    let fits : IsBytes from.rest = subst IsBytes c.rest-bytes.ensures (λ i. omega arith) in
+    let fits : IsBytes from.rest = subst IsBytes c.rest-bytes.ensures (λ i. search (rules, c.rest-bytes.items_fit i)) in
     read_is_full from.order c.args.registry.now c.args.ty.now from.rest (view c.in-Ok.value) c.go_to.new.self.rest c.commit.new.self fits (returns-in_ok-commit-in-Ok-clause-exact c).0
 
 pub returns-in_ok-commit-in-Ok-clause-found : goal.returns-in_ok-commit-in-Ok-clause-found

@@ -1,4 +1,4 @@
-use Rattle.std.proofs.Common.{◌≡◌, ◌∙◌, ◌*◌, ◌-◌, ◌<◌, length, sym, arith, true, false}
+use Rattle.std.proofs.Common.{◌∙◌, ◌*◌, ◌-◌, length, sym, arith}
 use Rattle.pva_wire.specs.Bits.{byte_bit}
 use Rattle.pvd_codec.proofs.FirstBits.{marked_here, marked_later, marked_over}
 use Rattle.pvd_codec.proofs.parts.first_bit.Goals as goal

@@ -1,4 +1,4 @@
-use Rattle.std.proofs.Common.{◌≡◌, ◌*◌, ◌-◌, ◌≤◌, length}
+use Rattle.std.proofs.Common.{◌≡◌, ◌*◌, ◌-◌, length}
 use Rattle.pva_wire.specs.Bits.{byte_bit}
 use Rattle.pvd_codec.specs.Reading.{first_marked}
 use Rattle.pvd_codec.proofs.parts.first_bit.Given as goal

@@ -1,4 +1,4 @@
-use Rattle.std.proofs.Common.{◌≡◌, ◌∙◌, ℕ, List, Ok, sym, ap, nat_cmp, Some, length}
+use Rattle.std.proofs.Common.{◌∙◌, Ok, sym, ap, nat_cmp, Some, length}
 use Rattle.pvd_type.specs.Tree.{Tree}
 use Rattle.pvd_type.specs.Numbers.{numbered}
 use Rattle.pvd_type.specs.Sets.{IsFirstFrom}
