@@ -1,4 +1,4 @@
--- The one spelling of a value that is written (pvAccess Protocol Specification, "pvData Encoding").
+-- The one spelling of a value that is written (pvAccess Protocol Specification, "Data Encoding").
 use Rattle.std.specs.Prelude.{◌≡◌, ℕ, ◌+◌, Bool, length, ◌<◌, ◌^◌, FitsSigned, true, false, List, [], ◌∷◌, ◌++◌, Option, Some, None}
 use Rattle.std.specs.List.{flat_map}
 use Rattle.std.specs.Int.{w8, w16, w32, w64, cast_unsigned}
@@ -180,7 +180,7 @@ abbrev mutual
   canonical_marked_row order marked n (more v vs) (field name t fs) = canonical_marked order marked n v t ++ canonical_marked_row order marked (n + length (numbered t)) vs fs
   canonical_marked_row order marked n _ _ = []
 
--- A part of a value, "Partial Structures": the set of the marked leaves, and their values.
+-- A part of a value, "BitSets": the set of the marked leaves, and their values.
 abbrev pub canonical_part : Order → FinSet nat_cmp → Data → Tree → List ℕ
 canonical_part order mask v t = canonical_bits order mask ++ canonical_marked order (contains mask) 0 v t
 

@@ -12,9 +12,9 @@ use pvd_type::{BitSet, Member, NoMemory, PvType, Shape};
 use pvd_value::PvValue;
 
 /// Appends the one spelling of a part of a value that is written: the set of the marked leaves, and
-/// their values in the order of their numbers (pvAccess Protocol Specification, "Partial Structures").
-/// The value fits the type, and the mask holds numbers of leaves alone. A size or a text without a
-/// spelling, above 2^31-2, is NoMemory. After a refusal `out` is as before.
+/// their values in the order of their numbers (pvAccess Protocol Specification, "BitSets" and "Data
+/// Encoding"). The value fits the type, and the mask holds numbers of leaves alone. A size or a text
+/// without a spelling, above 2^31-2, is NoMemory. After a refusal `out` is as before.
 pub fn write_part(
     out: &mut Vec<u8>,
     order: Order,

@@ -12,7 +12,7 @@ use pvd_type::{Extent, Name, NoMemory};
 use pvd_value::{Items, PvValue};
 
 /// A scalar, as a writer sees it. Floats are written as unsigned numbers.
-pub trait Element {
+pub trait WriteScalar {
     ghost single: { Self → Single };
 
     /// Appends the bytes of the scalar.
@@ -22,7 +22,7 @@ pub trait Element {
         ensures begins { OnErr result (Begins out.old.items out.new.items) };
 }
 
-impl Element for bool {
+impl WriteScalar for bool {
     ghost single = { boolean };
 
     fn write(&self, out: &mut Vec<u8>, _order: Order) -> Result<(), NoMemory> {
@@ -31,7 +31,7 @@ impl Element for bool {
     }
 }
 
-impl Element for i8 {
+impl WriteScalar for i8 {
     ghost single = { byte };
 
     fn write(&self, out: &mut Vec<u8>, _order: Order) -> Result<(), NoMemory> {
@@ -40,7 +40,7 @@ impl Element for i8 {
     }
 }
 
-impl Element for i16 {
+impl WriteScalar for i16 {
     ghost single = { short };
 
     fn write(&self, out: &mut Vec<u8>, order: Order) -> Result<(), NoMemory> {
@@ -48,7 +48,7 @@ impl Element for i16 {
     }
 }
 
-impl Element for i32 {
+impl WriteScalar for i32 {
     ghost single = { int };
 
     fn write(&self, out: &mut Vec<u8>, order: Order) -> Result<(), NoMemory> {
@@ -56,7 +56,7 @@ impl Element for i32 {
     }
 }
 
-impl Element for i64 {
+impl WriteScalar for i64 {
     ghost single = { long };
 
     fn write(&self, out: &mut Vec<u8>, order: Order) -> Result<(), NoMemory> {
@@ -64,7 +64,7 @@ impl Element for i64 {
     }
 }
 
-impl Element for u8 {
+impl WriteScalar for u8 {
     ghost single = { ubyte };
 
     fn write(&self, out: &mut Vec<u8>, _order: Order) -> Result<(), NoMemory> {
@@ -73,7 +73,7 @@ impl Element for u8 {
     }
 }
 
-impl Element for u16 {
+impl WriteScalar for u16 {
     ghost single = { ushort };
 
     fn write(&self, out: &mut Vec<u8>, order: Order) -> Result<(), NoMemory> {
@@ -81,7 +81,7 @@ impl Element for u16 {
     }
 }
 
-impl Element for u32 {
+impl WriteScalar for u32 {
     ghost single = { uint };
 
     fn write(&self, out: &mut Vec<u8>, order: Order) -> Result<(), NoMemory> {
@@ -89,7 +89,7 @@ impl Element for u32 {
     }
 }
 
-impl Element for u64 {
+impl WriteScalar for u64 {
     ghost single = { ulong };
 
     fn write(&self, out: &mut Vec<u8>, order: Order) -> Result<(), NoMemory> {
@@ -97,7 +97,7 @@ impl Element for u64 {
     }
 }
 
-impl Element for Name {
+impl WriteScalar for Name {
     ghost single = { text };
 
     fn write(&self, out: &mut Vec<u8>, order: Order) -> Result<(), NoMemory> {
@@ -106,7 +106,11 @@ impl Element for Name {
 }
 
 /// Appends the bytes of scalars, one after another.
-pub fn write_all<T: Element>(out: &mut Vec<u8>, order: Order, values: &[T]) -> Result<(), NoMemory>
+pub fn write_all<T: WriteScalar>(
+    out: &mut Vec<u8>,
+    order: Order,
+    values: &[T],
+) -> Result<(), NoMemory>
     ensures written { OnOk result (out.new.items ≡ out.old.items ++ flat_map (λ x. canonical_single order (T.single x)) values.now) }
     ensures can { OnOk result (CanEach (λ x. CanSingle (T.single x)) values.now) }
     ensures begins { OnErr result (Begins out.old.items out.new.items) }

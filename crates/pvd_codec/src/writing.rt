@@ -16,7 +16,7 @@ use pvd_desc::write_desc;
 use pvd_type::{Extent, Member, NoMemory, Node, PvType, Shape};
 use pvd_value::{PvValue, member_shape};
 
-/// Appends the one spelling of a value that is written (pvAccess Protocol Specification, "pvData
+/// Appends the one spelling of a value that is written (pvAccess Protocol Specification, "Data
 /// Encoding"). The value fits the type. A size or a text without a spelling, above 2^31-2, is
 /// NoMemory. After a refusal `out` is as before.
 pub fn write_full(

@@ -11,4 +11,4 @@ returns-in_err-write-clause-begins g c = on_err c.from_residual.result (begins_o
 
 pub returns-clause-written : goal.returns-clause-written
 returns-clause-written g c =
-    c.loop-value.invariant.written ∙ ap (λ xs. c.args.out.now.items ++ flat_map (λ x. canonical_single c.args.order (g.T.Element.single x)) xs) (take_all c.loop-value.value-index c.args.values.now c.loop-value-test.false)
+    c.loop-value.invariant.written ∙ ap (λ xs. c.args.out.now.items ++ flat_map (λ x. canonical_single c.args.order (g.T.WriteScalar.single x)) xs) (take_all c.loop-value.value-index c.args.values.now c.loop-value-test.false)
