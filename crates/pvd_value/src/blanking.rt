@@ -17,6 +17,13 @@ pub fn blank(alloc: Global, ty: &PvType) -> Result<PvValue, NoMemory>
     blank_at(ty.shape(), alloc)
 }
 
+/// The blank value of a part of a type, as [`blank`].
+pub fn blank_shape(alloc: Global, shape: &Shape) -> Result<PvValue, NoMemory>
+    ensures { IfOk result (λ v. view v ≡ blank_of (shape_view shape.now)) }
+{
+    blank_at(shape, alloc)
+}
+
 #[cycle(blank)]
 fn blank_at(shape: &Shape, alloc: Global) -> Result<PvValue, NoMemory>
     ensures { IfOk result (λ v. view v ≡ blank_of (shape_view shape.now)) }

@@ -10,7 +10,7 @@ mod merging;
 mod same;
 mod value;
 
-pub use blanking::blank;
+pub use blanking::{blank, blank_shape};
 pub use differing::differs;
 pub use fitting::{fits, member_shape};
 pub use leaves::{ValueBits, leaf, leaves_of};

@@ -1,0 +1,120 @@
+ghost use Rattle.std.specs.Prelude.{◌≡◌};
+ghost use Rattle.pvd_codec.specs.declared.fault.ValueStop.TheVariants.{Memory};
+
+use pva_wire::{Cause, Stop, WireFault};
+use pvd_desc::{DescCause, DescFault, DescStop};
+use pvd_type::NoMemory;
+use std::alloc::{AllocError, AllocFailed};
+
+/// What is wrong with an item of a value.
+#[derive(Clone, Copy, Debug, PartialEq, Eq)]
+pub enum ValueCause {
+    /// A size, a text, a number or a set of bits is faulty by itself.
+    Wire(Cause),
+    /// An item of the description in a variant is faulty.
+    Desc(DescCause),
+    /// The selector of a union is at or above the count of its members.
+    BadSelector(u32),
+    /// The bit, the least such one, is at or above the count of the type's nodes.
+    BitOutside(u64),
+    /// A boolean, or the flag of an element that may be null, is this byte above 1.
+    BadBool(u8),
+    /// The size of a bounded text or list is above its bound.
+    OverBound(u32),
+    /// A variant stands inside sixteen others.
+    TooNested,
+}
+
+/// Why a reader over a slice stopped: at a fault, with the number of bytes that are left from the
+/// faulty item on, or for want of memory.
+#[derive(Debug, Drop)]
+pub enum ValueStop {
+    Memory,
+    Fault(ValueCause, usize),
+}
+
+impl From<NoMemory> for ValueStop {
+    ghost from_gives = { λ _ e. e ≡ Memory };
+
+    fn from(_e: NoMemory) -> ValueStop {
+        ValueStop::Memory
+    }
+}
+
+impl From<AllocError> for ValueStop {
+    ghost from_gives = { λ _ e. e ≡ Memory };
+
+    fn from(_e: AllocError) -> ValueStop {
+        ValueStop::Memory
+    }
+}
+
+impl<T: Drop> From<AllocFailed<T>> for ValueStop {
+    ghost from_gives = { λ _ e. e ≡ Memory };
+
+    fn from(_e: AllocFailed<T>) -> ValueStop {
+        ValueStop::Memory
+    }
+}
+
+impl From<Stop> for ValueStop {
+    ghost use Rattle.std.specs.Prelude.{◌≡◌};
+    ghost use Rattle.pvd_codec.specs.Reading.{lifted_stop};
+
+    ghost from_gives = { λ s e. e ≡ lifted_stop s };
+
+    fn from(stop: Stop) -> ValueStop {
+        match stop {
+            Stop::Memory => ValueStop::Memory,
+            Stop::Fault(cause, left) => ValueStop::Fault(ValueCause::Wire(cause), left),
+        }
+    }
+}
+
+impl From<DescStop> for ValueStop {
+    ghost use Rattle.std.specs.Prelude.{◌≡◌};
+    ghost use Rattle.pvd_codec.specs.Reading.{described_stop};
+
+    ghost from_gives = { λ s e. e ≡ described_stop s };
+
+    fn from(stop: DescStop) -> ValueStop {
+        match stop {
+            DescStop::Memory => ValueStop::Memory,
+            DescStop::Fault(cause, left) => ValueStop::Fault(ValueCause::Desc(cause), left),
+        }
+    }
+}
+
+/// Why a value was refused. A place is the number of bytes before the first one of the faulty item,
+/// from the start of the cursor's bytes.
+#[derive(Clone, Copy, Debug, PartialEq, Eq)]
+pub enum ValueFault {
+    /// A size, a text, a number or a set of bits is faulty by itself.
+    Wire(WireFault),
+    /// An item of the description in a variant is faulty.
+    Desc(DescFault),
+    /// The selector at this place is at or above the count of the union's members.
+    BadSelector(u32, usize),
+    /// The set of bits at this place has this bit, the least one at or above the count of the type's
+    /// nodes.
+    BitOutside(u64, usize),
+    /// The boolean, or the flag of an element that may be null, at this place is this byte above 1.
+    BadBool(u8, usize),
+    /// The size at this place is above the bound of its text or list.
+    OverBound(u32, usize),
+    /// The description at this place would be that of a variant inside sixteen others.
+    TooNested(usize),
+    /// Memory ran out.
+    NoMemory,
+}
+
+impl From<NoMemory> for ValueFault {
+    ghost use Rattle.std.specs.Prelude.{◌≡◌};
+    ghost use Rattle.pvd_codec.specs.declared.fault.ValueFault.TheVariants as faults;
+
+    ghost from_gives = { λ _ e. e ≡ faults.NoMemory };
+
+    fn from(_e: NoMemory) -> ValueFault {
+        ValueFault::NoMemory
+    }
+}

@@ -1,0 +1,196 @@
+ghost use Rattle.std.specs.Prelude.{◌≡◌, ◌+◌, ◌-◌, ◌*◌, ◌≤◌, ◌<◌, ◌^◌, length, IfOk};
+ghost use Rattle.std.specs.FinSet as set;
+ghost use Rattle.pva_wire.specs.Bits.{place, byte_bit};
+ghost use Rattle.pvd_type.specs.View.{shape_view, members_view};
+ghost use Rattle.pvd_type.specs.Numbers.{nodes, nodes_in, numbered, numbered_fields};
+ghost use Rattle.pvd_value.specs.View.{view, row_view};
+ghost use Rattle.pvd_desc.specs.Types.{laid};
+ghost use Rattle.pvd_codec.specs.Reading.{Gives, first_marked, marks_at, slot_at, marked_with, marked_row, part_at};
+
+use crate::fault::{ValueCause, ValueStop};
+use crate::reading::{DEPTH, value_at};
+use pva_wire::{Order, bits_at, counted_at};
+use pvd_desc::{Definitions, Registry};
+use pvd_type::{BitSet, Member, PvType, Shape};
+use pvd_value::{PvValue, ValueBits, blank_shape, leaves_of};
+use std::alloc::Global;
+
+/// Which of `count` bytes of a set holds the bits from eight times `at` on.
+fn byte_place(order: Order, count: u64, at: u64) -> u64
+    requires { at < count }
+    ensures place { result ≡ place order count at }
+    ensures within { result < count }
+{
+    match order {
+        Order::Big if at < count / 8 * 8 => at / 8 * 8 + (7 - at % 8),
+        _ => at,
+    }
+}
+
+/// Whether the bytes of a set hold a bit.
+fn has_bit(order: Order, body: &[u8], bit: u64) -> bool
+    requires { bit < 8 * length body.now }
+    ensures { result ≡ byte_bit order body.now bit }
+{
+    let place = byte_place(order, body.len() as u64, bit / 8);
+    (body[place as usize] >> (bit % 8)) & 1 == 1
+}
+
+/// The least bit at or above `start` that the bytes of a set hold.
+fn first_bit(order: Order, body: &[u8], start: u64) -> Option<u64>
+    requires { length body.now < 2 ^ 32 }
+    ensures { result ≡ first_marked (byte_bit order body.now) start (8 * length body.now - start) }
+{
+    for bit in start..body.len() as u64 * 8 {
+        if has_bit(order, body, bit) {
+            return Some(bit);
+        }
+    }
+    None
+}
+
+/// The leaves that a set of bits marks, where a structure's bit stands for all leaves below it. A bit at
+/// or above the count of the type's nodes is BitOutside, at the set, also above 65,535.
+#[tactic(auto, unfolding(crate::specs::Reading::marks_at))]
+fn marks_at<'a>(
+    alloc: Global,
+    order: Order,
+    ty: &PvType,
+    bytes: &'a [u8],
+) -> Result<(BitSet, &'a [u8]), ValueStop>
+    ensures { Gives (λ x. (x.0, x.1.now)) result (marks_at order ty.now bytes.now) }
+{
+    let (count, rest) = counted_at(order, 1, bytes)?;
+    let body = &rest[..count as usize];
+    if let Some(bit) = first_bit(order, body, ty.node_count() as u64) {
+        return Err(ValueStop::Fault(ValueCause::BitOutside(bit), bytes.len()));
+    }
+    let (bits, rest) = bits_at(alloc, order, bytes)?;
+    match leaves_of(alloc, ty, &bits) {
+        Ok(mask) => Ok((mask, rest)),
+        Err(ValueBits::NoMemory) => Err(ValueStop::Memory),
+        Err(ValueBits::Outside(_)) => unreachable!(),
+    }
+}
+
+/// What stands under a number: the value where it is marked, and else the blank one, which takes no
+/// bytes.
+fn slot_at<'a>(
+    alloc: Global,
+    order: Order,
+    base: &Registry,
+    changed: &mut Definitions,
+    shape: &Shape,
+    marked: bool,
+    bytes: &'a [u8],
+) -> Result<(PvValue, &'a [u8]), ValueStop>
+    requires { nodes (shape_view shape.now) ≤ 4096 }
+    ensures { Gives (λ x. (view x.0, (x.1.now, laid base.now changed.new))) result (slot_at marked order (shape_view shape.now) (bytes.now, laid base.now changed.old)) }
+{
+    if marked {
+        return value_at(alloc, order, base, changed, shape, DEPTH, bytes);
+    }
+    Ok((blank_shape(alloc, shape)?, bytes))
+}
+
+/// The marked leaves of a node that has this number, and the number that follows it. The other leaves
+/// are blank.
+#[cycle(marked)]
+#[tactic(auto, unfolding(crate::specs::Reading::marked_with))]
+fn marked_at<'a>(
+    alloc: Global,
+    order: Order,
+    base: &Registry,
+    changed: &mut Definitions,
+    shape: &Shape,
+    number: u32,
+    mask: &BitSet,
+    bytes: &'a [u8],
+) -> Result<(PvValue, u32, &'a [u8]), ValueStop>
+    requires nodes { nodes (shape_view shape.now) ≤ 4096 }
+    requires few { number + length (numbered (shape_view shape.now)) ≤ 4096 }
+    ensures value { Gives (λ x. (view x.0, (x.2.now, laid base.now changed.new))) result (marked_with order (set.contains mask.now) number (shape_view shape.now) (bytes.now, laid base.now changed.old)) }
+    ensures next { IfOk result (λ x. x.1 ≡ number + length (numbered (shape_view shape.now))) }
+{
+    match shape {
+        Shape::Struct(node) => {
+            let (values, next, rest) = marked_row_at(
+                alloc,
+                order,
+                base,
+                changed,
+                &node.members,
+                number + 1,
+                mask,
+                bytes,
+            )?;
+            Ok((PvValue::Struct(values), next, rest))
+        }
+        _ => {
+            let (value, rest) = slot_at(
+                alloc,
+                order,
+                base,
+                changed,
+                shape,
+                mask.contains(number),
+                bytes,
+            )?;
+            Ok((value, number + 1, rest))
+        }
+    }
+}
+
+#[cycle(marked)]
+fn marked_row_at<'a>(
+    alloc: Global,
+    order: Order,
+    base: &Registry,
+    changed: &mut Definitions,
+    members: &[Member],
+    number: u32,
+    mask: &BitSet,
+    bytes: &'a [u8],
+) -> Result<(Vec<PvValue>, u32, &'a [u8]), ValueStop>
+    requires nodes { nodes_in (members_view members.now) < 4096 }
+    requires few { number + length (numbered_fields (members_view members.now)) ≤ 4096 }
+    ensures values { Gives (λ x. (row_view x.0.items, (x.2.now, laid base.now changed.new))) result (marked_row order (set.contains mask.now) number (members_view members.now) (bytes.now, laid base.now changed.old)) }
+    ensures next { IfOk result (λ x. x.1 ≡ number + length (numbered_fields (members_view members.now))) }
+{
+    let mut values = Vec::new(alloc);
+    let mut next = number;
+    let mut rest = bytes;
+    for member in members {
+        let (value, following, after) = marked_at(
+            alloc,
+            order,
+            base,
+            changed,
+            &member.shape,
+            next,
+            mask,
+            rest,
+        )?;
+        values.push(value)?;
+        next = following;
+        rest = after;
+    }
+    Ok((values, next, rest))
+}
+
+/// A part: a set of bits, and the leaves that it marks, in the order of their numbers.
+#[tactic(auto, unfolding(crate::specs::Reading::part_at))]
+pub fn part_at<'a>(
+    alloc: Global,
+    order: Order,
+    base: &Registry,
+    changed: &mut Definitions,
+    ty: &PvType,
+    bytes: &'a [u8],
+) -> Result<(BitSet, PvValue, &'a [u8]), ValueStop>
+    ensures { Gives (λ x. ((x.0, view x.1), (x.2.now, laid base.now changed.new))) result (part_at order ty.now (bytes.now, laid base.now changed.old)) }
+{
+    let (mask, rest) = marks_at(alloc, order, ty, bytes)?;
+    let (value, _, rest) = marked_at(alloc, order, base, changed, ty.shape(), 0, &mask, rest)?;
+    Ok((mask, value, rest))
+}
