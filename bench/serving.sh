@@ -1,0 +1,41 @@
+# What the benches of the server share. It is sourced by a script of this folder, which has gone to the repository's top.
+
+work=$(mktemp -d)
+trap 'rm -rf "$work"' EXIT
+
+# The program as `rt run` leaves it; the first build proves it.
+server=crates/pvaserve/out/pvaserve
+[ -x "$server" ] || (cd crates/pvaserve && rt run -- --version) </dev/null >/dev/null
+
+# What a client sends first: a validation, a channel of X, and request 1, which begins by the command whose byte is given.
+opening() {
+    printf '\xCA\x02\x00\x01\x13\x00\x00\x00\x00\x00\x01\x00\x00\x00\x00\x00\x09anonymous\xFF'
+    printf '\xCA\x02\x00\x07\x08\x00\x00\x00\x01\x00\x07\x00\x00\x00\x01X'
+    printf "\\xCA\\x02\\x00\\x$1"'\x0C\x00\x00\x00\x00\x00\x00\x00\x01\x00\x00\x00\x08\x80\x00\x00'
+}
+
+# Writes the input of a run: the opening with a command, and so many thousands of one message, which is read from a file.
+make_input() {
+    local thousand=$work/thousand
+    for _ in $(seq 1000); do cat "$3"; done > "$thousand"
+    { opening "$1"; for _ in $(seq "$2"); do cat "$thousand"; done; } > "$work/input"
+}
+
+# The best of three runs of a command over the input, in nanoseconds.
+best() {
+    local least=0 start end
+    for _ in 1 2 3; do
+        start=$(date +%s%N)
+        "$@" < "$work/input" > "$work/output"
+        end=$(date +%s%N)
+        if [ "$least" -eq 0 ] || [ $((end - start)) -lt "$least" ]; then least=$((end - start)); fi
+    done
+    echo "$least"
+}
+
+# The replies have so many bytes in all, of which the ones to the opening have 209.
+check_output() {
+    local size
+    size=$(stat -c %s "$work/output")
+    [ "$size" -eq "$1" ] || { echo "the server wrote $size bytes in place of $1" >&2; exit 1; }
+}
