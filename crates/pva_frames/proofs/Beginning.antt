@@ -11,7 +11,7 @@ use Rattle.pva_frames.specs.declared.reader.Mark.{Mark}
 use Rattle.pva_frames.specs.Headers.{magic, header_of, is_control, segment_of, payload_size}
 use Rattle.pva_frames.specs.Frames.{Frame, size_of}
 use Rattle.pva_frames.specs.Messages.{refusal, joined, ends, run_after, event_of, Unfinished}
-use Rattle.pva_frames.specs.Joins.{refusal-header}
+use Rattle.pva_frames.proofs.Joins.{refusal-header}
 use Rattle.pva_frames.specs.Reader.{run_of, run_size, unfinished_of, is_unfinished, Brings}
 use Rattle.pva_frames.proofs.Bringing.{brings-frame, unfinished-rests}
 

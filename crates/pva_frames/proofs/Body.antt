@@ -14,8 +14,8 @@ use Rattle.pva_frames.specs.declared.reader.Mark.{Mark}
 use Rattle.pva_frames.specs.Headers.{magic, header_of, is_control, segment_of, payload_size}
 use Rattle.pva_frames.specs.Frames.{size_of}
 use Rattle.pva_frames.specs.Messages.{limit, length_refusal, foreign, segment_refusal, refusal_by, refusal, refusal_of_rest, Unfinished}
-use Rattle.pva_frames.specs.Cutting.{header-append}
-use Rattle.pva_frames.specs.Joins.{refusal-header, refusal-magic}
+use Rattle.pva_frames.proofs.Cutting.{header-append}
+use Rattle.pva_frames.proofs.Joins.{refusal-header, refusal-magic}
 use Rattle.pva_frames.specs.Reader.{run_of, run_size, unfinished_of, is_unfinished, IsSound, Brings, Takes, message_event, EndsFrame}
 use Rattle.pva_frames.proofs.Bringing.{rests, brings-unfinished}
 use Rattle.pva_frames.proofs.Beginning.{begun}

@@ -10,8 +10,8 @@ use Rattle.pva_frames.specs.Headers.{magic, header_of}
 use Rattle.pva_frames.specs.Frames.{Frame, Cut, size_of, has_frame, front, uncut, with_frame, cut}
 use Rattle.pva_frames.specs.Messages.{refusal, run_after, event_of, unless_refused, gives, events_of, standing_after, refusal_of_rest, Unfinished, left_by, events_from, left_from}
 use Rattle.pva_frames.specs.Assembled.{Assembled}
-use Rattle.pva_frames.specs.Cutting.{has_frame-true, cut-frame, cut-none}
-use Rattle.pva_frames.specs.Joins.{by_cut, read-by_cut, refused-at-once}
+use Rattle.pva_frames.proofs.Cutting.{has_frame-true, cut-frame, cut-none}
+use Rattle.pva_frames.proofs.Joins.{by_cut, read-by_cut, refused-at-once}
 use Rattle.pva_frames.specs.Reader.{Brings, is_unfinished}
 
 -- events before

@@ -7,8 +7,8 @@ use Rattle.pva_frames.specs.Headers.{payload_size}
 use Rattle.pva_frames.specs.Frames.{Frame, Cut, size_of, has_frame, front, cut, cut_in}
 use Rattle.pva_frames.specs.Messages.{events_of, standing_after, left_from}
 use Rattle.pva_frames.specs.Assembled.{Assembled, opening, fed}
-use Rattle.pva_frames.specs.Cutting.{frame_in_front, cut-frame, cut-none, header-take}
-use Rattle.pva_frames.specs.Joins.{fed-join}
+use Rattle.pva_frames.proofs.Cutting.{frame_in_front, cut-frame, cut-none, header-take}
+use Rattle.pva_frames.proofs.Joins.{fed-join}
 use Rattle.pva_frames.specs.Laws.{AnyPieces, IsFrameAt, AreFrames, IsCut, EveryCut}
 
 pieces-from : (pieces : List (List ℕ)) (a : Assembled) (xs : List ℕ) → fold fed (fed a xs) pieces ≡ fed a (xs ++ concat pieces)

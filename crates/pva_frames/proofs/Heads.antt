@@ -10,7 +10,7 @@ use Rattle.pva_frames.specs.declared.reader.Mark.{Mark}
 use Rattle.pva_frames.specs.Headers.{magic, header_of}
 use Rattle.pva_frames.specs.Frames.{size_of}
 use Rattle.pva_frames.specs.Messages.{refusal, refusal_of_rest, Unfinished}
-use Rattle.pva_frames.specs.Joins.{refusal-header, refusal-magic, refusal-short}
+use Rattle.pva_frames.proofs.Joins.{refusal-header, refusal-magic, refusal-short}
 use Rattle.pva_frames.specs.Reader.{run_of, run_size, unfinished_of, is_unfinished, IsSound, Brings, Takes}
 use Rattle.pva_frames.proofs.Bringing.{brings-refused, brings-unfinished, unfinished-rests}
 

@@ -1,6 +1,9 @@
 mod Vectors
+pub mod Cutting
+pub mod Joins
 pub mod Bringing
 pub mod Growing
+pub mod Lending
 pub mod Marks
 pub mod Ending
 pub mod Beginning

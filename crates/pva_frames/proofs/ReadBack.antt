@@ -18,7 +18,7 @@ use Rattle.pva_frames.specs.Headers.{order_of, header_of, is_control, segment_of
 use Rattle.pva_frames.specs.Frames.{Frame, size_of}
 use Rattle.pva_frames.specs.Messages.{limit, refusal, refusal_by, length_refusal, segment_refusal, foreign, joined, ends, event_of, run_after, Unfinished, events_from, left_from}
 use Rattle.pva_frames.specs.Assembled.{Assembled, fed_on}
-use Rattle.pva_frames.specs.Joins.{read-join}
+use Rattle.pva_frames.proofs.Joins.{read-join}
 use Rattle.pva_frames.specs.Spelling.{order_flag, server_flag, header_bytes, frame_bytes, control_bytes, later_segments, message_bytes}
 use Rattle.pva_frames.proofs.Bringing.{brings-frame}
 use Rattle.pva_frames.specs.Laws.{stream, and_then, MessageReadsBack, ControlReadsBack}

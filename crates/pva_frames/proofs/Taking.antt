@@ -6,7 +6,7 @@ use Rattle.pva_frames.specs.declared.event.Event.{Event}
 use Rattle.pva_frames.specs.declared.fault.FrameFault.{FrameFault}
 use Rattle.pva_frames.specs.Messages.{Unfinished}
 use Rattle.pva_frames.specs.Assembled.{Assembled, fed}
-use Rattle.pva_frames.specs.Joins.{fed-join, left-size}
+use Rattle.pva_frames.proofs.Joins.{fed-join, left-size}
 use Rattle.pva_frames.specs.Reader.{end_of, Takes, Grows, is_unfinished, first_payload, Brings}
 use Rattle.pva_frames.proofs.Bringing.{brings-unfinished}
 

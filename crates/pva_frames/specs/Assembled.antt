@@ -1,9 +1,10 @@
 -- What contracts see of an assembler: the events that are complete and not yet given, and what the bytes so far leave.
-use Rattle.std.specs.Prelude.{◌≡◌, ℕ, List, [], ◌∷◌, ◌++◌, Option, None, Some, Result, Ok, Err}
+use Rattle.std.specs.Prelude.{◌≡◌, ◌<◌, ◌≤◌, ◌+◌, ℕ, List, [], ◌∷◌, ◌++◌, length, take, Option, None, Some, Result, Ok, Err}
 use Rattle.std.specs.Result.{result_err}
 use Rattle.pva_frames.specs.Messages.{Unfinished, events_from, left_from}
 use Rattle.pva_frames.specs.declared.event.Whole.{Whole}
 use Rattle.pva_frames.specs.declared.event.Event.{Event}
+use Rattle.pva_frames.specs.declared.event.Event.TheVariants.{Message}
 use Rattle.pva_frames.specs.declared.event.Next.{Next}
 use Rattle.pva_frames.specs.declared.event.Next.TheVariants as next
 use Rattle.pva_frames.specs.declared.fault.FrameFault.{FrameFault}
@@ -79,6 +80,19 @@ pub record Waits (old new : Assembled) : Type 0 where
   pub none : old.events ≡ []
   pub sound : result_err old.left ≡ None
   pub unchanged : new ≡ old
+
+-- A message stood whole in front of the piece, where nothing was ready: its bytes bring it alone, and it was given.
+pub record Lends (old new : Assembled) (piece : List ℕ) (whole : Whole) : Type 0 where
+  pub none : old.events ≡ []
+  pub within : 8 + length whole.payload ≤ length piece
+  pub brings : fed old (take (8 + length whole.payload) piece) ≡ record { events = Message whole ∷ []; left = new.left }
+  pub given : new.events ≡ []
+
+-- some bytes of a piece were taken, at least one
+pub record TookPart (old new : Assembled) (piece : List ℕ) (count : ℕ) : Type 0 where
+  pub some : 0 < count
+  pub within : count ≤ length piece
+  pub taken : new ≡ fed old (take count piece)
 
 -- what the next answer is, and what it leaves; without memory nothing changes
 abbrev pub GivesNext : {E : Type 0} → Assembled → Assembled → Result Next E → Type 0

@@ -1,5 +1,5 @@
 -- The header of a frame: eight bytes (pvAccess Protocol Specification, "Message Header").
-use Rattle.std.specs.Prelude.{ℕ, Bool, List, drop, slice_index, bit_and, ◌==◌, if◌then◌else◌}
+use Rattle.std.specs.Prelude.{◌≡◌, ◌≤◌, ℕ, Bool, false, List, length, drop, slice_index, bit_and, ◌==◌, if◌then◌else◌}
 use Rattle.pva_wire.specs.declared.order.Order.{Order}
 use Rattle.pva_wire.specs.declared.order.Order.TheVariants.{Little, Big}
 use Rattle.pva_frames.specs.Numbers.{number_of}
@@ -39,3 +39,11 @@ header_of bytes = record {
 -- how many bytes of payload follow a header
 abbrev pub payload_size : Header → ℕ
 payload_size header = if is_control header then 0 else header.number
+
+-- The bytes begin with the header of an application message that comes whole, in one frame.
+pub record IsSingle (bytes : List ℕ) (header : Header) : Type 0 where
+  pub long : 8 ≤ length bytes
+  pub first : slice_index bytes 0 ≡ magic
+  pub is : header ≡ header_of bytes
+  pub application : is_control header ≡ false
+  pub single : segment_of header ≡ Single

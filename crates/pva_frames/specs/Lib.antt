@@ -4,8 +4,7 @@ pub mod Frames
 pub mod Messages
 pub mod Assembled
 pub mod Spelling
-pub mod Cutting
-pub mod Joins
+pub mod LentView
 pub mod Reader
 pub mod ReaderView
 pub mod Laws

@@ -84,3 +84,8 @@ pub record Grows (old_events : List Event) (old_payload : List ℕ) (new_events 
   pub added : List Event
   pub events : new_events ≡ old_events ++ added
   pub payload : take (length old_payload) (first_payload added new_payload) ≡ old_payload
+
+-- The message stands whole in front of the piece, and its bytes bring it alone.
+pub record IsLent (left : Unfinished) (piece : List ℕ) (whole : Whole) (after : Unfinished) : Type 0 where
+  pub within : 8 + length whole.payload ≤ length piece
+  pub brings : Takes [] left (take (8 + length whole.payload) piece) (Message whole ∷ []) None after

@@ -1,7 +1,8 @@
-ghost use Rattle.std.specs.Prelude.{◌≡◌, OnOk, OnErr};
-ghost use Rattle.pva_frames.specs.Assembled.{opening, fed, GivesNext, rest_of};
+ghost use Rattle.std.specs.Prelude.{◌≡◌, ◌<◌, length, IfOk, IfSome, IfNone, OnOk, OnErr};
+ghost use Rattle.pva_frames.specs.Assembled.{opening, fed, Lends, TookPart, GivesNext, rest_of};
+ghost use Rattle.pva_frames.specs.LentView.{whole_of};
 
-use crate::event::{Event, Next};
+use crate::event::{Event, Lent, Next};
 use crate::fault::FrameFault;
 use crate::reader::Reader;
 use pva_wire::NoMemory;
@@ -11,8 +12,8 @@ use std::marker::Model;
 
 /// Turns the pieces of a stream into its messages and control messages, whatever the pieces are.
 ///
-/// Each byte is copied once, into the payload of its message, and that payload is moved out with
-/// its event.
+/// Each byte that is fed is copied once, into the payload of its message, and that payload is moved out
+/// with its event. A message that stands whole in a piece can be lent in place of that.
 #[derive(Drop)]
 pub struct Assembler {
     alloc: Global,
@@ -63,6 +64,39 @@ impl Assembler {
             self.reader = Reader::new(self.alloc);
         }
         Ok(())
+    }
+
+    /// Takes at least one byte of the next piece, and at most the bytes up to the end of a frame or of
+    /// its header, and says how many; else as `feed`.
+    pub fn feed_some(&mut self, piece: &[u8]) -> Result<usize, NoMemory>
+        requires { 0 < length piece.now }
+        ensures ok { IfOk result (TookPart self.old self.new piece.now) }
+        ensures err { OnErr result (self.new ≡ self.old) }
+    {
+        if self.fault.is_some() {
+            return Ok(piece.len());
+        }
+        let taken = self.reader.take_part(piece, &mut self.ready)?;
+        self.fault = taken.fault;
+        if self.fault.is_some() {
+            self.reader = Reader::new(self.alloc);
+        }
+        Ok(taken.count)
+    }
+
+    /// Gives the message that stands whole, in one frame, in front of the next piece, without a copy of
+    /// its payload, and goes past its 8 bytes of header and its payload. None, and nothing has changed,
+    /// where no such frame stands there, its header is refused, an event is ready, a header was refused
+    /// before, the stream isn't at the boundary of a message, or the place behind the piece would pass
+    /// 2^64 - 1: `feed_some` and `next` then go on. It takes no memory.
+    pub fn lend<'a>(&mut self, piece: &'a [u8]) -> Option<Lent<'a>>
+        ensures lent { IfSome result (λ lent. Lends self.old self.new piece.now (whole_of lent)) }
+        ensures none { IfNone result (self.new ≡ self.old) }
+    {
+        if self.fault.is_some() || !self.ready.is_empty() {
+            return None;
+        }
+        self.reader.lend(piece)
     }
 
     /// Gives the next event, in the order of the events' last bytes; then the first header that is

@@ -53,6 +53,17 @@ pub struct Whole {
     pub place: u64,
 }
 
+/// A whole application message whose payload still stands in the piece that brought it.
+#[derive(Clone, Copy)]
+pub struct Lent<'a> {
+    /// The order of its header, in which its payload is read.
+    pub order: Order,
+    pub command: u8,
+    pub payload: &'a [u8],
+    /// The place of its header in the stream.
+    pub place: u64,
+}
+
 /// What a stream brings.
 #[derive(Drop)]
 pub enum Event {

@@ -1,6 +1,6 @@
-ghost use Rattle.std.specs.Prelude.{◌≡◌, ◌≤◌, ◌==◌, Ok, Err, length, slice_index, if◌then◌else◌};
+ghost use Rattle.std.specs.Prelude.{◌≡◌, ◌≤◌, ◌==◌, Ok, Err, IfSome, length, slice_index, if◌then◌else◌};
 ghost use Rattle.pva_frames.specs.Numbers.{number_of};
-ghost use Rattle.pva_frames.specs.Headers.{magic, order_of, header_of, is_control, segment_of};
+ghost use Rattle.pva_frames.specs.Headers.{magic, order_of, header_of, is_control, segment_of, IsSingle};
 
 use crate::fault::FrameFault;
 use byteorder::{BigEndian, ByteOrder, LittleEndian};
@@ -102,4 +102,24 @@ pub fn read_header(bytes: &[u8; 8]) -> Result<Header, FrameFault>
         });
     }
     Ok(header_in(bytes))
+}
+
+/// The header of the whole application message with which these bytes begin: none where fewer than
+/// eight bytes stand there, the first isn't CA, or it is a control message or a segment.
+pub(crate) fn single_header(bytes: &[u8]) -> Option<Header>
+    ensures { IfSome result (IsSingle bytes.now) }
+{
+    if bytes.len() < SIZE || bytes[0] != MAGIC {
+        return None;
+    }
+    let mut head = [0; SIZE];
+    head.copy_from_slice(&bytes[..SIZE]);
+    let header = header_in(&head);
+    if header.is_control() {
+        return None;
+    }
+    match header.segment() {
+        Segment::Single => Some(header),
+        Segment::First | Segment::Middle | Segment::Last => None,
+    }
 }

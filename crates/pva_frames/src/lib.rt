@@ -12,7 +12,7 @@ mod reader;
 mod writing;
 
 pub use assembler::Assembler;
-pub use event::{Event, Next, Payload, Whole};
+pub use event::{Event, Lent, Next, Payload, Whole};
 pub use fault::FrameFault;
 pub use header::{Header, Segment, read_header};
 pub use laws::{

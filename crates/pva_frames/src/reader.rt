@@ -1,15 +1,16 @@
 //! The unfinished frame of a stream and the run of segments that stands.
 
-ghost use Rattle.std.specs.Prelude.{◌≡◌, ◌<◌, ◌≤◌, ◌+◌, ◌^◌, [], ◌∷◌, ◌++◌, length, take, drop, slice_index, List, ℕ, None, Some, Ok, IfOk, OnOk, OnErr, IsTrue, ◌↔◌};
+ghost use Rattle.std.specs.Prelude.{◌≡◌, ◌<◌, ◌≤◌, ◌+◌, ◌^◌, [], ◌∷◌, ◌++◌, length, take, drop, slice_index, List, ℕ, None, Some, Ok, IfOk, IfSome, IfNone, OnOk, OnErr, IsTrue, ◌↔◌};
 ghost use Rattle.std.specs.VecDeque.{deque_len, deque_capacity};
 ghost use Rattle.pva_frames.specs.Headers.{magic, header_of};
 ghost use Rattle.pva_frames.specs.Messages.{refusal, length_refusal, foreign, first_refusal, later_refusal};
 ghost use Rattle.pva_frames.specs.Assembled.{start, rest_of_run};
-ghost use Rattle.pva_frames.specs.Reader.{run_of, run_size, end_of, IsSound, Brings, Takes, message_of, message_event, EndsFrame, Grows, first_payload};
+ghost use Rattle.pva_frames.specs.Reader.{run_of, run_size, end_of, IsSound, Brings, Takes, message_of, message_event, EndsFrame, Grows, first_payload, IsLent};
+ghost use Rattle.pva_frames.specs.LentView.{whole_of};
 
-use crate::event::{Event, Payload, Whole};
+use crate::event::{Event, Lent, Payload, Whole};
 use crate::fault::FrameFault;
-use crate::header::{Header, MAGIC, SIZE, Segment, header_in};
+use crate::header::{Header, MAGIC, SIZE, Segment, header_in, single_header};
 use pva_wire::{NoMemory, Order};
 use std::alloc::Global;
 use std::collections::VecDeque;
@@ -42,8 +43,8 @@ pub(crate) struct Mark {
 /// What a reader took: at least one byte, and maybe a header that is refused.
 #[derive(Clone, Copy)]
 pub(crate) struct Taken {
-    count: usize,
-    fault: Option<FrameFault>,
+    pub(crate) count: usize,
+    pub(crate) fault: Option<FrameFault>,
 }
 
 /// Reads a stream up to the first header that is refused.
@@ -340,6 +341,66 @@ impl Reader {
             None => false,
             Some(end) => end.checked_add(count as u64).is_some(),
         }
+    }
+
+    /// Takes at least one byte of a piece, and at most the bytes up to the end of a frame or of its
+    /// header; else as `take`.
+    pub(crate) fn take_part(
+        &mut self,
+        piece: &[u8],
+        ready: &mut VecDeque<Event>,
+    ) -> Result<Taken, NoMemory>
+        requires some { 0 < length piece.now }
+        ensures count { IfOk result (λ taken. (0 < taken.count) × (taken.count ≤ length piece.now)) }
+        ensures ok { IfOk result (λ taken. Takes ready.old.items (left_of self.old)
+            (take taken.count piece.now) ready.new.items taken.fault (left_of self.new)) }
+        ensures err { OnErr result (ready.new.items ≡ ready.old.items) }
+        ensures unchanged { OnErr result (left_of self.new ≡ left_of self.old) }
+    {
+        if !self.has_room(piece.len()) {
+            return Err(NoMemory);
+        }
+        let mark = self.mark;
+        let size = self.payload.len();
+        let count = ready.len();
+        match self.take_some(piece, ready) {
+            Ok(taken) => Ok(taken),
+            Err(error) => {
+                undo(ready, count, &mut self.payload, size);
+                self.mark = mark;
+                Err(error)
+            }
+        }
+    }
+
+    /// Lends the message that stands whole, in one frame, in front of a piece, and goes past it. None
+    /// where no such frame stands there, its length is refused, the stream isn't at the boundary of a
+    /// message, or would have 2^64 bytes or more; then nothing changes. It takes no memory.
+    pub(crate) fn lend<'a>(&mut self, piece: &'a [u8]) -> Option<Lent<'a>>
+        ensures lent { IfSome result (λ lent. IsLent (left_of self.old) piece.now
+            (whole_of lent) (left_of self.new)) }
+        ensures none { IfNone result (left_of self.new ≡ left_of self.old) }
+    {
+        if self.mark.filled != 0 || self.mark.run.is_some() {
+            return None;
+        }
+        let header = single_header(piece)?;
+        let size = header.number as usize;
+        if u64::from(header.number) > LIMIT || piece.len() - SIZE < size {
+            return None;
+        }
+        if !self.has_room(piece.len()) {
+            return None;
+        }
+        let end = SIZE + size;
+        let place = self.mark.place;
+        self.mark = Mark::at(place + end as u64, None);
+        Some(Lent {
+            order: header.order,
+            command: header.command,
+            payload: &piece[SIZE..end],
+            place,
+        })
     }
 
     /// Takes a piece, adds the events that it completes to those that are ready, and gives the

@@ -207,3 +207,40 @@ fn a_header_says_what_its_bytes_say(rt: HostRuntime) -> Result<(), Fail> {
     control_reads_back();
     Ok(())
 }
+
+#[test]
+fn whole_messages_are_lent_and_the_others_are_joined(rt: HostRuntime) -> Result<(), Fail> {
+    let alloc = rt.alloc();
+    let mut assembler = Assembler::new(alloc);
+    let mut bytes = VALIDATION.to_vec(alloc)?;
+    bytes.extend_from_slice(&SEGMENTS)?;
+    bytes.extend_from_slice(&BIG)?;
+
+    let first = assembler.lend(&bytes).ok_or("the validation")?;
+    assert_eq!(rt;
+        (first.order, first.command, first.place),
+        (Order::Little, 1, 0)
+    );
+    assert_eq!(rt; first.payload, &VALIDATION[8..]);
+
+    // three segments, and a control message between the first two
+    assert!(rt; assembler.lend(&bytes[27..]).is_none());
+    assert_eq!(rt; assembler.feed_some(&bytes[27..])?, 8);
+    assembler.feed(&bytes[35..67])?;
+    assert_eq!(rt; control_of(assembler.next()?), Some((3, 42)));
+    assert!(rt; assembler.lend(&bytes[67..]).is_none());
+    let second = message_of(assembler.next()?).ok_or("the segments")?;
+    assert_eq!(rt;
+        (second.order, second.command, second.place),
+        (Order::Little, 7, 27)
+    );
+
+    let third = assembler.lend(&bytes[67..]).ok_or("the last message")?;
+    assert_eq!(rt;
+        (third.order, third.command, third.place),
+        (Order::Big, 7, 67)
+    );
+    assert_eq!(rt; third.payload, &BIG[8..]);
+    assert_eq!(rt; assembler.rest(), None);
+    Ok(())
+}

@@ -12,7 +12,7 @@ use Rattle.pva_frames.specs.Headers.{magic, header_of}
 use Rattle.pva_frames.specs.Frames.{Frame, Cut, size_of, has_frame, front, uncut, with_frame, cut}
 use Rattle.pva_frames.specs.Messages.{Standing, refusal, run_after, event_of, unless_refused, gives, after, given, events_of, standing_after, refusal_of_rest, Unfinished, left_by, events_from, left_from}
 use Rattle.pva_frames.specs.Assembled.{Assembled, fed, fed_on}
-use Rattle.pva_frames.specs.Cutting.{header-append, header-take, frame_in_front, cut-frame, cut-none, cut-join, cut_more, held-unwhole, cut-size}
+use Rattle.pva_frames.proofs.Cutting.{header-append, header-take, frame_in_front, cut-frame, cut-none, cut-join, cut_more, held-unwhole, cut-size}
 
 pub events-append : (s : Standing) (xs ys : List Frame) → events_of s (xs ++ ys) ≡ events_of s xs ++ events_of (standing_after s xs) ys
 unfolding events_of standing_after
