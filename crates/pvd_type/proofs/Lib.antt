@@ -1,3 +1,4 @@
+pub mod Shapes
 pub mod Walks
 pub mod Members
 pub mod Counts
@@ -6,3 +7,5 @@ pub mod Sets
 pub mod Sizes
 pub mod Leaves
 pub mod Paths
+pub mod Kept
+pub mod Bytes

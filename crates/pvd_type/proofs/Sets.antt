@@ -1,9 +1,9 @@
 -- A set by what it contains.
-use Rattle.std.proofs.Common.{max, min, ◌≡◌, ℕ, zero, suc, ◌+◌, ◌*◌, ◌/◌, ◌%◌, ◌^◌, ◌<◌, ◌≤◌, Bool, true, false, cond, ◌&&◌, ◌||◌, ltb, eqb, List, [], ◌∷◌, length, get_or, nat_cmp, refl, sym, ap, ◌∙◌, arith, inl, inr, w64}
+use Rattle.std.proofs.Common.{max, min, ◌≡◌, ℕ, zero, suc, ◌+◌, ◌*◌, ◌/◌, ◌%◌, ◌^◌, ◌<◌, ◌≤◌, Bool, true, false, cond, ◌&&◌, ◌||◌, ltb, eqb, List, [], ◌∷◌, length, get_or, nat_cmp, refl, sym, ap, ◌∙◌, arith, inl, inr, w64, add-zero, pow_pos, ◌-◌}
 use Rattle.std.proofs.lemmas.Bool.{cases_lt, lt-ltb, le-ltb, eq-eqb, true≢false}
 use Rattle.std.proofs.lemmas.Bool.Decides.{eqb_tells}
 use Rattle.std.proofs.lemmas.List.{get_or_past, get_or-set_same, get_or-set_other}
-use Rattle.std.proofs.lemmas.Nat.Bits.{bit_at-zero, bit_at-lt, bit_at_or, bit_at_and, bit_at_set_same, bit_at_set_other, same_from_bits_below, bit_at_cat_low}
+use Rattle.std.proofs.lemmas.Nat.Bits.{bit_at-zero, bit_at-lt, bit_at_or, bit_at_and, bit_at_set_same, bit_at_set_other, same_from_bits_below, bit_at_cat_low, bit_at_cat_high, bit_at_above}
 use Rattle.std.proofs.lemmas.Nat.{shr-shr}
 use Rattle.std.specs.Prelude.{set, bit_or, bit_and}
 use Rattle.std.specs.Int.{bit_at}
@@ -191,3 +191,65 @@ item_at (w ∷ ws) (suc i) x h e = item_at ws i x (omega arith) e
 
 pub held_alike : (new old : List ℕ) → ((j : ℕ) → get_or new j 0 ≡ get_or old j 0) → held new ≡ held old
 held_alike new old each = same _ _ (λ q. in_held new q ∙ ap (λ n. bit n (q % 64)) (each (q / 64)) ∙ sym (in_held old q))
+
+-- a word keeps the low bits of a number that is moved up
+kept : (x r : ℕ) → r < 64 → bit_at (x % 2 ^ 64) r ≡ bit_at x r
+kept x r h =
+    let e : x ≡ x / 2 ^ 64 * 2 ^ 64 + x % 2 ^ 64 = omega arith in
+    sym (bit_at_cat_low (x / 2 ^ 64) 64 (x % 2 ^ 64) r h) ∙ ap (λ y. bit_at y r) (sym e)
+
+moved_low : (b s r : ℕ) → r < s → bit_at (b * 2 ^ s) r ≡ 0
+moved_low b s r h = ap (λ y. bit_at y r) (sym (add-zero (b * 2 ^ s))) ∙ bit_at_cat_low b s 0 r h ∙ bit_at-zero r
+
+moved_high : (b s r : ℕ) → s ≤ r → bit_at (b * 2 ^ s) r ≡ bit_at b (r - s)
+moved_high b s r h = ap (λ y. bit_at y r) (sym (add-zero (b * 2 ^ s))) ∙ bit_at_cat_high b s 0 r (pow_pos s) h
+
+-- the bits of a byte in its place of a word
+pub placed : (b place q : ℕ) → b < 256 → q / 64 ≡ place / 8 → bit (b * 2 ^ (place % 8 * 8) % 2 ^ 64) (q % 64) ≡ (eqb (q / 8) place && bit b (q % 8))
+placed b place q small here =
+    ap (λ n. eqb n 1) (kept (b * 2 ^ (place % 8 * 8)) (q % 64) (omega arith))
+    ∙ elim (eqb_tells (q / 8) place) [
+      | inl p ↦
+          let e : q % 64 - place % 8 * 8 ≡ q % 8 = omega (arith, p.1) in
+          rw p.0 (ap (λ n. eqb n 1) (moved_high b (place % 8 * 8) (q % 64) (omega (arith, p.1)) ∙ ap (bit_at b) e))
+      | inr p ↦ rw p.0 (ap (λ n. eqb n 1) (none p.1))
+    ]
+  where
+    none : (q / 8 ≡ place → ⊥) → bit_at (b * 2 ^ (place % 8 * 8)) (q % 64) ≡ 0
+    none other =
+        elim (cases_lt (q % 64) (place % 8 * 8)) [
+          | inl lt ↦ moved_low b (place % 8 * 8) (q % 64) lt
+          | inr le ↦ moved_high b (place % 8 * 8) (q % 64) le ∙ elim (cases_lt (q % 64 - place % 8 * 8) 8) [
+            | inl lt ↦ absurd (other (omega (arith, here)))
+            | inr ge ↦ bit_at_above b 8 (q % 64 - place % 8 * 8) (omega (arith, small)) ge
+          ]
+        ]
+
+pub byte_set : (old new : List ℕ) (place b : ℕ) → ((j : ℕ) → get_or new j 0 ≡ get_or old j 0) → place / 8 < length new → b < 256 → (q : ℕ)
+    → fin.contains (held (set new (place / 8) (bit_or (get_or new (place / 8) 0) (b * 2 ^ (place % 8 * 8) % 2 ^ 64)))) q ≡ (fin.contains (held old) q || (eqb (q / 8) place && bit b (q % 8)))
+byte_set old new place b alike within small q =
+    in_held (set new (place / 8) w) q ∙ at ∙ ap (λ x. x || (eqb (q / 8) place && bit b (q % 8))) (sym (in_held old q))
+  where
+    s : ℕ
+    s = b * 2 ^ (place % 8 * 8) % 2 ^ 64
+
+    w : ℕ
+    w = bit_or (get_or new (place / 8) 0) s
+
+    at : word_bit (set new (place / 8) w) q ≡ (word_bit old q || (eqb (q / 8) place && bit b (q % 8)))
+    at =
+        elim (eqb_tells (q / 64) (place / 8)) [
+          | inl e ↦
+              let first : bit (get_or new (place / 8) 0) (q % 64) ≡ word_bit old q = ap (λ n. bit n (q % 64)) (alike (place / 8)) ∙ ap (λ j. bit (get_or old j 0) (q % 64)) (sym e.1) in
+              ap (λ j. bit (get_or (set new (place / 8) w) j 0) (q % 64)) e.1
+              ∙ ap (λ n. bit n (q % 64)) (get_or-set_same new (place / 8) w 0 within)
+              ∙ bit_of_or (get_or new (place / 8) 0) s (q % 64)
+              ∙ (λ i. first i || placed b place q small e.1 i)
+          | inr e ↦
+              let other : eqb (q / 8) place ≡ false = differs (q / 8) place (λ p. e.1 (omega (arith, p))) in
+              ap (λ n. bit n (q % 64)) (get_or-set_other new (place / 8) (q / 64) w 0 e.1 ∙ alike (q / 64)) ∙ rw other (sym (or_same (word_bit old q)))
+        ]
+
+-- the numbers of a word that is zero
+pub zero_word : (ws : List ℕ) (q : ℕ) → get_or ws (q / 64) 0 ≡ 0 → fin.contains (held ws) q ≡ false
+zero_word ws q e = in_held ws q ∙ ap (λ n. bit n (q % 64)) e ∙ bit_of_none (q % 64)

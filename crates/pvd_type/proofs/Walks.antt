@@ -1,13 +1,15 @@
 -- How the check of a list of nodes goes from one to the next.
-use Rattle.std.proofs.Common.{◌≡◌, ℕ, ◌+◌, ◌<◌, suc, List, [], ◌∷◌, ◌++◌, length, get_or, take, drop, Option, Some, None, Ok, refl, sym, ap, ◌∙◌, arith, rules, add-one, add-zero}
+use Rattle.std.proofs.Common.{◌≡◌, ℕ, ◌+◌, ◌<◌, suc, List, [], ◌∷◌, ◌++◌, length, get_or, take, drop, Option, Some, None, Ok, Global, refl, sym, ap, ◌∙◌, arith, add-one, add-zero}
 use Rattle.std.proofs.lemmas.List.{length-append, take_more, map_push}
 use Rattle.std.proofs.Math.Seq.{drop-cons}
+use Rattle.std.specs.declared.sync.Arc.{Arc}
 use Rattle.pvd_type.specs.Tree.{Tree, node, struct, Fields, field}
+use Rattle.pvd_type.proofs.Shapes as shapes
 use Rattle.pvd_type.specs.Check.{Visit, below, visits, fault_at, or_next, first_fault, Checks}
 use Rattle.pvd_type.specs.View.{shape_view, shape_step, member_step, node_step, member_view, members_view, names_of}
 use Rattle.pvd_type.specs.declared.shape.Member.{Member, fold_out-Member}
 use Rattle.pvd_type.specs.declared.shape.Node.{Node, out-Node}
-use Rattle.pvd_type.specs.declared.shape.Shape.{Struct, the_lemmas}
+use Rattle.pvd_type.specs.declared.shape.Shape.{Struct}
 use Rattle.pvd_type.specs.declared.checking.TypeFault.{TypeFault}
 
 or_next-assoc : (a b c : Option TypeFault) → or_next (or_next a b) c ≡ or_next a (or_next b c)
@@ -43,8 +45,8 @@ pub member_is : (m : Member) → member_view m ≡ (m.name, shape_view m.shape)
 member_is m = fold_out-Member Tree (List ℕ × Tree) (List ℕ × Fields) shape_step member_step node_step m
 
 -- a structure by its parts
-pub struct_is : (n : Node) → shape_view (Struct n) ≡ node struct (out-Node n).id (members_view (out-Node n).members.items)
-struct_is n = search (rules, the_lemmas)
+pub struct_is : (n : Arc Node Global) → shape_view (Struct n) ≡ node struct (out-Node n.value).id (members_view (out-Node n.value).members.items)
+struct_is n = shapes.struct_is n
 
 -- the members from place i on, where m stands at i
 module _ (ms : List Member) (i : ℕ) (m : Member) (within : i < length ms) (here : get_or ms i m ≡ m) where

@@ -16,10 +16,10 @@ abbrev pub shape_step : Shape-F Tree (List ℕ × Tree) (List ℕ × Fields) →
 shape_step (Shape-F.Plain s) = leaf (plain s)
 shape_step (Shape-F.BoundText n) = leaf (bound_text n)
 shape_step (Shape-F.List s e) = leaf (list s e)
-shape_step (Shape-F.Struct n) = node struct n.0 n.1
-shape_step (Shape-F.Union n) = node union n.0 n.1
-shape_step (Shape-F.StructList n) = node struct_list n.0 n.1
-shape_step (Shape-F.UnionList n) = node union_list n.0 n.1
+shape_step (Shape-F.Struct n) = node struct n.value.0 n.value.1
+shape_step (Shape-F.Union n) = node union n.value.0 n.value.1
+shape_step (Shape-F.StructList n) = node struct_list n.value.0 n.value.1
+shape_step (Shape-F.UnionList n) = node union_list n.value.0 n.value.1
 shape_step Shape-F.Variant = leaf variant
 shape_step Shape-F.VariantList = leaf variant_list
 

@@ -4,12 +4,14 @@
 #![tactic(auto)]
 
 mod checking;
+mod meeting;
 mod memory;
 mod name;
 mod pv_type;
 mod same;
 mod set;
 mod shape;
+mod siblings;
 
 pub use checking::{TypeFault, check_below, is_among};
 pub use memory::NoMemory;
@@ -18,6 +20,9 @@ pub use pv_type::{PvType, split_size};
 pub use same::same_shape;
 pub use set::BitSet;
 pub use shape::{Extent, Member, Node, Scalar, Shape};
+pub use siblings::Siblings;
 
+#[cfg(test)]
+mod meeting_tests;
 #[cfg(test)]
 mod tests;

@@ -12,12 +12,20 @@ use crate::set::BitSet;
 use crate::shape::{Member, Shape};
 use std::alloc::Global;
 use std::marker::Model;
+use std::sync::Arc;
 
 /// A shape that was checked: at most 32 levels and 4,096 nodes, and no member without a name of its own.
 ///
 /// A contract sees a type as its tree. Its nodes are numbered depth first from 0, and only structures are entered (pvAccess Protocol Specification, "Field numbering").
+/// A type takes eight bytes where it stands: what it is stands in memory that its copies share.
 #[derive(Drop)]
 pub struct PvType {
+    whole: Arc<Whole>,
+}
+
+/// What a type and its copies share.
+#[derive(Drop)]
+struct Whole {
     shape: Shape,
     // how many numbers each numbered node takes, itself included, in the order of the numbers: a walk passes over a node without entering it
     sizes: Vec<u32>,
@@ -34,9 +42,9 @@ impl Model for PvType {
 
     ghost coded = { coded_tree };
 
-    ghost view = { λ a. shape_view a.shape };
+    ghost view = { λ a. shape_view a.whole.value.shape };
 
-    ghost invariant = { λ a. IsType (shape_view a.shape) × (a.sizes.items ≡ sizes_of (numbered (shape_view a.shape))) };
+    ghost invariant = { λ a. IsType (shape_view a.whole.value.shape) × (a.whole.value.sizes.items ≡ sizes_of (numbered (shape_view a.whole.value.shape))) };
 }
 
 impl PartialEq for PvType {
@@ -49,7 +57,7 @@ impl PartialEq for PvType {
     ghost laws = { partial_equiv_from_equiv same_tree-equiv };
 
     fn eq(&self, other: &PvType) -> bool {
-        same_shape(&self.shape, &other.shape)
+        same_shape(self.shape(), other.shape())
     }
 }
 
@@ -80,7 +88,9 @@ impl PvType {
     {
         let mut sizes = Vec::new(alloc);
         measure(&shape, &mut sizes)?;
-        Ok(PvType { shape, sizes })
+        Ok(PvType {
+            whole: Arc::new(alloc, Whole { shape, sizes })?,
+        })
     }
 
     /// The type as a shape.
@@ -90,7 +100,7 @@ impl PvType {
         ensures few { length (numbered self.now) ≤ 4096 }
         ensures few_nodes { nodes self.now ≤ 4096 }
     {
-        &self.shape
+        &self.whole.shape
     }
 
     /// How many numbers each numbered node takes, itself included, in the order of the numbers.
@@ -98,7 +108,7 @@ impl PvType {
         ensures sizes { result.now ≡ sizes_of (numbered self.now) }
         ensures few { length result.now ≤ 4096 }
     {
-        &self.sizes
+        &self.whole.sizes
     }
 
     /// How many nodes have numbers: at least 1 and at most 4,096.
@@ -106,7 +116,7 @@ impl PvType {
         ensures count { result ≡ length (numbered self.now) }
         ensures few { result ≤ 4096 }
     {
-        self.sizes.len() as u32
+        self.sizes().len() as u32
     }
 
     /// The number of the node with this path, the names that lead to it joined by dots. The empty path is the root, whose number is 0.
@@ -118,7 +128,7 @@ impl PvType {
         if path.is_empty() {
             return Some(0);
         }
-        find(&self.shape, &self.sizes, path)
+        find(self.shape(), self.sizes(), path)
     }
 
     /// The part of the type that has this number; none at or above [`PvType::node_count`].
@@ -126,7 +136,7 @@ impl PvType {
         ensures shape { option_map (λ s. shape_view s.now) result ≡ slice_get (numbered self.now) number }
         ensures none { IsNone result ↔ (length (numbered self.now) ≤ number) }
     {
-        at(&self.shape, &self.sizes, number)
+        at(self.shape(), self.sizes(), number)
     }
 
     /// The numbers of the leaves, the nodes that are no structures.
@@ -134,17 +144,16 @@ impl PvType {
         ensures { IfOk result (λ s. s ≡ leaves self.now) }
     {
         let mut found = BitSet::new(alloc);
-        collect(&self.shape, 0, &mut found)?;
+        collect(self.shape(), 0, &mut found)?;
         Ok(found)
     }
 
-    /// A copy of the type.
-    pub fn clone_in(&self, alloc: Global) -> Result<PvType, NoMemory>
+    /// A copy of the type, which shares all that it is. `NoMemory` is answered only where 2^63 - 1 types share it.
+    pub fn clone_in(&self, _alloc: Global) -> Result<PvType, NoMemory>
         ensures { IfOk result (λ ty. ty ≡ self.now) }
     {
         Ok(PvType {
-            shape: self.shape.clone_in(alloc)?,
-            sizes: Vec::from_slice(alloc, &self.sizes)?,
+            whole: Arc::try_clone(&self.whole)?,
         })
     }
 }

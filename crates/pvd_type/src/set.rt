@@ -1,4 +1,4 @@
-ghost use Rattle.std.specs.Prelude.{◌≡◌, ◌<◌, ◌≤◌, ◌*◌, ◌+◌, ℕ, length, get_or, false, IfOk, OnOk, OnErr, IsTrue, ◌↔◌, bit_and, bit_or};
+ghost use Rattle.std.specs.Prelude.{◌≡◌, ◌<◌, ◌≤◌, ◌*◌, ◌+◌, ◌/◌, ◌%◌, ◌==◌, ◌&&◌, ◌||◌, ℕ, length, get_or, false, IfOk, OnOk, OnErr, IsTrue, ◌↔◌, bit_and, bit_or};
 ghost use Rattle.std.specs.FinSet as set;
 ghost use Rattle.pvd_type.specs.Sets.{bit, held, IsFirstFrom};
 
@@ -44,6 +44,23 @@ impl BitSet {
         }
     }
 
+    /// The set of the numbers whose bits stand in these words, at most 1,024: the number of a bit is 64 times the word's place
+    /// and the bit's place in the word, the lowest first. It takes no memory.
+    pub fn from_words(words: Vec<u64>) -> BitSet
+        requires { length words.items ≤ 1024 }
+        ensures { result ≡ held words.items }
+    {
+        BitSet { words }
+    }
+
+    /// The words in which the set's bits stand, as [`BitSet::from_words`] takes them. There may be zeros past the greatest number.
+    pub fn words(&self) -> &[u64]
+        ensures set { held result.now ≡ self.now }
+        ensures few { length result.now ≤ 1024 }
+    {
+        &self.words
+    }
+
     /// Whether the set has this number, whatever its size.
     pub fn contains(&self, bit: u32) -> bool
         ensures { result ≡ set.contains self.now bit }
@@ -73,6 +90,22 @@ impl BitSet {
         let word = (bit / WORD) as usize;
         widen(&mut self.words, word + 1)?;
         self.words[word] |= 1 << (bit % WORD);
+        Ok(())
+    }
+
+    /// Adds the numbers from eight times `place` on whose bits a byte has, the lowest first. The byte 0 takes no memory.
+    /// Without memory the set stays as it was.
+    pub fn insert_byte(&mut self, place: u32, byte: u8) -> Result<(), NoMemory>
+        requires { place < 8192 }
+        ensures ok { OnOk result ((q : ℕ) → set.contains self.new q ≡ (set.contains self.old q || ((q / 8) == place && bit byte (q % 8)))) }
+        ensures err { OnErr result (self.new ≡ self.old) }
+    {
+        if byte == 0 {
+            return Ok(());
+        }
+        let word = (place / 8) as usize;
+        widen(&mut self.words, word + 1)?;
+        self.words[word] |= (byte as u64) << (place % 8 * 8);
         Ok(())
     }
 
@@ -118,9 +151,15 @@ impl BitSet {
     pub fn first_from(&self, start: u32) -> Option<u32>
         ensures { IsFirstFrom self.now start result }
     {
-        for bit in start..self.bound() * 8 {
-            if self.contains(bit) {
+        let end = self.words.len() as u32 * WORD;
+        let mut bit = start;
+        while bit < end {
+            if self.words[(bit / WORD) as usize] == 0 {
+                bit = bit / WORD * WORD + WORD;
+            } else if self.contains(bit) {
                 return Some(bit);
+            } else {
+                bit += 1;
             }
         }
         None

@@ -1,9 +1,11 @@
 ghost use Rattle.std.specs.Prelude.{◌≡◌, IfOk};
-ghost use Rattle.pvd_type.specs.View.{shape_view, node_view};
+ghost use Rattle.std.specs.Arc.{arc_value};
+ghost use Rattle.pvd_type.specs.View.{shape_view, node_view, members_view};
 
 use crate::memory::NoMemory;
 use crate::name::Name;
 use std::alloc::Global;
+use std::sync::Arc;
 
 /// The type of one scalar. pvData Meta Language, "Scalars".
 #[derive(Clone, Copy, Debug, PartialEq, Eq)]
@@ -46,6 +48,8 @@ pub enum Extent {
 }
 
 /// A type as a caller writes it down, not yet checked. pvData Meta Language, "pvData types".
+///
+/// A node is shared by the shapes that have it below them, so that a copy of a shape copies no name and no member.
 #[cycle(shape)]
 #[derive(Drop)]
 pub enum Shape {
@@ -56,13 +60,13 @@ pub enum Shape {
     /// A list of scalars.
     List(Scalar, Extent),
     /// A structure: a value for each member, in order.
-    Struct(Node),
+    Struct(Arc<Node>),
     /// A union: the value of one of the members, or none.
-    Union(Node),
+    Union(Arc<Node>),
     /// A list of structures, each of which may be null.
-    StructList(Node),
+    StructList(Arc<Node>),
     /// A list of unions, each of which may be null.
-    UnionList(Node),
+    UnionList(Arc<Node>),
     /// A value that brings its own type, or none.
     Variant,
     /// A list of variants, each of which may be null.
@@ -86,19 +90,18 @@ pub struct Member {
 }
 
 impl Shape {
-    /// A copy of the shape.
-    #[cycle(copy)]
-    pub fn clone_in(&self, alloc: Global) -> Result<Shape, NoMemory>
+    /// A copy of the shape, which shares its nodes. `NoMemory` is answered only where 2^63 - 1 shapes share one node.
+    pub fn clone_in(&self, _alloc: Global) -> Result<Shape, NoMemory>
         ensures { IfOk result (λ s. shape_view s ≡ shape_view self.now) }
     {
         match self {
             Shape::Plain(scalar) => Ok(Shape::Plain(*scalar)),
             Shape::BoundText(bound) => Ok(Shape::BoundText(*bound)),
             Shape::List(scalar, extent) => Ok(Shape::List(*scalar, *extent)),
-            Shape::Struct(node) => Ok(Shape::Struct(node.clone_in(alloc)?)),
-            Shape::Union(node) => Ok(Shape::Union(node.clone_in(alloc)?)),
-            Shape::StructList(node) => Ok(Shape::StructList(node.clone_in(alloc)?)),
-            Shape::UnionList(node) => Ok(Shape::UnionList(node.clone_in(alloc)?)),
+            Shape::Struct(node) => Ok(Shape::Struct(Arc::try_clone(node)?)),
+            Shape::Union(node) => Ok(Shape::Union(Arc::try_clone(node)?)),
+            Shape::StructList(node) => Ok(Shape::StructList(Arc::try_clone(node)?)),
+            Shape::UnionList(node) => Ok(Shape::UnionList(Arc::try_clone(node)?)),
             Shape::Variant => Ok(Shape::Variant),
             Shape::VariantList => Ok(Shape::VariantList),
         }
@@ -106,20 +109,10 @@ impl Shape {
 }
 
 impl Node {
-    /// A copy of the id and the members.
-    #[cycle(copy)]
-    pub fn clone_in(&self, alloc: Global) -> Result<Node, NoMemory>
-        ensures { IfOk result (λ n. node_view n ≡ node_view self.now) }
+    /// A node with this id and these members, in memory that shapes share.
+    pub fn of(alloc: Global, id: Name, members: Vec<Member>) -> Result<Arc<Node>, NoMemory>
+        ensures { IfOk result (λ n. node_view (arc_value n) ≡ (id, members_view members.items)) }
     {
-        let mut members = Vec::with_capacity(alloc, self.members.len())?;
-        for member in &self.members {
-            let shape = member.shape.clone_in(alloc)?;
-            let name = member.name.clone_in(alloc)?;
-            members.push(Member { name, shape })?;
-        }
-        Ok(Node {
-            id: self.id.clone_in(alloc)?,
-            members,
-        })
+        Ok(Arc::new(alloc, Node { id, members })?)
     }
 }

@@ -12,10 +12,7 @@ fn member(alloc: Global, name: &str, shape: Shape) -> Result<Member, NoMemory> {
 
 /// A structure with this id.
 fn structure(alloc: Global, id: &str, members: Vec<Member>) -> Result<Shape, NoMemory> {
-    Ok(Shape::Struct(Node {
-        id: Name::of(alloc, id)?,
-        members,
-    }))
+    Ok(Shape::Struct(Node::of(alloc, Name::of(alloc, id)?, members)?))
 }
 
 /// The time stamp of Normative Types: seconds, nanoseconds and a tag.
@@ -115,12 +112,60 @@ fn numbers_lead_to_shapes_and_leaves(rt: HostRuntime) -> Result<(), Fail> {
     Ok(())
 }
 
+/// A structure of 40 leaves, whose names are alike but for their ends, and of one with the last name.
+fn alike(alloc: Global, last: &str) -> Result<Shape, NoMemory> {
+    let mut members = Vec::new(alloc);
+    for i in 0..40usize {
+        let name = format!(in alloc; "a name with a long beginning {i}")?;
+        members.push(member(alloc, name.as_str(), Shape::Variant)?)?;
+    }
+    members.push(member(alloc, last, Shape::Variant)?)?;
+    structure(alloc, "", members)
+}
+
+/// Whether the check of 41 leaves with this last name finds a fault.
+fn alike_fault(alloc: Global, last: &str) -> Result<Option<TypeFault>, NoMemory> {
+    Ok(PvType::check(alloc, alike(alloc, last)?).err())
+}
+
+#[test]
+fn names_are_told_apart_by_their_last_byte(rt: HostRuntime) -> Result<(), Fail> {
+    let alloc = rt.alloc();
+    let fresh = alike_fault(alloc, "a name with a long beginning 3x")?;
+    assert_eq!(rt; fresh, None);
+    let twice = alike_fault(alloc, "a name with a long beginning 3")?;
+    assert_eq!(rt; twice, Some(TypeFault::SameName));
+    Ok(())
+}
+
+/// A structure that has the same shape below it a thousand times.
+fn thousandfold(alloc: Global, shape: &Shape) -> Result<PvType, Fail> {
+    let mut members = Vec::new(alloc);
+    for i in 0..1000usize {
+        let name = format!(in alloc; "m{i}")?;
+        members.push(member(alloc, name.as_str(), shape.clone_in(alloc)?)?)?;
+    }
+    Ok(PvType::check(alloc, structure(alloc, "", members)?)?)
+}
+
+#[test]
+fn a_shared_shape_outlives_the_type_that_it_came_from(rt: HostRuntime) -> Result<(), Fail> {
+    let alloc = rt.alloc();
+    let stamp = PvType::check(alloc, time_stamp(alloc)?)?;
+    let many = thousandfold(alloc, stamp.shape())?;
+    drop(stamp);
+    assert_eq!(rt; many.node_count(), 4001);
+    assert_eq!(rt; many.number_of("m999.userTag"), Some(4000));
+    Ok(())
+}
+
 #[test]
 fn copies_are_equal_and_other_types_are_not(rt: HostRuntime) -> Result<(), Fail> {
     let alloc = rt.alloc();
     let stamp = PvType::check(alloc, time_stamp(alloc)?)?;
     let other = PvType::check(alloc, alarm(alloc)?)?;
     assert!(rt; stamp == stamp.clone_in(alloc)?);
+    assert!(rt; stamp == PvType::check(alloc, time_stamp(alloc)?)?);
     assert!(rt; stamp != other);
     let name = Name::of(alloc, "Größe")?;
     assert_eq!(rt; name.as_str(), "Größe");
@@ -153,10 +198,8 @@ fn wide(alloc: Global, last: usize) -> Result<Shape, NoMemory> {
         let name = format!(in alloc; "s{i}")?;
         structures.push(member(alloc, name.as_str(), structure(alloc, "", members)?)?)?;
     }
-    Ok(Shape::Union(Node {
-        id: Name::of(alloc, "")?,
-        members: structures,
-    }))
+    let none = Name::of(alloc, "")?;
+    Ok(Shape::Union(Node::of(alloc, none, structures)?))
 }
 
 /// A structure with two members of these names, the first of which is a structure with one of this name.
@@ -230,5 +273,29 @@ fn bit_sets_are_sets_of_numbers(rt: HostRuntime) -> Result<(), Fail> {
     );
     assert_eq!(rt; both.first_from(9), None);
     assert!(rt; !both.is_empty());
+    Ok(())
+}
+
+#[test]
+fn bytes_and_words_are_sets_of_numbers(rt: HostRuntime) -> Result<(), Fail> {
+    let alloc = rt.alloc();
+    let mut bits = BitSet::new(alloc);
+    bits.insert_byte(3, 0)?;
+    assert!(rt; bits.words().is_empty());
+    bits.insert_byte(1, 0x81)?;
+    bits.insert_byte(8191, 0x80)?;
+    assert_eq!(rt;
+        (bits.first_from(0), bits.first_from(9), bits.first_from(16)),
+        (Some(8), Some(15), Some(65535))
+    );
+    assert_eq!(rt;
+        (bits.words().first(), bits.words().len()),
+        (Some(&0x8100), 1024)
+    );
+    let again = BitSet::from_words(Vec::from_slice(alloc, bits.words())?);
+    assert_eq!(rt;
+        (again.first_from(0), again.first_from(65536)),
+        (Some(8), None)
+    );
     Ok(())
 }

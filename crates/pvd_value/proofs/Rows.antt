@@ -10,10 +10,10 @@ use Rattle.pvd_type.specs.Tree.{Tree, Fields, no_fields, field}
 use Rattle.pvd_type.specs.View.{shape_view, shape_step, member_step, node_step, member_view, members_view}
 use Rattle.pvd_type.specs.declared.shape.Member.{Member, fold_out-Member}
 use Rattle.pvd_value.specs.Data.{Data, selected, carried, structs, unions, variants, Row, end, more, gap}
-use Rattle.pvd_value.specs.View.{view, row_of, gaps_of, parcels_of, row_view, parcel_view, optional_view, carried_view}
+use Rattle.pvd_value.specs.View.{view, row_of, gaps_of, parcels_of, row_view, boxed_view, parcel_view, optional_view, carried_view}
 use Rattle.pvd_value.specs.Fits.{fits_of, row_fits, member_at}
 use Rattle.pvd_value.specs.Same.{same_row}
-use Rattle.pvd_value.specs.declared.value.PvValue.TheShapes.{former-PvValue-StructList-0-at-1, former-PvValue-VariantList-0-at-3}
+use Rattle.pvd_value.specs.declared.value.PvValue.TheShapes.{former-PvValue-StructList-0-at-2, former-PvValue-VariantList-0-at-4}
 use Rattle.pvd_value.specs.declared.value.PvValue.{PvValue, Union, Variant, StructList, UnionList, VariantList, the_lemmas}
 
 pub view_selected : (n : ℕ) (b : Box PvValue) → view (Union (Some (n, b))) ≡ selected n (view b.value)
@@ -22,39 +22,40 @@ view_selected n b = search (rules, the_lemmas)
 pub view_carried : (t : Tree) (b : Box PvValue) → view (Variant (Some (t, b))) ≡ carried t (view b.value)
 view_carried t b = search (rules, the_lemmas)
 
-optional : (vs : List (Option PvValue)) → map (former-PvValue-StructList-0-at-1.map PvValue Data view) vs ≡ map (option_map view) vs
+optional : (vs : List (Option (Box PvValue))) → map (option_map (λ (b : Box Data). b.value)) (map (former-PvValue-StructList-0-at-2.map PvValue Data view) vs) ≡ map (option_map boxed_view) vs
 optional [] = refl
 optional (None ∷ vs) = ap (λ (xs : List (Option Data)). None ∷ xs) (optional vs)
-optional (Some v ∷ vs) = ap (λ (xs : List (Option Data)). Some (view v) ∷ xs) (optional vs)
+optional (Some b ∷ vs) = ap (λ (xs : List (Option Data)). Some (view b.value) ∷ xs) (optional vs)
 
-pub view_structs : (v : Vec (Option PvValue)) → view (StructList v) ≡ structs (optional_view v.items)
+pub view_structs : (v : Vec (Option (Box PvValue))) → view (StructList v) ≡ structs (optional_view v.items)
 view_structs v =
-    let opened : view (StructList v) ≡ structs (gaps_of (map (former-PvValue-StructList-0-at-1.map PvValue Data view) v.items)) = search (rules, the_lemmas) in
+    let opened : view (StructList v) ≡ structs (gaps_of (map (option_map (λ (b : Box Data). b.value)) (map (former-PvValue-StructList-0-at-2.map PvValue Data view) v.items))) = search (rules, the_lemmas) in
     opened ∙ ap (λ (xs : List (Option Data)). structs (gaps_of xs)) (optional v.items)
 
-pub view_unions : (v : Vec (Option PvValue)) → view (UnionList v) ≡ unions (optional_view v.items)
+pub view_unions : (v : Vec (Option (Box PvValue))) → view (UnionList v) ≡ unions (optional_view v.items)
 view_unions v =
-    let opened : view (UnionList v) ≡ unions (gaps_of (map (former-PvValue-StructList-0-at-1.map PvValue Data view) v.items)) = search (rules, the_lemmas) in
+    let opened : view (UnionList v) ≡ unions (gaps_of (map (option_map (λ (b : Box Data). b.value)) (map (former-PvValue-StructList-0-at-2.map PvValue Data view) v.items))) = search (rules, the_lemmas) in
     opened ∙ ap (λ (xs : List (Option Data)). unions (gaps_of xs)) (optional v.items)
 
-parcels : (vs : List (Option (Tree × PvValue))) → map (former-PvValue-VariantList-0-at-3.map PvValue Data view) vs ≡ map (option_map parcel_view) vs
+parcels : (vs : List (Option (Box (Tree × PvValue)))) → map (option_map (λ (b : Box (Tree × Data)). b.value)) (map (former-PvValue-VariantList-0-at-4.map PvValue Data view) vs) ≡ map (option_map parcel_view) vs
 parcels [] = refl
 parcels (None ∷ vs) = ap (λ (xs : List (Option (Tree × Data))). None ∷ xs) (parcels vs)
-parcels (Some p ∷ vs) = ap (λ (xs : List (Option (Tree × Data))). Some (p.0, view p.1) ∷ xs) (parcels vs)
+parcels (Some b ∷ vs) = ap (λ (xs : List (Option (Tree × Data))). Some (b.value.0, view b.value.1) ∷ xs) (parcels vs)
 
-pub view_variants : (v : Vec (Option (Tree × PvValue))) → view (VariantList v) ≡ variants (carried_view v.items)
+pub view_variants : (v : Vec (Option (Box (Tree × PvValue)))) → view (VariantList v) ≡ variants (carried_view v.items)
 view_variants v =
-    let opened : view (VariantList v) ≡ variants (parcels_of (map (former-PvValue-VariantList-0-at-3.map PvValue Data view) v.items)) = search (rules, the_lemmas) in
+    let opened : view (VariantList v) ≡ variants (parcels_of (map (option_map (λ (b : Box (Tree × Data)). b.value)) (map (former-PvValue-VariantList-0-at-4.map PvValue Data view) v.items))) = search (rules, the_lemmas) in
     opened ∙ ap (λ (xs : List (Option (Tree × Data))). variants (parcels_of xs)) (parcels v.items)
 
 pub row_from : (vs : List PvValue) (i : ℕ) (v : PvValue) → i < length vs → get_or vs i v ≡ v → row_view (drop i vs) ≡ more (view v) (row_view (drop (i + 1) vs))
 row_from vs i v within here = rw (drop-cons vs i v within, add-one, here) refl
 
 -- the elements of a list from place i on, where o stands at i
-pub optional_from : (vs : List (Option PvValue)) (i : ℕ) (o : Option PvValue) → i < length vs → get_or vs i o ≡ o → optional_view (drop i vs) ≡ gaps_of (option_map view o ∷ map (option_map view) (drop (i + 1) vs))
+pub optional_from : (vs : List (Option (Box PvValue))) (i : ℕ) (o : Option (Box PvValue)) → i < length vs → get_or vs i o ≡ o
+    → optional_view (drop i vs) ≡ gaps_of (option_map boxed_view o ∷ map (option_map boxed_view) (drop (i + 1) vs))
 optional_from vs i o within here = rw (drop-cons vs i o within, add-one, here) refl
 
-pub carried_from : (vs : List (Option (Tree × PvValue))) (i : ℕ) (o : Option (Tree × PvValue)) → i < length vs → get_or vs i o ≡ o
+pub carried_from : (vs : List (Option (Box (Tree × PvValue)))) (i : ℕ) (o : Option (Box (Tree × PvValue))) → i < length vs → get_or vs i o ≡ o
     → carried_view (drop i vs) ≡ parcels_of (option_map parcel_view o ∷ map (option_map parcel_view) (drop (i + 1) vs))
 carried_from vs i o within here = rw (drop-cons vs i o within, add-one, here) refl
 
@@ -134,7 +135,7 @@ rows_differ [] (y ∷ ys) h = refl
 rows_differ (x ∷ xs) [] h = refl
 rows_differ (x ∷ xs) (y ∷ ys) h = rw (rows_differ xs ys (λ e. h (ap suc e))) (no_and _)
 
-pub optional_differ : (xs ys : List (Option PvValue)) → (length xs ≡ length ys → ⊥) → same_row (optional_view xs) (optional_view ys) ≡ false
+pub optional_differ : (xs ys : List (Option (Box PvValue))) → (length xs ≡ length ys → ⊥) → same_row (optional_view xs) (optional_view ys) ≡ false
 optional_differ [] [] h = absurd (h refl)
 optional_differ [] (None ∷ ys) h = refl
 optional_differ [] (Some y ∷ ys) h = refl
@@ -145,7 +146,7 @@ optional_differ (None ∷ xs) (Some y ∷ ys) h = refl
 optional_differ (Some x ∷ xs) (None ∷ ys) h = refl
 optional_differ (Some x ∷ xs) (Some y ∷ ys) h = rw (optional_differ xs ys (λ e. h (ap suc e))) (no_and _)
 
-pub carried_differ : (xs ys : List (Option (Tree × PvValue))) → (length xs ≡ length ys → ⊥) → same_row (carried_view xs) (carried_view ys) ≡ false
+pub carried_differ : (xs ys : List (Option (Box (Tree × PvValue)))) → (length xs ≡ length ys → ⊥) → same_row (carried_view xs) (carried_view ys) ≡ false
 carried_differ [] [] h = absurd (h refl)
 carried_differ [] (None ∷ ys) h = refl
 carried_differ [] (Some y ∷ ys) h = refl

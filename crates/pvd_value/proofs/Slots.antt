@@ -1,5 +1,5 @@
 -- The leaves of values that fit.
-use Rattle.std.proofs.Common.{◌≡◌, ℕ, zero, suc, ◌+◌, ◌-◌, ◌<◌, Bool, true, false, cond, List, [], ◌∷◌, ◌++◌, length, map, Option, Some, None, refl, sym, ap, ◌∙◌, arith, add-zero}
+use Rattle.std.proofs.Common.{◌≡◌, ℕ, zero, suc, ◌+◌, ◌-◌, ◌<◌, Bool, true, false, cond, ◌||◌, List, [], ◌∷◌, ◌++◌, length, map, Option, Some, None, refl, sym, ap, ◌∙◌, arith, add-zero}
 use Rattle.std.specs.Prelude.{slice_get, is_some, unwrap_or}
 use Rattle.std.proofs.lemmas.List.{map-append, length-map}
 use Rattle.std.proofs.lemmas.Bool.{false≢true}
@@ -9,9 +9,42 @@ use Rattle.pvd_type.specs.Numbers.{numbered, numbered_fields, is_leaf}
 use Rattle.pvd_type.proofs.Leaves.{leaf_flag}
 use Rattle.pvd_value.specs.Data.{Data, members, Row, end, more}
 use Rattle.pvd_value.specs.Fits.{fits_of, row_fits}
-use Rattle.pvd_value.specs.Leaves.{row_in, slots, row_slots, known, leaf_at}
+use Rattle.pvd_value.specs.Leaves.{row_in, slots, row_slots, known, leaf_at, leaves_under}
 use Rattle.pvd_value.specs.Merge.{merged, merged_row}
 use Rattle.pvd_value.specs.Same.{same_slot, differing}
+
+-- Of a leaf: it alone stands under its number.
+module _ (t : Tree) (v : Data) where
+  pub lone_slot : is_leaf t ≡ true → slots t v ≡ Some v ∷ []
+  lone_slot h = by t h
+    where
+      by : (t : Tree) → is_leaf t ≡ true → slots t v ≡ Some v ∷ []
+      by (leaf l) h = refl
+      by (node struct id fs) h = absurd cc
+      by (node union id fs) h = refl
+      by (node struct_list id fs) h = refl
+      by (node union_list id fs) h = refl
+
+  pub leaf_here : (n : ℕ) → n ≡ 0 → is_leaf t ≡ true → Some v ≡ leaf_at n t v
+  leaf_here n e h = rw e (ap (λ xs. known (slice_get xs 0)) (sym (lone_slot h)))
+
+  pub leaf_past : (n : ℕ) → (n ≡ 0 → ⊥) → is_leaf t ≡ true → None ≡ leaf_at n t v
+  leaf_past zero other h = absurd (other refl)
+  leaf_past (suc n) other h = ap (λ xs. known (slice_get xs (suc n))) (sym (lone_slot h))
+
+pub lone_under : (marked : ℕ → Bool) (inside : Bool) (n : ℕ) (t : Tree) → is_leaf t ≡ true → leaves_under marked inside n t ≡ cond (inside || marked n) (n ∷ []) []
+lone_under marked inside n (leaf l) h = refl
+lone_under marked inside n (node struct id fs) h = absurd cc
+lone_under marked inside n (node union id fs) h = refl
+lone_under marked inside n (node struct_list id fs) h = refl
+lone_under marked inside n (node union_list id fs) h = refl
+
+pub lone_merged : (mask : ℕ → Bool) (n : ℕ) (t : Tree) (a b : Data) → is_leaf t ≡ true → merged mask n t a b ≡ cond (mask n) b a
+lone_merged mask n (leaf l) a b h = refl
+lone_merged mask n (node struct id fs) a b h = absurd cc
+lone_merged mask n (node union id fs) a b h = refl
+lone_merged mask n (node struct_list id fs) a b h = refl
+lone_merged mask n (node union_list id fs) a b h = refl
 
 -- a value that fits a structure is the row of its members' values
 pub row_of_struct : (left : ℕ) (v : Data) (id : List ℕ) (fs : Fields) → fits_of left v (node struct id fs) ≡ true → row_fits left (row_in v) fs ≡ true

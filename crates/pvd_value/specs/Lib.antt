@@ -5,3 +5,4 @@ pub mod Blank
 pub mod Leaves
 pub mod Same
 pub mod Merge
+pub mod LeafValues

@@ -1,5 +1,6 @@
 -- The data that a value stands for.
 use Rattle.std.specs.Prelude.{List, [], ◌∷◌, map, Option, Some, None, option_map}
+use Rattle.std.specs.Global.{Box}
 use Rattle.pvd_type.specs.Tree.{Tree}
 use Rattle.pvd_value.specs.Data.{Data, boolean, byte, short, int, long, ubyte, ushort, uint, ulong, float, double, text, Many, booleans, bytes, shorts, ints, longs, ubytes, ushorts, uints, ulongs, floats, doubles, texts, single, many, members, unset, selected, empty, carried, structs, unions, variants, Row, end, more, gap}
 use Rattle.pvd_value.specs.declared.value.Items.{Items}
@@ -56,9 +57,9 @@ view_step (PvValue-F.Union None) = unset
 view_step (PvValue-F.Union (Some p)) = selected p.0 p.1.value
 view_step (PvValue-F.Variant None) = empty
 view_step (PvValue-F.Variant (Some p)) = carried p.0 p.1.value
-view_step (PvValue-F.StructList v) = structs (gaps_of v.items)
-view_step (PvValue-F.UnionList v) = unions (gaps_of v.items)
-view_step (PvValue-F.VariantList v) = variants (parcels_of v.items)
+view_step (PvValue-F.StructList v) = structs (gaps_of (map (option_map (λ b. b.value)) v.items))
+view_step (PvValue-F.UnionList v) = unions (gaps_of (map (option_map (λ b. b.value)) v.items))
+view_step (PvValue-F.VariantList v) = variants (parcels_of (map (option_map (λ b. b.value)) v.items))
 
 abbrev pub view : PvValue → Data
 view = fold-PvValue Data view_step
@@ -68,11 +69,14 @@ abbrev pub row_view : List PvValue → Row
 row_view vs = row_of (map view vs)
 
 -- the elements of a list of structures or unions, and of a list of variants
-abbrev pub optional_view : List (Option PvValue) → Row
-optional_view vs = gaps_of (map (option_map view) vs)
+abbrev pub boxed_view : Box PvValue → Data
+boxed_view b = view b.value
 
-abbrev pub parcel_view : Tree × PvValue → Tree × Data
-parcel_view p = (p.0, view p.1)
+abbrev pub optional_view : List (Option (Box PvValue)) → Row
+optional_view vs = gaps_of (map (option_map boxed_view) vs)
 
-abbrev pub carried_view : List (Option (Tree × PvValue)) → Row
+abbrev pub parcel_view : Box (Tree × PvValue) → Tree × Data
+parcel_view b = (b.value.0, view b.value.1)
+
+abbrev pub carried_view : List (Option (Box (Tree × PvValue))) → Row
 carried_view vs = parcels_of (map (option_map parcel_view) vs)

@@ -1,4 +1,4 @@
-ghost use Rattle.std.specs.Prelude.{◌≡◌, true, replicate, IfOk, []};
+ghost use Rattle.std.specs.Prelude.{◌≡◌, ◌≤◌, true, replicate, IfOk, []};
 ghost use Rattle.pvd_type.specs.View.{shape_view, members_view};
 ghost use Rattle.pvd_value.specs.Data.{single, many};
 ghost use Rattle.pvd_value.specs.View.{view, row_view, items_view};
@@ -9,19 +9,61 @@ use crate::value::{Items, PvValue};
 use pvd_type::{Extent, Member, Name, NoMemory, PvType, Scalar, Shape};
 use std::alloc::Global;
 
+/// How many bytes the lists of a fixed length in one blank value may take in all: as many as the largest payload has. A type with
+/// more has no value that could be sent.
+const ROOM: u64 = 1 << 26;
+
 /// The value that a type begins with: zeros, `false`, empty texts and lists, null unions and variants; lists of a fixed length are full of zeros.
+/// Where these lists take more than 67,108,864 bytes in all, that is `NoMemory`.
 pub fn blank(alloc: Global, ty: &PvType) -> Result<PvValue, NoMemory>
     ensures value { IfOk result (λ v. view v ≡ blank_of ty.now) }
     ensures fits { IfOk result (λ v. fits_of 16 (view v) ty.now ≡ true) }
 {
-    blank_at(ty.shape(), alloc)
+    blank_shape(alloc, ty.shape())
 }
 
-/// The blank value of a part of a type, as [`blank`].
+/// The blank value of a part of a type, as [`blank`], with the same bound.
 pub fn blank_shape(alloc: Global, shape: &Shape) -> Result<PvValue, NoMemory>
     ensures { IfOk result (λ v. view v ≡ blank_of (shape_view shape.now)) }
 {
+    if room_after(shape, ROOM).is_none() {
+        return Err(NoMemory);
+    }
     blank_at(shape, alloc)
+}
+
+/// How many of so many bytes the fixed lists of a blank value leave; none where they take more.
+#[cycle(room)]
+fn room_after(shape: &Shape, room: u64) -> Option<u64> {
+    match shape {
+        Shape::List(scalar, Extent::Fixed(size)) => {
+            room.checked_sub(u64::from(*size) * element_bytes(*scalar))
+        }
+        Shape::Struct(node) => room_after_members(&node.members, room),
+        _ => Some(room),
+    }
+}
+
+#[cycle(room)]
+fn room_after_members(members: &[Member], room: u64) -> Option<u64> {
+    let mut left = room;
+    for member in members {
+        left = room_after(&member.shape, left)?;
+    }
+    Some(left)
+}
+
+/// How many bytes an element of a list takes in memory.
+fn element_bytes(scalar: Scalar) -> u64
+    ensures { result ≤ 24 }
+{
+    match scalar {
+        Scalar::Bool | Scalar::I8 | Scalar::U8 => 1,
+        Scalar::I16 | Scalar::U16 => 2,
+        Scalar::I32 | Scalar::U32 | Scalar::F32 => 4,
+        Scalar::I64 | Scalar::U64 | Scalar::F64 => 8,
+        Scalar::Text => 24,
+    }
 }
 
 #[cycle(blank)]

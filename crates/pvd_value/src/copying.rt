@@ -76,15 +76,15 @@ fn copy_row(values: &[PvValue], alloc: Global) -> Result<Vec<PvValue>, NoMemory>
 
 #[cycle(copy)]
 fn copy_optional(
-    values: &[Option<PvValue>],
+    values: &[Option<Box<PvValue>>],
     alloc: Global,
-) -> Result<Vec<Option<PvValue>>, NoMemory>
+) -> Result<Vec<Option<Box<PvValue>>>, NoMemory>
     ensures { IfOk result (λ v. optional_view v.items ≡ optional_view values.now) }
 {
     let mut copies = Vec::with_capacity(alloc, values.len())?;
     for value in values {
         let copied = match value {
-            Some(value) => Some(copy(value, alloc)?),
+            Some(value) => Some(Box::new(alloc, copy(value, alloc)?)?),
             None => None,
         };
         copies.push(copied)?;
@@ -94,15 +94,18 @@ fn copy_optional(
 
 #[cycle(copy)]
 fn copy_variants(
-    values: &[Option<(PvType, PvValue)>],
+    values: &[Option<Box<(PvType, PvValue)>>],
     alloc: Global,
-) -> Result<Vec<Option<(PvType, PvValue)>>, NoMemory>
+) -> Result<Vec<Option<Box<(PvType, PvValue)>>>, NoMemory>
     ensures { IfOk result (λ v. carried_view v.items ≡ carried_view values.now) }
 {
     let mut copies = Vec::with_capacity(alloc, values.len())?;
     for value in values {
         let copied = match value {
-            Some((ty, value)) => Some((ty.clone_in(alloc)?, copy(value, alloc)?)),
+            Some(parcel) => {
+                let (ty, value) = &**parcel;
+                Some(Box::new(alloc, (ty.clone_in(alloc)?, copy(value, alloc)?))?)
+            }
             None => None,
         };
         copies.push(copied)?;

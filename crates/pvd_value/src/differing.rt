@@ -1,4 +1,4 @@
-ghost use Rattle.std.specs.Prelude.{◌≡◌, ◌≢◌, ◌+◌, ◌≤◌, ◌↔◌, ℕ, true, IsTrue, length, fold, IfOk, OnOk};
+ghost use Rattle.std.specs.Prelude.{◌≡◌, ◌≢◌, ◌+◌, ◌≤◌, ◌<◌, ◌↔◌, ℕ, true, Some, [], ◌∷◌, IsTrue, length, fold, IfOk, OnOk};
 ghost use Rattle.std.specs.FinSet as set;
 ghost use Rattle.pvd_type.specs.View.{shape_view, members_view};
 ghost use Rattle.pvd_type.specs.Numbers.{numbered, numbered_fields};
@@ -42,13 +42,20 @@ fn compare(
         Shape::Struct(node) => {
             compare_rows(&node.members, number + 1, a.members(), b.members(), found)
         }
-        _ => {
-            if !same_value(a, b) {
-                found.insert(number)?;
-            }
-            Ok(number + 1)
-        }
+        _ => compare_leaf(number, a, b, found),
     }
+}
+
+/// Adds the number of a leaf whose values differ, and says which number follows it.
+fn compare_leaf(number: u32, a: &PvValue, b: &PvValue, found: &mut BitSet) -> Result<u32, NoMemory>
+    requires { number < 65536 }
+    ensures leaves { OnOk result (found.new ≡ fold set.insert found.old (differing number (Some (view a.now) ∷ []) (Some (view b.now) ∷ []))) }
+    ensures next { IfOk result (λ n. n ≡ number + 1) }
+{
+    if !same_value(a, b) {
+        found.insert(number)?;
+    }
+    Ok(number + 1)
 }
 
 #[cycle(compare)]

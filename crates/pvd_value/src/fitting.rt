@@ -161,7 +161,7 @@ fn struct_list_fits(value: &PvValue, node: &Node, left: u32) -> bool
 }
 
 #[cycle(fits)]
-fn structs_fit(values: &[Option<PvValue>], node: &Node, left: u32) -> bool
+fn structs_fit(values: &[Option<Box<PvValue>>], node: &Node, left: u32) -> bool
     ensures { result ≡ all_fit left (optional_view values.now) (tree.node struct (node_view node.now).0 (node_view node.now).1) }
 {
     for value in values {
@@ -186,7 +186,7 @@ fn union_list_fits(value: &PvValue, node: &Node, left: u32) -> bool
 }
 
 #[cycle(fits)]
-fn unions_fit(values: &[Option<PvValue>], node: &Node, left: u32) -> bool
+fn unions_fit(values: &[Option<Box<PvValue>>], node: &Node, left: u32) -> bool
     ensures { result ≡ all_fit left (optional_view values.now) (tree.node union (node_view node.now).0 (node_view node.now).1) }
 {
     for value in values {
@@ -211,14 +211,15 @@ fn variant_list_fits(value: &PvValue, left: u32) -> bool
 }
 
 #[cycle(fits)]
-fn variants_fit(values: &[Option<(PvType, PvValue)>], left: u32) -> bool
+fn variants_fit(values: &[Option<Box<(PvType, PvValue)>>], left: u32) -> bool
     ensures { result ≡ all_fit left (carried_view values.now) (leaf variant) }
 {
     for value in values {
-        if let Some((ty, inner)) = value
-            && !(left > 0 && fits_at(inner, ty.shape(), left - 1))
-        {
-            return false;
+        if let Some(parcel) = value {
+            let (ty, inner) = &**parcel;
+            if !(left > 0 && fits_at(inner, ty.shape(), left - 1)) {
+                return false;
+            }
         }
     }
     true

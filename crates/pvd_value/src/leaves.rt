@@ -1,4 +1,4 @@
-ghost use Rattle.std.specs.Prelude.{◌≡◌, ◌+◌, ◌≤◌, ℕ, true, false, length, fold, is_some, option_map, slice_get, IfOk, IfErr, OnOk, ◌||◌};
+ghost use Rattle.std.specs.Prelude.{◌≡◌, ◌+◌, ◌≤◌, ◌<◌, ℕ, true, false, [], ◌∷◌, length, fold, is_some, option_map, slice_get, IfOk, IfErr, OnOk, ◌||◌, if◌then◌else◌};
 ghost use Rattle.std.specs.FinSet as set;
 ghost use Rattle.pvd_type.specs.View.{shape_view, members_view};
 ghost use Rattle.pvd_type.specs.Sets.{IsFirstFrom};
@@ -112,16 +112,23 @@ fn mark(
     ensures leaves { OnOk result (found.new ≡ fold set.insert found.old (leaves_under (set.contains bits.now) inside number (shape_view shape.now))) }
     ensures next { IfOk result (λ n. n ≡ number + length (numbered (shape_view shape.now))) }
 {
-    let marked = inside || bits.contains(number);
+    let marked = inside | bits.contains(number);
     match shape {
         Shape::Struct(node) => mark_members(&node.members, number + 1, marked, bits, found),
-        _ => {
-            if marked {
-                found.insert(number)?;
-            }
-            Ok(number + 1)
-        }
+        _ => mark_leaf(number, marked, found),
     }
+}
+
+/// Adds the number of a leaf where it is marked, and says which number follows it.
+fn mark_leaf(number: u32, marked: bool, found: &mut BitSet) -> Result<u32, NoMemory>
+    requires { number < 65536 }
+    ensures leaves { OnOk result (found.new ≡ fold set.insert found.old (if marked then number ∷ [] else [])) }
+    ensures next { IfOk result (λ n. n ≡ number + 1) }
+{
+    if marked {
+        found.insert(number)?;
+    }
+    Ok(number + 1)
 }
 
 #[cycle(mark)]

@@ -6,7 +6,9 @@ mod copying;
 mod differing;
 mod fitting;
 mod leaves;
+mod marked;
 mod merging;
+mod moving;
 mod same;
 mod value;
 
@@ -14,10 +16,14 @@ pub use blanking::{blank, blank_shape};
 pub use differing::differs;
 pub use fitting::{fits, member_shape};
 pub use leaves::{ValueBits, leaf, leaves_of};
+pub use marked::differs_in;
 pub use merging::merge;
+pub use moving::take_leaves;
 pub use pvd_type::NoMemory;
 pub use same::same_value;
 pub use value::{Items, PvValue};
 
+#[cfg(test)]
+mod marked_tests;
 #[cfg(test)]
 mod tests;

@@ -56,7 +56,7 @@ fn same_rows(a: &[PvValue], b: &[PvValue]) -> bool
 }
 
 #[cycle(same)]
-fn same_optional(a: &[Option<PvValue>], b: &[Option<PvValue>]) -> bool
+fn same_optional(a: &[Option<Box<PvValue>>], b: &[Option<Box<PvValue>>]) -> bool
     ensures { result ≡ same_row (optional_view a.now) (optional_view b.now) }
 {
     if a.len() != b.len() {
@@ -77,7 +77,7 @@ fn same_optional(a: &[Option<PvValue>], b: &[Option<PvValue>]) -> bool
 }
 
 #[cycle(same)]
-fn same_variants(a: &[Option<(PvType, PvValue)>], b: &[Option<(PvType, PvValue)>]) -> bool
+fn same_variants(a: &[Option<Box<(PvType, PvValue)>>], b: &[Option<Box<(PvType, PvValue)>>]) -> bool
     ensures { result ≡ same_row (carried_view a.now) (carried_view b.now) }
 {
     if a.len() != b.len() {
@@ -86,7 +86,9 @@ fn same_variants(a: &[Option<(PvType, PvValue)>], b: &[Option<(PvType, PvValue)>
     for i in 0..a.len() {
         match (&a[i], &b[i]) {
             (None, None) => {}
-            (Some((t, x)), Some((u, y))) => {
+            (Some(p), Some(q)) => {
+                let (t, x) = &**p;
+                let (u, y) = &**q;
                 if !same_carried(x, y, t, u) {
                     return false;
                 }

@@ -1,10 +1,11 @@
 use super::*;
 use pvd_type::{BitSet, Extent, Member, Name, NoMemory, Node, PvType, Scalar, Shape};
 use std::alloc::Global;
+use std::sync::Arc;
 use std::test::Fail;
 
 /// A node with this id and one member for each of these names, all of one shape.
-fn node(alloc: Global, id: &str, names: &[&str], shape: &Shape) -> Result<Node, NoMemory> {
+fn node(alloc: Global, id: &str, names: &[&str], shape: &Shape) -> Result<Arc<Node>, NoMemory> {
     let mut members = Vec::new(alloc);
     for name in names {
         members.push(Member {
@@ -12,10 +13,7 @@ fn node(alloc: Global, id: &str, names: &[&str], shape: &Shape) -> Result<Node, 
             shape: shape.clone_in(alloc)?,
         })?;
     }
-    Ok(Node {
-        id: Name::of(alloc, id)?,
-        members,
-    })
+    Node::of(alloc, Name::of(alloc, id)?, members)
 }
 
 /// A structure of two structures `a` and `b`, each of the ints `x` and `y`: a is 1, its ints 2 and 3, b is 4, its ints 5 and 6.
@@ -171,7 +169,7 @@ fn variants(alloc: Global, count: u8) -> Result<PvValue, Fail> {
 }
 
 /// A union of two ints.
-fn two_ints(alloc: Global) -> Result<Node, NoMemory> {
+fn two_ints(alloc: Global) -> Result<Arc<Node>, NoMemory> {
     node(alloc, "", &["x", "y"], &Shape::Plain(Scalar::I32))
 }
 
@@ -179,7 +177,7 @@ fn two_ints(alloc: Global) -> Result<Node, NoMemory> {
 fn null_and_selected(alloc: Global, place: u32) -> Result<PvValue, NoMemory> {
     let mut elements = Vec::new(alloc);
     elements.push(None)?;
-    elements.push(Some(selected(alloc, place)?))?;
+    elements.push(Some(Box::new(alloc, selected(alloc, place)?)?))?;
     Ok(PvValue::UnionList(elements))
 }
 
@@ -208,6 +206,20 @@ fn unions_and_variants_keep_to_their_members_and_depth(rt: HostRuntime) -> Resul
             "at {count}"
         );
     }
+    Ok(())
+}
+
+/// Whether there is room for the blank value of a fixed list of so many doubles.
+fn has_blank(alloc: Global, size: u32) -> Result<bool, Fail> {
+    let ty = PvType::check(alloc, Shape::List(Scalar::F64, Extent::Fixed(size)))?;
+    Ok(blank(alloc, &ty).is_ok())
+}
+
+#[test]
+fn blank_fixed_lists_take_no_more_than_a_payload(rt: HostRuntime) -> Result<(), Fail> {
+    let alloc = rt.alloc();
+    assert!(rt; has_blank(alloc, 1000)?);
+    assert!(rt; !has_blank(alloc, 8388609)?);
     Ok(())
 }
 

@@ -36,7 +36,7 @@ pub enum Items {
 
 /// A value. It stands alone: which type it has is said by [`crate::fits`].
 ///
-/// Floats are carried as bit patterns; nothing computes with them.
+/// Floats are carried as bit patterns; nothing computes with them. An element that may be null stands in memory of its own, so that a null takes 16 bytes.
 #[derive(Drop)]
 pub enum PvValue {
     /// `boolean`.
@@ -72,11 +72,11 @@ pub enum PvValue {
     /// A variant: a type and a value of it, or none.
     Variant(Option<(PvType, Box<PvValue>)>),
     /// A list of structures, each of which may be null.
-    StructList(Vec<Option<PvValue>>),
+    StructList(Vec<Option<Box<PvValue>>>),
     /// A list of unions, each of which may be null.
-    UnionList(Vec<Option<PvValue>>),
+    UnionList(Vec<Option<Box<PvValue>>>),
     /// A list of variants, each of which may be null.
-    VariantList(Vec<Option<(PvType, PvValue)>>),
+    VariantList(Vec<Option<Box<(PvType, PvValue)>>>),
 }
 
 impl PvValue {

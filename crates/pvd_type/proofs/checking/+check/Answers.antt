@@ -1,4 +1,5 @@
-use Rattle.std.proofs.Common.{◌≡◌, ◌<◌, ◌+◌, length, get_or, take, drop, ◌∙◌, sym, rules}
+use Rattle.std.proofs.Common.{◌≡◌, ◌<◌, ◌+◌, ◌++◌, ◌∷◌, [], ℕ, List, length, get_or, take, drop, subst, ◌∙◌, sym, rules}
+use Rattle.pvd_type.specs.Siblings.{knows}
 use Rattle.std.proofs.lemmas.Result.{err_from_is_err_and}
 use Rattle.pvd_type.specs.View.{shape_view, members_view, names_of}
 use Rattle.pvd_type.proofs.Walks.{bad_below, goes_on, members_from, names_to}
@@ -26,8 +27,10 @@ check_members-loop-i-preserved t c =
     let rest = members_from ms i m within here in
     let names = names_to ms i m within here in
     let step = goes_on c.loop-i.count c.args.level (names_of (take i ms)) m.name (shape_view m.shape) (members_view (drop (i + 1) ms)) c.in_ok-count.count c.in_ok-check_label.ensures.ok c.in_ok-count.ensures.checks in
+    let text : c.as_bytes.result.now ≡ m.name = search rules in
     record {
       few = c.in_ok-count.ensures.few;
+      known = rw names (subst (λ (n : List ℕ). knows c.add-twice.new.self (names_of (take i ms) ++ n ∷ [])) text c.add-twice.ensures.known);
       fault = rw names (sym step.0 ∙ (rw rest at c.loop-i.invariant.fault));
       total = rw names (sym step.1 ∙ (rw rest at c.loop-i.invariant.total));
     }

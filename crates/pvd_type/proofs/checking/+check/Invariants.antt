@@ -1,6 +1,7 @@
 use Rattle.std.proofs.Common.{◌≡◌, ◌+◌, ◌≤◌, length, take, drop, []}
 use Rattle.pvd_type.specs.View.{members_view, names_of}
 use Rattle.pvd_type.specs.Check.{visits, first_fault}
+use Rattle.pvd_type.specs.Siblings.{knows}
 use Rattle.pvd_type.proofs.checking.+check.Given as goal
 
 abbrev pub invariant-check_members-loop-i : goal.invariant-check_members-loop-i
@@ -9,6 +10,7 @@ invariant-check_members-loop-i l =
     let all = visits l.level [] (members_view l.members) in
     record {
       few : l.count ≤ 4096;
+      known : knows l.siblings (names_of (take l.i l.members));
       fault : first_fault l.count rest ≡ first_fault l.seen all;
       total : l.count + length rest ≡ l.seen + length all;
     }

@@ -1,8 +1,9 @@
 use Rattle.std.proofs.Common.{◌≡◌, ◌+◌, length, get_or, drop, ◌∙◌, sym, arith, rules}
 use Rattle.pvd_type.specs.View.{shape_view, members_view}
 use Rattle.pvd_type.specs.Numbers.{numbered, numbered_fields}
+use Rattle.pvd_type.proofs.Shapes.{unentered}
 use Rattle.pvd_type.proofs.Walks.{members_from}
-use Rattle.pvd_type.proofs.At.{at_first, at_past}
+use Rattle.pvd_type.proofs.At.{at_first, at_past, lone_past}
 use Rattle.pvd_type.proofs.Sizes.{measured_first}
 use Rattle.pvd_type.proofs.pv_type.+at.Goals as goal
 
@@ -33,3 +34,6 @@ at_among-loop-member-preserved t c =
       same = rw size (sym past ∙ (rw rest at c.loop-member.invariant.same));
       measured = rw (c.split_size-size.ensures.after, measures.size) measures.after;
     }
+
+pub at-returns-in_default : goal.at-returns-in_default
+at-returns-in_default t c = lone_past (shape_view c.args.shape.now) c.args.number c.if-number-eq0.false (unentered c.args.shape.now c.in_default.not-Struct)

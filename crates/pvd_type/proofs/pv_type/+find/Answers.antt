@@ -4,7 +4,9 @@ use Rattle.pvd_type.specs.View.{shape_view, members_view}
 use Rattle.std.specs.Str.{bytes_eq}
 use Rattle.std.specs.Option.{option_copied}
 use Rattle.pvd_type.specs.Tree.{field}
-use Rattle.pvd_type.specs.Numbers.{number_among, path_after, numbered, numbered_fields}
+use Rattle.pvd_type.specs.Numbers.{number_of, number_among, path_after, numbered, numbered_fields}
+use Rattle.pvd_type.proofs.At.{pathless}
+use Rattle.pvd_type.proofs.Shapes.{unentered}
 use Rattle.pvd_type.proofs.Walks.{members_from}
 use Rattle.pvd_type.proofs.Sizes.{measured_first}
 use Rattle.pvd_type.proofs.pv_type.+find.Goals as goal
@@ -53,3 +55,10 @@ find_among-loop-member-preserved t c =
       measured = rw after measures.after;
       few = omega (arith, size, ap length after, length-drop (length (numbered (shape_view m.shape))) sizes, measures.within, c.loop-member.invariant.few);
     }
+
+pub find-returns-in_default : goal.find-returns-in_default
+find-returns-in_default t c = record {
+  number = sym (ap (λ names. number_of names (shape_view c.args.shape.now)) c.split_path.ensures
+      ∙ pathless (shape_view c.args.shape.now) c.split_path.result.0.now (path_after (option_copied c.split_path.result.1)) (unentered c.args.shape.now c.in_default.not-Struct));
+  within = tt;
+}

@@ -13,4 +13,4 @@ ok_fits (Ok v) t e = ap (λ (d : Data). fits_of 16 d t) e ∙ blank_fits 16 t (o
 ok_fits (Err e) t h = h
 
 pub returns-clause-fits : goal.returns-clause-fits
-returns-clause-fits c = ok_fits c.blank_at.result c.args.ty.now (rw (← c.shape.ensures.tree) c.blank_at.ensures)
+returns-clause-fits c = ok_fits c.blank_shape.result c.args.ty.now (rw (← c.shape.ensures.tree) c.blank_shape.ensures)

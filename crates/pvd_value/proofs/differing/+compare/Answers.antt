@@ -5,8 +5,10 @@ use Rattle.pvd_type.specs.Tree.{Tree, node, struct}
 use Rattle.pvd_type.specs.View.{shape_view, members_view}
 use Rattle.pvd_type.specs.Numbers.{numbered, numbered_fields, nodes, nodes_in}
 use Rattle.pvd_type.specs.declared.shape.Member.{Member}
-use Rattle.pvd_type.specs.declared.shape.Node.{out-Node}
+use Rattle.pvd_type.specs.declared.shape.Node.{Node, out-Node}
 use Rattle.pvd_type.proofs.Counts.{nodes_within}
+use Rattle.pvd_type.proofs.At.{lone}
+use Rattle.pvd_type.proofs.Shapes.{unentered}
 use Rattle.pvd_type.proofs.Walks.{struct_is}
 use Rattle.pvd_value.specs.View.{view, row_view}
 use Rattle.pvd_value.specs.Fits.{fits_of}
@@ -14,21 +16,22 @@ use Rattle.std.proofs.lemmas.List.Sums.{fold-append}
 use Rattle.pvd_value.specs.Leaves.{slots, row_slots}
 use Rattle.pvd_value.specs.Same.{differing}
 use Rattle.pvd_value.proofs.Rows.{row_from, members_from, rows_split, rows_length, rows_over}
-use Rattle.pvd_value.proofs.Slots.{row_of_struct, slots_length, differing-append}
+use Rattle.pvd_value.proofs.Slots.{row_of_struct, slots_length, differing-append, lone_slot}
 use Rattle.pvd_value.proofs.differing.+compare.Goals as goal
 
 pub compare-compare_rows-requires : goal.compare-compare_rows-requires
 compare-compare_rows-requires t c =
-    let n = out-Node c.in-Struct.node in
+    let n = out-Node c.in-Struct.node.value in
+    let listed : c.deref-in-Struct.result.now ≡ n.members.items = c.deref-in-Struct.ensures.value ∙ ap (λ (x : Node). (out-Node x).members.items) c.deref.ensures in
     let fs = members_view n.members.items in
     let is : shape_view c.args.shape.now ≡ node struct n.id fs = ap shape_view c.in-Struct.is ∙ struct_is c.in-Struct.node in
     let a_fits = row_of_struct 16 (view c.args.a.now) n.id fs (ap (fits_of 16 (view c.args.a.now)) (sym is) ∙ c.requires.a) in
     let b_fits = row_of_struct 16 (view c.args.b.now) n.id fs (ap (fits_of 16 (view c.args.b.now)) (sym is) ∙ c.requires.b) in
-    let fewer : 2 * nodes_in (members_view c.deref.result.now) + 1 < 2 * nodes (shape_view c.args.shape.now) =
-    omega (arith, ap nodes is, ap (λ (xs : List Member). nodes_in (members_view xs)) c.deref.ensures.value) in
-    let few : c.args.number + 1 + length (numbered_fields (members_view c.deref.result.now)) ≤ 4096 =
-    omega (arith, c.requires.few, ap (λ (x : Tree). length (numbered x)) is, ap (λ (xs : List Member). length (numbered_fields (members_view xs))) c.deref.ensures.value) in
-    (omega (arith, fewer, c.decreases), (rw (c.members.ensures, c.deref.ensures.value) a_fits, (rw (c.members-in-Struct.ensures, c.deref.ensures.value) b_fits, few)))
+    let fewer : 2 * nodes_in (members_view c.deref-in-Struct.result.now) + 1 < 2 * nodes (shape_view c.args.shape.now) =
+    omega (arith, ap nodes is, ap (λ (xs : List Member). nodes_in (members_view xs)) listed) in
+    let few : c.args.number + 1 + length (numbered_fields (members_view c.deref-in-Struct.result.now)) ≤ 4096 =
+    omega (arith, c.requires.few, ap (λ (x : Tree). length (numbered x)) is, ap (λ (xs : List Member). length (numbered_fields (members_view xs))) listed) in
+    (omega (arith, fewer, c.decreases), (rw (c.members.ensures, listed) a_fits, (rw (c.members-in-Struct.ensures, listed) b_fits, few)))
 
 pub compare_rows-compare-requires : goal.compare_rows-compare-requires
 compare_rows-compare-requires t c =
@@ -107,3 +110,9 @@ compare_rows-loop-i-preserved t c =
       a_fits = fit_a.1;
       b_fits = fit_b.1;
     }
+
+pub compare-returns-in_default : goal.compare-returns-in_default
+compare-returns-in_default t c =
+    let tree = shape_view c.args.shape.now in
+    let is = unentered c.args.shape.now c.in_default.not-Struct in
+    rw (lone_slot tree (view c.args.a.now) is, lone_slot tree (view c.args.b.now) is, lone tree is) (record { leaves = c.compare_leaf.ensures.leaves; next = c.compare_leaf.ensures.next })

@@ -6,7 +6,8 @@ use Rattle.pvd_type.specs.View.{shape_view, members_view}
 use Rattle.pvd_type.specs.Numbers.{numbered, numbered_fields, nodes, nodes_in, IsMeasured}
 use Rattle.pvd_type.specs.declared.shape.Member.{Member}
 use Rattle.pvd_type.proofs.Counts.{nodes_within}
-use Rattle.pvd_type.specs.declared.shape.Node.{out-Node}
+use Rattle.pvd_type.specs.declared.shape.Node.{Node, out-Node}
+use Rattle.pvd_type.proofs.Shapes.{unentered}
 use Rattle.pvd_type.proofs.Walks.{struct_is}
 use Rattle.pvd_type.proofs.At.{at_first, at_past}
 use Rattle.pvd_type.proofs.Sizes.{measured_first, measured_inside}
@@ -14,27 +15,29 @@ use Rattle.pvd_value.specs.View.{view, row_view}
 use Rattle.pvd_value.specs.Fits.{fits_of}
 use Rattle.pvd_value.specs.Leaves.{row_in, known, slots, row_slots, leaf_at}
 use Rattle.pvd_value.proofs.Rows.{row_from, members_from, item, rows_split, rows_length}
-use Rattle.pvd_value.proofs.Slots.{row_of_struct, slots_length, below}
+use Rattle.pvd_value.proofs.Slots.{row_of_struct, slots_length, below, leaf_here, leaf_past}
 use Rattle.pvd_value.proofs.leaves.+leaf.Goals as goal
 
 pub leaf_below-leaf_among-requires : goal.leaf_below-leaf_among-requires
 leaf_below-leaf_among-requires t c =
-    let n = out-Node c.in-Struct.node in
+    let n = out-Node c.in-Struct.node.value in
+    let listed : c.deref-in-Struct.result.now ≡ n.members.items = c.deref-in-Struct.ensures.value ∙ ap (λ (x : Node). (out-Node x).members.items) c.deref.ensures in
     let fs = members_view n.members.items in
     let is : shape_view c.args.shape.now ≡ node struct n.id fs = ap shape_view c.in-Struct.is ∙ struct_is c.in-Struct.node in
     let fits = row_of_struct 16 (view c.args.value.now) n.id fs (ap (fits_of 16 (view c.args.value.now)) (sym is) ∙ c.requires.fits) in
     let inside = measured_inside c.args.sizes.now n.id fs (subst (λ (x : Tree). IsMeasured c.args.sizes.now (numbered x)) is c.requires.sizes) in
-    let fewer : 2 * nodes_in (members_view c.deref.result.now) + 1 < 2 * nodes (shape_view c.args.shape.now) =
-    omega (arith, ap nodes is, ap (λ (xs : List Member). nodes_in (members_view xs)) c.deref.ensures.value) in
-    (omega (arith, fewer, c.decreases), (rw (c.members.ensures, c.deref.ensures.value) fits, rw (c.deref.ensures.value, take_rest c.args.sizes.now 1) inside))
+    let fewer : 2 * nodes_in (members_view c.deref-in-Struct.result.now) + 1 < 2 * nodes (shape_view c.args.shape.now) =
+    omega (arith, ap nodes is, ap (λ (xs : List Member). nodes_in (members_view xs)) listed) in
+    (omega (arith, fewer, c.decreases), (rw (c.members.ensures, listed) fits, rw (listed, take_rest c.args.sizes.now 1) inside))
 
 pub leaf_below-returns-in-Struct : goal.leaf_below-returns-in-Struct
 leaf_below-returns-in-Struct t c =
-    let n = out-Node c.in-Struct.node in
+    let n = out-Node c.in-Struct.node.value in
+    let listed : c.deref-in-Struct.result.now ≡ n.members.items = c.deref-in-Struct.ensures.value ∙ ap (λ (x : Node). (out-Node x).members.items) c.deref.ensures in
     let fs = members_view n.members.items in
     let is : shape_view c.args.shape.now ≡ node struct n.id fs = ap shape_view c.in-Struct.is ∙ struct_is c.in-Struct.node in
     let value = view c.args.value.now in
-    c.leaf_among.ensures ∙ (λ i. known (slice_get (row_slots (members_view (c.deref.ensures.value i)) (c.members.ensures i)) (c.args.number - 1)))
+    c.leaf_among.ensures ∙ (λ i. known (slice_get (row_slots (members_view (listed i)) (c.members.ensures i)) (c.args.number - 1)))
     ∙ below c.args.number (row_slots fs (row_in value)) c.if-number-gt0.true
     ∙ ap (λ (x : Tree). leaf_at c.args.number x value) (sym is)
 
@@ -112,3 +115,11 @@ leaf_among-loop-i-preserved t c =
       measured = rw (c.split_size-size.ensures.after, measures.size) measures.after;
       fits = fit.1;
     }
+
+pub leaf_below-returns-in_default : goal.leaf_below-returns-in_default
+leaf_below-returns-in_default t c =
+    leaf_here (shape_view c.args.shape.now) (view c.args.value.now) c.args.number c.if-number-eq0.true (unentered c.args.shape.now c.in_default.not-Struct)
+
+pub leaf_below-returns-in_default-2 : goal.leaf_below-returns-in_default-2
+leaf_below-returns-in_default-2 t c =
+    leaf_past (shape_view c.args.shape.now) (view c.args.value.now) c.args.number c.if-number-eq0.false (unentered c.args.shape.now c.in_default.not-Struct)

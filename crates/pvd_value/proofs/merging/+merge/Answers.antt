@@ -5,29 +5,32 @@ use Rattle.pvd_type.specs.Tree.{Tree, node, struct}
 use Rattle.pvd_type.specs.View.{shape_view, members_view}
 use Rattle.pvd_type.specs.Numbers.{numbered, numbered_fields, nodes, nodes_in}
 use Rattle.pvd_type.specs.declared.shape.Member.{Member}
-use Rattle.pvd_type.specs.declared.shape.Node.{out-Node}
+use Rattle.pvd_type.specs.declared.shape.Node.{Node, out-Node}
 use Rattle.pvd_type.proofs.Counts.{nodes_within}
+use Rattle.pvd_type.proofs.At.{lone}
+use Rattle.pvd_type.proofs.Shapes.{unentered}
 use Rattle.pvd_type.proofs.Walks.{struct_is}
 use Rattle.pvd_value.specs.Data.{Data, more, end}
 use Rattle.pvd_value.specs.View.{view, row_view}
 use Rattle.pvd_value.specs.Fits.{fits_of}
 use Rattle.pvd_value.specs.Merge.{merged, merged_row}
 use Rattle.pvd_value.proofs.Rows.{row_from, members_from, rows_split, rows_length, rows_over, joined, joined_push, joined_end}
-use Rattle.pvd_value.proofs.Slots.{row_of_struct}
+use Rattle.pvd_value.proofs.Slots.{row_of_struct, lone_merged}
 use Rattle.pvd_value.proofs.merging.+merge.Goals as goal
 
 pub merged-merged_row-requires : goal.merged-merged_row-requires
 merged-merged_row-requires t c =
-    let n = out-Node c.in-Struct.node in
+    let n = out-Node c.in-Struct.node.value in
+    let listed : c.deref-in-Struct.result.now ≡ n.members.items = c.deref-in-Struct.ensures.value ∙ ap (λ (x : Node). (out-Node x).members.items) c.deref.ensures in
     let fs = members_view n.members.items in
     let is : shape_view c.args.shape.now ≡ node struct n.id fs = ap shape_view c.in-Struct.is ∙ struct_is c.in-Struct.node in
     let into_fits = row_of_struct 16 (view c.args.into.now) n.id fs (ap (fits_of 16 (view c.args.into.now)) (sym is) ∙ c.requires.into) in
     let from_fits = row_of_struct 16 (view c.args.from.now) n.id fs (ap (fits_of 16 (view c.args.from.now)) (sym is) ∙ c.requires.from) in
-    let fewer : 2 * nodes_in (members_view c.deref.result.now) + 1 < 2 * nodes (shape_view c.args.shape.now) =
-    omega (arith, ap nodes is, ap (λ (xs : List Member). nodes_in (members_view xs)) c.deref.ensures.value) in
-    let few : c.args.number + 1 + length (numbered_fields (members_view c.deref.result.now)) ≤ 4096 =
-    omega (arith, c.requires.few, ap (λ (x : Tree). length (numbered x)) is, ap (λ (xs : List Member). length (numbered_fields (members_view xs))) c.deref.ensures.value) in
-    (omega (arith, fewer, c.decreases), (rw (c.members-old.ensures, c.deref.ensures.value) into_fits, (rw (c.members-new.ensures, c.deref.ensures.value) from_fits, few)))
+    let fewer : 2 * nodes_in (members_view c.deref-in-Struct.result.now) + 1 < 2 * nodes (shape_view c.args.shape.now) =
+    omega (arith, ap nodes is, ap (λ (xs : List Member). nodes_in (members_view xs)) listed) in
+    let few : c.args.number + 1 + length (numbered_fields (members_view c.deref-in-Struct.result.now)) ≤ 4096 =
+    omega (arith, c.requires.few, ap (λ (x : Tree). length (numbered x)) is, ap (λ (xs : List Member). length (numbered_fields (members_view xs))) listed) in
+    (omega (arith, fewer, c.decreases), (rw (c.members-old.ensures, listed) into_fits, (rw (c.members-new.ensures, listed) from_fits, few)))
 
 pub merged_row-merged-requires : goal.merged_row-merged-requires
 merged_row-merged-requires t c =
@@ -102,4 +105,14 @@ merged_row-loop-i-preserved t c =
       total = omega (arith, next, rw rest_m at c.loop-i.invariant.total, length-append (numbered (shape_view m.shape)) left);
       old_fits = fit_old.1;
       new_fits = fit_new.1;
+    }
+
+pub merged-returns-in_ok-merged_leaf-in_default : goal.merged-returns-in_ok-merged_leaf-in_default
+merged-returns-in_ok-merged_leaf-in_default t c =
+    let tree = shape_view c.args.shape.now in
+    let is = unentered c.args.shape.now c.in_default.not-Struct in
+    let mask : ℕ → Bool = set.contains c.args.mask.now in
+    record {
+      value = c.in_ok-merged_leaf-in_default.ensures ∙ sym (lone_merged mask c.args.number tree (view c.args.into.now) (view c.args.from.now) is);
+      next = ap (λ n. c.args.number + n) (sym (ap length (lone tree is)));
     }
