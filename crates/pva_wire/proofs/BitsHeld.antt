@@ -1,5 +1,5 @@
 -- Bits in bytes.
-use Rattle.std.proofs.Common.{◌≡◌, ℕ, zero, suc, ◌+◌, ◌-◌, ◌*◌, ◌/◌, ◌%◌, ◌^◌, ◌<◌, ◌≤◌, Bool, true, false, not, cond, ◌&&◌, ◌||◌, ◌⊎◌, ltb, eqb, List, [], ◌∷◌, length, get_or, drop, nat_cmp, refl, sym, ap, ◌∙◌, arith, inl, inr}
+use Rattle.std.proofs.Common.{◌≡◌, ℕ, zero, suc, ◌+◌, ◌-◌, ◌*◌, ◌/◌, ◌%◌, ◌^◌, ◌<◌, ◌≤◌, Bool, true, false, not, cond, ◌&&◌, ◌||◌, ◌⊎◌, ltb, eqb, List, [], ◌∷◌, length, get_or, drop, nat_cmp, eq-eqb, refl, sym, ap, ◌∙◌, arith, inl, inr}
 use Rattle.std.proofs.lemmas.Bool.{cases_lt, lt-ltb, le-ltb, true≢false}
 use Rattle.std.proofs.lemmas.List.{get_or_past, get_or-drop, drop_all}
 use Rattle.std.proofs.lemmas.Nat.Bits.{bit_at-zero, bit_at-lt, bit_at_above, same_from_bits_below, bit_at_cat_low, bit_at_cat_high}
@@ -11,7 +11,7 @@ use Rattle.std.specs.FinSet.{FinSet}
 use Rattle.pva_wire.specs.declared.order.Order.{Order}
 use Rattle.pva_wire.specs.declared.order.Order.TheVariants.{Little, Big}
 use Rattle.pva_wire.specs.Spelling.{IsBytes}
-use Rattle.pva_wire.specs.Bits.{place, byte_bit, low_bits, byte_of, covering, width, is_high, bits_of, marked}
+use Rattle.pva_wire.specs.Bits.{place, byte_bit, low_bits, byte_of, covering, width, is_high, bits_of}
 use Rattle.pvd_type.specs.Sets.{bit}
 use Rattle.pvd_type.proofs.Sets.{same, in_set_of, bit_of_none, no_bit, differs}
 
@@ -106,16 +106,16 @@ or_false true = refl
 or_false false = refl
 
 pub one_byte : (o : Order) (body : List ℕ) (p q : ℕ)
-    → ((ltb q (8 * p) && byte_bit o body q) || marked (p * 8) (get_or body (place o (length body) p) 0) 8 q) ≡ (ltb q (8 * (p + 1)) && byte_bit o body q)
+    → ((ltb q (8 * p) && byte_bit o body q) || (eqb (q / 8) p && bit (get_or body (place o (length body) p) 0) (q % 8))) ≡ (ltb q (8 * (p + 1)) && byte_bit o body q)
 one_byte o body p q =
     elim (cases_lt q (8 * p)) [
-      | inl lt ↦ rw (lt-ltb q (8 * p) lt, lt-ltb q (p * 8) (omega arith), lt-ltb q (8 * (p + 1)) (omega arith)) (or_false (byte_bit o body q))
+      | inl lt ↦ rw (lt-ltb q (8 * p) lt, differs (q / 8) p (λ e. omega (arith, e)), lt-ltb q (8 * (p + 1)) (omega arith)) (or_false (byte_bit o body q))
       | inr le ↦ elim (cases_lt q (8 * (p + 1))) [
         | inl lt ↦
             let a : q / 8 ≡ p = omega arith in
-            let b : q - p * 8 ≡ q % 8 = omega arith in
-            rw (le-ltb q (8 * p) le, le-ltb q (p * 8) (omega arith), lt-ltb q (p * 8 + 8) (omega arith), lt-ltb q (8 * (p + 1)) lt, a, b) refl
-        | inr far ↦ rw (le-ltb q (8 * p) le, le-ltb q (p * 8) (omega arith), le-ltb q (p * 8 + 8) (omega arith), le-ltb q (8 * (p + 1)) far) refl
+            let b : eqb p p ≡ true = eq-eqb p p refl in
+            rw (le-ltb q (8 * p) le, lt-ltb q (8 * (p + 1)) lt, a, b) refl
+        | inr far ↦ rw (le-ltb q (8 * p) le, differs (q / 8) p (λ e. omega (arith, e)), le-ltb q (8 * (p + 1)) far) refl
       ]
     ]
 

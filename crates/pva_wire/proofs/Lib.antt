@@ -3,7 +3,6 @@ pub mod Digits
 pub mod Sizes
 pub mod Texts
 pub mod OneReading
-pub mod Marks
 pub mod BitsHeld
 pub mod BitsRead
 pub mod Statuses

@@ -1,5 +1,5 @@
 -- No spelling begins another.
-use Rattle.std.proofs.Common.{◌≡◌, ℕ, ◌<◌, ◌^◌, ◌-◌, Bool, true, false, cond, ltb, List, ◌++◌, ◌∷◌, [], Option, Some, refl, sym, ap, ◌∙◌, inl, inr, length}
+use Rattle.std.proofs.Common.{◌≡◌, ℕ, ◌<◌, ◌^◌, ◌-◌, Bool, true, false, cond, ltb, List, ◌∷◌, [], Some, refl, sym, ap, ◌∙◌, inl, inr, length}
 use Rattle.std.specs.Str.{IsUtf8}
 use Rattle.std.proofs.lemmas.Bool.{ltb-true}
 use Rattle.pva_wire.specs.declared.order.Order.{Order}
@@ -7,8 +7,6 @@ use Rattle.pva_wire.specs.Spelling.{word, SpellsSize, SpellsText, canonical_size
 use Rattle.pva_wire.specs.Reading.{Read}
 use Rattle.pva_wire.specs.Laws.{OneReading, SpelledIsRead}
 use Rattle.pva_wire.proofs.Takes.{ok_is}
-use Rattle.pva_wire.proofs.Sizes.{size_again}
-use Rattle.pva_wire.proofs.Texts.{text_again}
 
 -- what is read as it is spelled has one reading
 pub one_from : {A : Type 0} (Spells : List ℕ → A → Type 0) (read : List ℕ → Read A) → SpelledIsRead Spells read → OneReading Spells

@@ -1,14 +1,13 @@
 -- A status is read as it is spelled, and what is read is spelled so.
-use Rattle.std.proofs.Common.{◌≡◌, ℕ, suc, ◌+◌, ◌<◌, Bool, true, false, cond, eqb, List, [], ◌∷◌, ◌++◌, length, Option, Some, None, Result, Ok, Err, refl, sym, ap, subst, ◌∙◌, append_assoc, inl, inr, ◌⊎◌}
+use Rattle.std.proofs.Common.{◌≡◌, ℕ, suc, true, false, cond, eqb, List, [], ◌∷◌, ◌++◌, length, Option, Some, None, Ok, refl, sym, ap, subst, ◌∙◌, append_assoc, inl, inr, ◌⊎◌}
 use Rattle.std.proofs.lemmas.Bool.{eqb-true}
 use Rattle.pva_wire.specs.declared.order.Order.{Order}
-use Rattle.pva_wire.specs.declared.fault.Cause.TheVariants.{Range}
 use Rattle.pva_wire.specs.declared.status.Status.{Status}
 use Rattle.pva_wire.specs.declared.status.StatusKind.{StatusKind}
 use Rattle.pva_wire.specs.declared.status.StatusKind.TheVariants.{Good, Warning, Error, Fatal}
 use Rattle.pva_wire.specs.Spelling.{IsBytes, IsText, SpellsText, canonical_text}
-use Rattle.pva_wire.specs.Reading.{Read, ◌>>=◌, text_at}
-use Rattle.pva_wire.specs.Status.{good, kind_code, SpellsParts, SpellsStatus, is_empty_good, is_plain, spelled_out, canonical_status, kind_of, parts_at, status_at}
+use Rattle.pva_wire.specs.Reading.{◌>>=◌, text_at}
+use Rattle.pva_wire.specs.Status.{good, kind_code, SpellsStatus, is_empty_good, canonical_status, kind_of, parts_at, status_at}
 use Rattle.pva_wire.proofs.Takes.{Takes, IsBytes-rest, chosen, ok_is, bind_ok}
 use Rattle.pva_wire.proofs.Texts.{text_again, text_takes}
 use Rattle.pva_wire.proofs.OneReading.{canonical_text_spells}

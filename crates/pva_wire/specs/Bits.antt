@@ -1,5 +1,5 @@
 -- Bit sets as bytes.
-use Rattle.std.specs.Prelude.{◌≡◌, ℕ, zero, suc, ◌+◌, ◌-◌, ◌*◌, ◌/◌, ◌%◌, ◌^◌, ◌≤◌, Bool, false, ◌&&◌, ◌==◌, not, nat_lt, List, ◌++◌, length, get_or, take, drop, map, Option, Some, None, Ok, Err, if◌then◌else◌}
+use Rattle.std.specs.Prelude.{◌≡◌, ℕ, zero, suc, ◌+◌, ◌-◌, ◌*◌, ◌/◌, ◌%◌, ◌^◌, ◌≤◌, Bool, false, ◌==◌, not, nat_lt, List, ◌++◌, length, get_or, take, drop, map, Option, Some, None, Ok, Err, if◌then◌else◌}
 use Rattle.std.specs.List.{list_any, range_with_len}
 use Rattle.std.specs.Ordering.{nat_cmp}
 use Rattle.std.specs.FinSet.{FinSet, contains}
@@ -67,7 +67,3 @@ unfoldable pub bits_at : Order → List ℕ → Read (FinSet nat_cmp)
 bits_at order bytes = do
   size ← size_at order bytes
   bits_of_size order (length bytes) size.0 size.1
-
--- whether q is one of the first n numbers from base on whose bits are set
-abbrev pub marked : ℕ → ℕ → ℕ → ℕ → Bool
-marked base byte n q = (not (nat_lt q base) && nat_lt q (base + n)) && bit byte (q - base)

@@ -5,7 +5,7 @@ use Rattle.pva_wire.specs.declared.fault.Cause.TheVariants.{Short, Range}
 use Rattle.pva_wire.specs.declared.status.Status.{Status}
 use Rattle.pva_wire.specs.declared.status.StatusKind.{StatusKind}
 use Rattle.pva_wire.specs.declared.status.StatusKind.TheVariants.{Good, Warning, Error, Fatal}
-use Rattle.pva_wire.specs.Spelling.{SpellsText, canonical_text}
+use Rattle.pva_wire.specs.Spelling.{SpellsText, canonical_text, IsText}
 use Rattle.pva_wire.specs.Reading.{Read, ◌>>=◌, text_at}
 
 -- OK without texts
@@ -44,6 +44,10 @@ spelled_out order s = kind_code s.kind ∷ (canonical_text order s.message ++ ca
 -- the one spelling that is written
 abbrev pub canonical_status : Order → Status → List ℕ
 canonical_status order s = if is_plain s then 255 ∷ [] else spelled_out order s
+
+-- a status whose texts have spellings
+abbrev pub CanStatus : Status → Type 0
+CanStatus s = IsText s.message × IsText s.tree
 
 -- the kind that a first byte stands for
 unfoldable pub kind_of : ℕ → Option StatusKind

@@ -1,8 +1,7 @@
-ghost use Rattle.std.specs.Prelude.{◌≡◌, ◌||◌, ◌+◌, ◌*◌, ◌≤◌, ◌<◌, ◌++◌, ℕ, false, not, ◌==◌, length, map, IfOk, OnOk, OnErr};
+ghost use Rattle.std.specs.Prelude.{◌≡◌, ◌||◌, ◌+◌, ◌*◌, ◌≤◌, ◌<◌, ◌++◌, ℕ, List, false, not, ◌==◌, length, map, IfOk, OnOk, OnErr};
 ghost use Rattle.std.specs.List.{range_with_len, list_any};
-ghost use Rattle.std.specs.FinSet as set;
 ghost use Rattle.pva_wire.specs.Reading.{Gives, TakesLast};
-ghost use Rattle.pva_wire.specs.Bits.{marked, place, byte_bit, byte_of, width, canonical_bits, is_high, bits_of, bits_at};
+ghost use Rattle.pva_wire.specs.Bits.{place, byte_of, width, canonical_bits, AllLow, is_high, bits_of, bits_at};
 
 use crate::fault::{Cause, Stop};
 use crate::order::Order;
@@ -23,21 +22,7 @@ fn byte_place(order: Order, count: usize, at: usize) -> usize
     }
 }
 
-/// Adds the numbers of a byte, from `base` on.
-fn add_byte(bits: &mut BitSet, base: u32, byte: u8) -> Result<(), NoMemory>
-    requires { base + 8 ≤ 65536 }
-    ensures { OnOk result ((q : ℕ) → set.contains bits.new q ≡ (set.contains bits.old q || marked base byte 8 q)) }
-{
-    let mut left = byte;
-    for k in 0..8 {
-        if left % 2 == 1 {
-            bits.insert(base + k)?;
-        }
-        left /= 2;
-    }
-    Ok(())
-}
-
+/// Whether a byte isn't zero.
 fn any_full(bytes: &[u8]) -> bool
     ensures { result ≡ list_any (λ b. not (b == 0)) bytes.now }
 {
@@ -65,7 +50,7 @@ fn set_of(alloc: Global, order: Order, body: &[u8]) -> Result<BitSet, NoMemory>
     let count = if body.len() < 8192 { body.len() } else { 8192 };
     for p in 0..count {
         let byte = body[byte_place(order, body.len(), p)];
-        add_byte(&mut bits, p as u32 * 8, byte)?;
+        bits.insert_byte(p as u32, byte)?;
     }
     Ok(bits)
 }
@@ -101,6 +86,7 @@ fn byte(bits: &BitSet, place: u32) -> u8
 fn width(bits: &BitSet) -> u32
     ensures width { result ≡ width bits.now }
     ensures few { result ≤ 8192 }
+    ensures low { AllLow bits.now }
 {
     let mut count = bits.bound();
     while count > 0 && byte(bits, count - 1) == 0 {
@@ -109,27 +95,29 @@ fn width(bits: &BitSet) -> u32
     count
 }
 
-fn body_of(alloc: Global, order: Order, count: u32, bits: &BitSet) -> Result<Vec<u8>, NoMemory>
-    ensures { IfOk result (λ v. v.items ≡ map (λ j. byte_of bits.now (place order count j)) (range_with_len 0 count)) }
+/// Appends so many bytes of a set, or a part of them.
+fn put_body(out: &mut Vec<u8>, order: Order, count: u32, bits: &BitSet) -> Result<(), NoMemory>
+    ensures ok { OnOk result (out.new.items ≡ out.old.items ++ map (λ j. byte_of bits.now (place order count j)) (range_with_len 0 count)) }
+    ensures err { OnErr result ((part : List ℕ) × (out.new.items ≡ out.old.items ++ part)) }
 {
-    let mut body = Vec::new(alloc);
     for j in 0..count {
         let place = byte_place(order, count as usize, j as usize);
-        body.push(byte(bits, place as u32))?;
+        out.push(byte(bits, place as u32))?;
     }
-    Ok(body)
+    Ok(())
 }
 
-/// Appends the one spelling of a set of bits.
+/// Appends the one spelling of a set of bits that is written (pvAccess Protocol Specification,
+/// "BitSets"). Without memory `out` is as before.
 pub fn write_bits(out: &mut Vec<u8>, order: Order, bits: &BitSet) -> Result<(), NoMemory>
     ensures ok { OnOk result (out.new.items ≡ out.old.items ++ canonical_bits order bits.now) }
+    ensures spelled { AllLow bits.now }
     ensures err { OnErr result (out.new.items ≡ out.old.items) }
 {
     let count = width(bits);
-    let body = body_of(*out.allocator(), order, count, bits)?;
     let start = out.len();
     write_size(out, order, count)?;
-    if let Err(_) = out.extend_from_slice(&body) {
+    if let Err(_) = put_body(out, order, count, bits) {
         out.truncate(start);
         return Err(NoMemory);
     }

@@ -2,9 +2,9 @@ ghost use Rattle.std.specs.Prelude.{◌≡◌, ◌-◌, length};
 ghost use Rattle.pva_wire.specs.Reading.{number_at, size_at, count_at, text_at};
 ghost use Rattle.pva_wire.specs.Bits.{bits_at};
 ghost use Rattle.pva_wire.specs.Status.{status_at};
-ghost use Rattle.pva_wire.specs.Faults.{GivesAt, NeedsNone, NeedsLast, fault_of};
+ghost use Rattle.pva_wire.specs.Faults.{GivesAt, NeedsNone, NeedsLast};
 
-use crate::fault::{Cause, Stop, WireFault};
+use crate::fault::WireFault;
 use crate::order::Order;
 use crate::status::Status;
 use crate::{bits, number, reading, status};
@@ -47,6 +47,13 @@ impl<'a> Cursor<'a> {
         self.order
     }
 
+    /// How many bytes there were at its start.
+    pub fn length(&self) -> usize
+        ensures { result ≡ self.now.end }
+    {
+        self.end
+    }
+
     /// The bytes that are left.
     pub fn rest(&self) -> &'a [u8]
         ensures { result.now ≡ self.now.rest }
@@ -85,7 +92,7 @@ impl<'a> Cursor<'a> {
                 self.rest = rest;
                 Ok(number)
             }
-            Err(stop) => Err(placed(self.end, stop)),
+            Err(stop) => Err(stop.placed(self.end)),
         }
     }
 
@@ -99,7 +106,7 @@ impl<'a> Cursor<'a> {
                 self.rest = rest;
                 Ok(number)
             }
-            Err(stop) => Err(placed(self.end, stop)),
+            Err(stop) => Err(stop.placed(self.end)),
         }
     }
 
@@ -113,7 +120,7 @@ impl<'a> Cursor<'a> {
                 self.rest = rest;
                 Ok(number)
             }
-            Err(stop) => Err(placed(self.end, stop)),
+            Err(stop) => Err(stop.placed(self.end)),
         }
     }
 
@@ -127,21 +134,8 @@ impl<'a> Cursor<'a> {
                 self.rest = rest;
                 Ok(number)
             }
-            Err(stop) => Err(placed(self.end, stop)),
+            Err(stop) => Err(stop.placed(self.end)),
         }
-    }
-}
-
-/// The fault of a reader over slices, at its place.
-fn placed(end: usize, stop: Stop) -> WireFault
-    ensures { result ≡ fault_of end stop }
-{
-    match stop {
-        Stop::Memory => WireFault::NoMemory,
-        Stop::Fault(Cause::Short, left) => WireFault::Short(end.saturating_sub(left)),
-        Stop::Fault(Cause::Range, left) => WireFault::Range(end.saturating_sub(left)),
-        Stop::Fault(Cause::NotUtf8, left) => WireFault::NotUtf8(end.saturating_sub(left)),
-        Stop::Fault(Cause::NullSize, left) => WireFault::NullSize(end.saturating_sub(left)),
     }
 }
 
@@ -156,7 +150,7 @@ pub fn read_size(from: &mut Cursor) -> Result<Option<u32>, WireFault>
             from.rest = rest;
             Ok(size)
         }
-        Err(stop) => Err(placed(from.end, stop)),
+        Err(stop) => Err(stop.placed(from.end)),
     }
 }
 
@@ -170,7 +164,7 @@ pub fn read_count(from: &mut Cursor) -> Result<u32, WireFault>
             from.rest = rest;
             Ok(count)
         }
-        Err(stop) => Err(placed(from.end, stop)),
+        Err(stop) => Err(stop.placed(from.end)),
     }
 }
 
@@ -186,7 +180,7 @@ pub fn read_text(alloc: Global, from: &mut Cursor) -> Result<Name, WireFault>
             from.rest = rest;
             Ok(text)
         }
-        Err(stop) => Err(placed(from.end, stop)),
+        Err(stop) => Err(stop.placed(from.end)),
     }
 }
 
@@ -202,7 +196,7 @@ pub fn read_bits(alloc: Global, from: &mut Cursor) -> Result<BitSet, WireFault>
             from.rest = rest;
             Ok(bits)
         }
-        Err(stop) => Err(placed(from.end, stop)),
+        Err(stop) => Err(stop.placed(from.end)),
     }
 }
 
@@ -216,6 +210,6 @@ pub fn read_status(alloc: Global, from: &mut Cursor) -> Result<Status, WireFault
             from.rest = rest;
             Ok(status)
         }
-        Err(stop) => Err(placed(from.end, stop)),
+        Err(stop) => Err(stop.placed(from.end)),
     }
 }

@@ -16,12 +16,45 @@ pub enum Cause {
     NullSize,
 }
 
+impl Cause {
+    ghost use Rattle.std.specs.Prelude.{◌≡◌};
+    ghost use Rattle.pva_wire.specs.Faults.{fault_at};
+
+    /// The fault of an item at this place.
+    pub fn at(self, place: usize) -> WireFault
+        ensures { result ≡ fault_at self place }
+    {
+        match self {
+            Cause::Short => WireFault::Short(place),
+            Cause::Range => WireFault::Range(place),
+            Cause::NotUtf8 => WireFault::NotUtf8(place),
+            Cause::NullSize => WireFault::NullSize(place),
+        }
+    }
+}
+
 /// Why a reader over a slice stopped: at a fault, with the number of bytes that are left from the
 /// faulty item on, or for want of memory.
 #[derive(Debug, Drop)]
 pub enum Stop {
     Memory,
     Fault(Cause, usize),
+}
+
+impl Stop {
+    ghost use Rattle.std.specs.Prelude.{◌≡◌};
+    ghost use Rattle.pva_wire.specs.Faults.{fault_of};
+
+    /// The fault of a reader over the last bytes of a payload, at its place in the payload, which has
+    /// `length` bytes.
+    pub fn placed(self, length: usize) -> WireFault
+        ensures { result ≡ fault_of length self }
+    {
+        match self {
+            Stop::Memory => WireFault::NoMemory,
+            Stop::Fault(cause, left) => cause.at(length.saturating_sub(left)),
+        }
+    }
 }
 
 impl From<NoMemory> for Stop {

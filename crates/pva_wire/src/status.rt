@@ -1,6 +1,6 @@
 ghost use Rattle.std.specs.Prelude.{◌≡◌, ◌++◌, IfOk, OnOk, OnErr};
 ghost use Rattle.pva_wire.specs.Reading.{Gives};
-ghost use Rattle.pva_wire.specs.Status.{good, kind_of, kind_code, is_plain, spelled_out, canonical_status, status_at};
+ghost use Rattle.pva_wire.specs.Status.{good, kind_of, kind_code, is_plain, spelled_out, canonical_status, CanStatus, status_at};
 
 use crate::fault::{Cause, Stop};
 use crate::order::Order;
@@ -101,7 +101,8 @@ pub fn status_at(alloc: Global, order: Order, bytes: &[u8]) -> Result<(Status, &
 
 /// Appends the first byte of a kind and the two texts, or a part of them.
 fn put_parts(out: &mut Vec<u8>, order: Order, status: &Status) -> Result<(), NoMemory>
-    ensures { OnOk result (out.new.items ≡ out.old.items ++ spelled_out order status.now) }
+    ensures written { OnOk result (out.new.items ≡ out.old.items ++ spelled_out order status.now) }
+    ensures spelled { OnOk result (CanStatus status.now) }
 {
     out.push(kind_code(status.kind))?;
     write_text(out, order, &status.message)?;
@@ -125,6 +126,7 @@ fn is_plain(status: &Status) -> bool
 /// `out` is as before.
 pub fn write_status(out: &mut Vec<u8>, order: Order, status: &Status) -> Result<(), NoMemory>
     ensures ok { OnOk result (out.new.items ≡ out.old.items ++ canonical_status order status.now) }
+    ensures spelled { OnOk result (CanStatus status.now) }
     ensures err { OnErr result (out.new.items ≡ out.old.items) }
 {
     if is_plain(status) {

@@ -1,5 +1,6 @@
 -- Elements of a list and members of a structure, one by one, and what is left at the end.
 use Rattle.std.proofs.Common.{◌≡◌, ◌∙◌, ℕ, zero, suc, ◌≤◌, min, List, [], ◌∷◌, ◌++◌, length, drop, Option, Some, None, Result, Ok, Err, OnErr, refl, sym, ap, append_assoc, append-nil, arith, rules}
+use Rattle.std.specs.Global.{Box}
 use Rattle.pva_wire.specs.declared.order.Order.{Order}
 use Rattle.pvd_type.specs.declared.shape.Scalar.{Scalar}
 use Rattle.pvd_type.specs.declared.shape.Member.{Member}
@@ -17,12 +18,12 @@ pub on_err : {A E : Type 0} {P : Type 0} (r : Result A E) → P → OnErr r P
 on_err (Ok x) p = tt
 on_err (Err e) p = p
 
-pub optional_count : (vs : List (Option PvValue)) → row_length (optional_view vs) ≡ length vs
+pub optional_count : (vs : List (Option (Box PvValue))) → row_length (optional_view vs) ≡ length vs
 optional_count [] = refl
 optional_count (None ∷ vs) = omega (arith, optional_count vs)
 optional_count (Some v ∷ vs) = omega (arith, optional_count vs)
 
-pub carried_count : (vs : List (Option (Tree × PvValue))) → row_length (carried_view vs) ≡ length vs
+pub carried_count : (vs : List (Option (Box (Tree × PvValue)))) → row_length (carried_view vs) ≡ length vs
 carried_count [] = refl
 carried_count (None ∷ vs) = omega (arith, carried_count vs)
 carried_count (Some v ∷ vs) = omega (arith, carried_count vs)

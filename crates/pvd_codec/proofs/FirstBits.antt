@@ -1,15 +1,15 @@
 -- The first number that is marked.
-use Rattle.std.proofs.Common.{◌≡◌, ℕ, zero, suc, ◌+◌, ◌-◌, ◌*◌, ◌<◌, ◌≤◌, Bool, true, false, cond, ltb, List, length, take, drop, Option, Some, None, Ok, Err, refl, sym, ap, ◌∙◌, arith, inl, inr, nat_cmp, subst}
+use Rattle.std.proofs.Common.{◌≡◌, ℕ, zero, suc, ◌+◌, ◌-◌, ◌*◌, ◌/◌, ◌%◌, get_or, ◌<◌, ◌≤◌, Bool, true, false, cond, ltb, List, length, take, drop, Option, Some, None, Ok, Err, refl, sym, ap, ◌∙◌, arith, inl, inr, nat_cmp, subst}
 use Rattle.std.proofs.lemmas.Bool.{cases_lt, ltb-false, le-ltb}
 use Rattle.std.proofs.lemmas.List.{length-take}
 use Rattle.std.specs.FinSet.{FinSet, contains}
 use Rattle.pva_wire.specs.declared.order.Order.{Order}
 use Rattle.pva_wire.specs.declared.fault.Cause.TheVariants.{Short, Range}
 use Rattle.pva_wire.specs.Reading.{size_at, count_of_size, count_at, counted_at}
-use Rattle.pva_wire.specs.Bits.{byte_bit, is_high, bits_of, bits_of_size, bits_at}
+use Rattle.pva_wire.specs.Bits.{place, byte_bit, is_high, bits_of, bits_of_size, bits_at}
 use Rattle.pva_wire.proofs.Takes.{chosen, ok_is, bind_ok}
 use Rattle.pva_wire.proofs.BitsHeld.{whole}
-use Rattle.pvd_type.proofs.Sets.{in_set_of}
+use Rattle.pvd_type.proofs.Sets.{in_set_of, bit_of_none}
 use Rattle.pvd_codec.specs.Reading.{first_marked}
 
 module _ (p : ℕ → Bool) where
@@ -25,6 +25,15 @@ module _ (p : ℕ → Bool) where
   pub marked_over : (n e : ℕ) → e ≤ n → first_marked p n (e - n) ≡ None
   unfolding first_marked
   marked_over n e le = let k : e - n ≡ 0 = omega arith in rw k refl
+
+  -- numbers that aren't marked are passed over at once
+  pub marked_past : (d n e : ℕ) → n + d ≤ e → ((q : ℕ) → n ≤ q → q < n + d → p q ≡ false) → first_marked p n (e - n) ≡ first_marked p (n + d) (e - (n + d))
+  marked_past zero n e le none = let same : n + 0 ≡ n = omega arith in rw same refl
+  marked_past (suc d) n e le none =
+      let same : n + 1 + d ≡ n + suc d = omega arith in
+      marked_later n e (omega arith) (none n (omega arith) (omega arith))
+      ∙ marked_past d (n + 1) e (omega arith) (λ q above below. none q (omega arith) (omega arith))
+      ∙ ap (λ m. first_marked p m (e - m)) same
 
   first_is : (b : Bool) (n : ℕ) (r : Option ℕ) → cond b (Some n) r ≡ None → (b ≡ false) × (r ≡ None)
   first_is true n r h = absurd cc
@@ -44,6 +53,10 @@ module _ (p : ℕ → Bool) where
   unfolding first_marked
   unmarked n zero h = refl
   unmarked n (suc k) h = rw (h n (omega arith), unmarked (n + 1) k (λ q above. h q (omega arith))) refl
+
+-- the bits of a byte of zeros
+pub zero_byte : (order : Order) (body : List ℕ) (at q : ℕ) → get_or body (place order (length body) at) 0 ≡ 0 → q / 8 ≡ at → byte_bit order body q ≡ false
+zero_byte order body at q none is = rw (is, none) (bit_of_none (q % 8))
 
 -- what a count that was read says of its size
 of_size : (left : ℕ) (size : Option ℕ) (bytes : List ℕ) (x : ℕ × List ℕ) → count_of_size left size bytes ≡ Ok x → (size ≡ Some x.0) × (bytes ≡ x.1)

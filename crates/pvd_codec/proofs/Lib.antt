@@ -7,6 +7,7 @@ pub mod Marked
 pub mod FirstBits
 pub mod Marks
 pub mod Growing
+pub mod Every
 pub mod Holding
 pub mod Elements
 pub mod Spelled
@@ -18,3 +19,5 @@ pub mod FoundValues
 pub mod FoundParts
 pub mod FittingValues
 pub mod PartAgain
+pub mod Slices
+pub mod Unentered

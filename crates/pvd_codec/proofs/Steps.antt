@@ -1,16 +1,14 @@
 -- Reading a value part by part.
-use Rattle.std.proofs.Common.{◌≡◌, ℕ, zero, suc, ◌-◌, ◌≤◌, ◌<◌, List, [], ◌∷◌, ◌++◌, length, drop, Option, Some, None, Result, Ok, Err, refl, sym, ap, subst, ◌∙◌, arith, rules}
+use Rattle.std.proofs.Common.{◌≡◌, ℕ, zero, suc, ◌-◌, ◌≤◌, ◌<◌, List, [], ◌∷◌, ◌++◌, length, drop, Option, Some, None, Result, Ok, Err, refl, sym, ap, subst, ◌∙◌, arith}
 use Rattle.std.proofs.Math.ListN.{drop_of_length-le}
 use Rattle.pva_wire.specs.declared.order.Order.{Order}
 use Rattle.pva_wire.specs.Reading.{◌>>=◌, size_at}
-use Rattle.pvd_type.specs.Tree.{Tree, node, struct_list, union_list, Fields, no_fields, field}
+use Rattle.pvd_type.specs.Tree.{Tree, leaf, variant_list, node, struct_list, union_list, Fields, no_fields, field}
 use Rattle.pvd_type.specs.Numbers.{nodes, nodes_in}
-use Rattle.pvd_type.specs.View.{shape_view, members_view}
-use Rattle.pvd_type.specs.declared.shape.Shape.{StructList, UnionList, the_lemmas}
-use Rattle.pvd_type.specs.declared.shape.Node.{Node, out-Node}
+use Rattle.pvd_type.specs.View.{members_view}
 use Rattle.pvd_type.specs.declared.shape.Member.{Member}
-use Rattle.pvd_value.specs.Data.{Data, selected, carried, structs, unions, Row, more}
-use Rattle.pvd_value.specs.View.{gaps_of, view, row_view}
+use Rattle.pvd_value.specs.Data.{Data, selected, carried, structs, unions, variants, Row, more}
+use Rattle.pvd_value.specs.View.{gaps_of, parcels_of, view, row_view}
 use Rattle.pvd_value.specs.Fits.{member_at}
 use Rattle.pvd_value.specs.declared.value.PvValue.{PvValue}
 use Rattle.pvd_value.proofs.Rows.{joined, joined_push, joined_end}
@@ -31,12 +29,6 @@ pub nodes_at : (fs : Fields) (n : ℕ) (t : Tree) → member_at n fs ≡ Some t 
 nodes_at no_fields n t e = absurd cc
 nodes_at (field name s fs) zero t e = let same : s ≡ t = cc in omega (arith, ap nodes same)
 nodes_at (field name s fs) (suc n) t e = omega (arith, nodes_at fs n t e)
-
-pub structs_tree : (n : Node) → shape_view (StructList n) ≡ node struct_list (out-Node n).id (members_view (out-Node n).members.items)
-structs_tree n = search (rules, the_lemmas)
-
-pub unions_tree : (n : Node) → shape_view (UnionList n) ≡ node union_list (out-Node n).id (members_view (out-Node n).members.items)
-unions_tree n = search (rules, the_lemmas)
 
 -- a row of values that were read, before those that are still read
 abbrev pub with_row : (Row → Row) → Read State Row → Read State Row
@@ -113,6 +105,10 @@ module _ (order : Order) (parcel : State → Read State Parcel) where
     pub unions_are : (vs : List (Option Data)) (after : State) → listed order (element_with order parcel elements.Union fs) st ≡ Ok (vs, after) → value_with order parcel (node union_list id fs) st ≡ Ok (unions (gaps_of vs), after)
     unfolding value_with
     unions_are vs after h = ap (λ (r : Read State (List (Option Data))). r >>= λ vs. Ok (unions (gaps_of vs.0), vs.1)) h
+
+  pub variants_are : (st : State) (ps : List (Option (Tree × Data))) (after : State) → listed order parcel st ≡ Ok (ps, after) → value_with order parcel (leaf variant_list) st ≡ Ok (variants (parcels_of ps), after)
+  unfolding value_with
+  variants_are st ps after h = ap (λ (r : Read State (List (Option (Tree × Data)))). r >>= λ ps. Ok (variants (parcels_of ps.0), ps.1)) h
 
   pub variant_is : (st : State) (t : Tree) (v : Data) (after : State) → parcel st ≡ Ok (Some (t, v), after) → variant_with parcel st ≡ Ok (carried t v, after)
   variant_is st t v after h = rw h refl

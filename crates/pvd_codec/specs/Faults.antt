@@ -47,6 +47,12 @@ Answers view (Ok x) y = view x ≡ y
 Answers view (Err NoMemory) y = Unit {0}
 Answers view (Err fault) y = ⊥
 
+-- a reader over a slice answers this, unless memory ran out
+abbrev pub Finds : {X Y : Type 0} → (X → Y) → Result X ValueStop → Y → Type 0
+Finds view (Ok x) y = view x ≡ y
+Finds view (Err stops.Memory) y = Unit {0}
+Finds view (Err (stops.Fault cause left)) y = ⊥
+
 -- a mask and a value
 abbrev pub part_view : FinSet nat_cmp × PvValue → FinSet nat_cmp × Data
 part_view x = (x.0, view x.1)

@@ -19,7 +19,8 @@ use Rattle.pvd_type.specs.Tree.{Tree, leaf, node, Leaf, plain, bound_text, list,
 use Rattle.pvd_type.specs.Numbers.{numbered}
 use Rattle.pvd_value.specs.Data as value
 use Rattle.pvd_value.specs.Data.{Data, single, many, members, unset, selected, empty, carried, structs, unions, variants, Row, end, more}
-use Rattle.pvd_value.specs.View.{gaps_of, parcels_of}
+use Rattle.pvd_value.specs.View.{gaps_of, parcels_of, view}
+use Rattle.pvd_value.specs.declared.value.PvValue.{PvValue}
 use Rattle.pvd_value.specs.Blank.{blank_of}
 use Rattle.pvd_value.specs.Leaves.{marked_leaves}
 use Rattle.pvd_desc.specs.declared.fault.DescCause as desc
@@ -216,6 +217,10 @@ module _ (order : Order) (parcel : State → Read State Parcel) where
 abbrev pub element_with : Order → (State → Read State Parcel) → Element → Fields → State → Read State (Option Data)
 element_with order parcel elements.Struct fs st = present (row_with order parcel fs st >>= λ r. Ok (members r.0, r.1))
 element_with order parcel elements.Union fs st = present (union_by order (λ n left s. member_with order parcel fs n n left s) st)
+
+-- a type and a value of it
+abbrev pub pair_view : Tree × PvValue → Tree × Data
+pair_view p = (p.0, view p.1)
 
 abbrev pub parcel_of : (Tree → State → Read State Data) → Option Tree → State → Read State Parcel
 parcel_of carries None st = Ok (None, st)

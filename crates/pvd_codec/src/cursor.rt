@@ -1,69 +1,21 @@
 ghost use Rattle.std.specs.Prelude.{◌≡◌, ℕ, true, List, ◌++◌, IfOk};
 ghost use Rattle.std.specs.Ordering.{nat_cmp};
 ghost use Rattle.std.specs.FinSet.{FinSet};
-ghost use Rattle.pva_wire.specs.Faults.{fault_at as wire_fault_at};
 ghost use Rattle.pvd_value.specs.Data.{Data};
 ghost use Rattle.pvd_value.specs.View.{view};
 ghost use Rattle.pvd_value.specs.Fits.{fits_of};
-ghost use Rattle.pvd_desc.specs.Faults.{fault_at as desc_fault_at};
 ghost use Rattle.pvd_desc.specs.Types.{Types};
 ghost use Rattle.pvd_codec.specs.Grammar.{Full, Part};
 ghost use Rattle.pvd_codec.specs.Reading.{full_at, part_at};
-ghost use Rattle.pvd_codec.specs.Faults.{Answers, GivesAt, part_view, fault_of};
+ghost use Rattle.pvd_codec.specs.Faults.{Answers, GivesAt, part_view};
 
-use crate::fault::{ValueCause, ValueFault, ValueStop};
-use crate::parts::part_at;
-use crate::reading::{DEPTH, value_at};
-use pva_wire::{Cause, Cursor, WireFault};
-use pvd_desc::{Definitions, DescCause, DescFault, Registry};
+use crate::fault::ValueFault;
+use crate::staged::{full_at, part_at};
+use pva_wire::Cursor;
+use pvd_desc::{Definitions, Registry};
 use pvd_type::{BitSet, PvType};
 use pvd_value::PvValue;
 use std::alloc::Global;
-
-/// The fault of an item of the basic coding, at its place.
-fn placed_wire(cause: Cause, place: usize) -> WireFault
-    ensures { result ≡ wire_fault_at cause place }
-{
-    match cause {
-        Cause::Short => WireFault::Short(place),
-        Cause::Range => WireFault::Range(place),
-        Cause::NotUtf8 => WireFault::NotUtf8(place),
-        Cause::NullSize => WireFault::NullSize(place),
-    }
-}
-
-/// The fault of an item of a description, at its place.
-fn placed_desc(cause: DescCause, place: usize) -> DescFault
-    ensures { result ≡ desc_fault_at cause place }
-{
-    match cause {
-        DescCause::Wire(cause) => DescFault::Wire(placed_wire(cause, place)),
-        DescCause::Shape(fault) => DescFault::Shape(fault, place),
-        DescCause::UnknownCode(byte) => DescFault::UnknownCode(byte, place),
-        DescCause::UnknownId(id) => DescFault::UnknownId(id, place),
-    }
-}
-
-/// The fault of a reader over slices, at its place.
-fn placed(from: &Cursor, stop: ValueStop) -> ValueFault
-    ensures { result ≡ fault_of from.now.end stop }
-{
-    match stop {
-        ValueStop::Memory => ValueFault::NoMemory,
-        ValueStop::Fault(cause, left) => {
-            let place = from.place_of(left);
-            match cause {
-                ValueCause::Wire(cause) => ValueFault::Wire(placed_wire(cause, place)),
-                ValueCause::Desc(cause) => ValueFault::Desc(placed_desc(cause, place)),
-                ValueCause::BadSelector(number) => ValueFault::BadSelector(number, place),
-                ValueCause::BitOutside(number) => ValueFault::BitOutside(number, place),
-                ValueCause::BadBool(byte) => ValueFault::BadBool(byte, place),
-                ValueCause::OverBound(length) => ValueFault::OverBound(length, place),
-                ValueCause::TooNested => ValueFault::TooNested(place),
-            }
-        }
-    }
-}
 
 /// Reads a whole value of a type (pvAccess Protocol Specification, "Data Encoding"). The types that the
 /// descriptions in variants define go into the registry.
@@ -87,21 +39,13 @@ pub fn read_full(
 {
     let mut defined = Definitions::new(alloc);
     let bytes = from.rest();
-    match value_at(
-        alloc,
-        from.order(),
-        registry,
-        &mut defined,
-        ty.shape(),
-        DEPTH,
-        bytes,
-    ) {
+    match full_at(alloc, from.order(), registry, &mut defined, ty, bytes) {
         Ok((value, rest)) => {
             registry.commit(defined)?;
             from.go_to(rest);
             Ok(value)
         }
-        Err(stop) => Err(placed(from, stop)),
+        Err(stop) => Err(stop.placed(from.length())),
     }
 }
 
@@ -128,6 +72,6 @@ pub fn read_part(
             from.go_to(rest);
             Ok((mask, value))
         }
-        Err(stop) => Err(placed(from, stop)),
+        Err(stop) => Err(stop.placed(from.length())),
     }
 }

@@ -25,12 +25,48 @@ pub enum ValueCause {
     TooNested,
 }
 
+impl ValueCause {
+    ghost use Rattle.std.specs.Prelude.{◌≡◌};
+    ghost use Rattle.pvd_codec.specs.Faults.{fault_at};
+
+    /// The fault of an item at this place.
+    pub fn at(self, place: usize) -> ValueFault
+        ensures { result ≡ fault_at self place }
+    {
+        match self {
+            ValueCause::Wire(cause) => ValueFault::Wire(cause.at(place)),
+            ValueCause::Desc(cause) => ValueFault::Desc(cause.at(place)),
+            ValueCause::BadSelector(number) => ValueFault::BadSelector(number, place),
+            ValueCause::BitOutside(number) => ValueFault::BitOutside(number, place),
+            ValueCause::BadBool(byte) => ValueFault::BadBool(byte, place),
+            ValueCause::OverBound(length) => ValueFault::OverBound(length, place),
+            ValueCause::TooNested => ValueFault::TooNested(place),
+        }
+    }
+}
+
 /// Why a reader over a slice stopped: at a fault, with the number of bytes that are left from the
 /// faulty item on, or for want of memory.
 #[derive(Debug, Drop)]
 pub enum ValueStop {
     Memory,
     Fault(ValueCause, usize),
+}
+
+impl ValueStop {
+    ghost use Rattle.std.specs.Prelude.{◌≡◌};
+    ghost use Rattle.pvd_codec.specs.Faults.{fault_of};
+
+    /// The fault of a reader over the last bytes of a payload, at its place in the payload, which has
+    /// `length` bytes.
+    pub fn placed(self, length: usize) -> ValueFault
+        ensures { result ≡ fault_of length self }
+    {
+        match self {
+            ValueStop::Memory => ValueFault::NoMemory,
+            ValueStop::Fault(cause, left) => cause.at(length.saturating_sub(left)),
+        }
+    }
 }
 
 impl From<NoMemory> for ValueStop {

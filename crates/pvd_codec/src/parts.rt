@@ -1,4 +1,4 @@
-ghost use Rattle.std.specs.Prelude.{◌≡◌, ◌+◌, ◌-◌, ◌*◌, ◌≤◌, ◌<◌, ◌^◌, length, IfOk};
+ghost use Rattle.std.specs.Prelude.{◌≡◌, get_or, ◌+◌, ◌-◌, ◌*◌, ◌≤◌, ◌<◌, ◌^◌, length, IfOk};
 ghost use Rattle.std.specs.FinSet as set;
 ghost use Rattle.pva_wire.specs.Bits.{place, byte_bit};
 ghost use Rattle.pvd_type.specs.View.{shape_view, members_view};
@@ -27,24 +27,38 @@ fn byte_place(order: Order, count: u64, at: u64) -> u64
     }
 }
 
+/// The byte of a set that holds the bits from eight times `at` on.
+fn byte_at(order: Order, body: &[u8], at: u64) -> u8
+    requires { at < length body.now }
+    ensures { result ≡ get_or body.now (place order (length body.now) at) 0 }
+{
+    body[byte_place(order, body.len() as u64, at) as usize]
+}
+
 /// Whether the bytes of a set hold a bit.
 fn has_bit(order: Order, body: &[u8], bit: u64) -> bool
     requires { bit < 8 * length body.now }
     ensures { result ≡ byte_bit order body.now bit }
 {
-    let place = byte_place(order, body.len() as u64, bit / 8);
-    (body[place as usize] >> (bit % 8)) & 1 == 1
+    (byte_at(order, body, bit / 8) >> (bit % 8)) & 1 == 1
 }
 
-/// The least bit at or above `start` that the bytes of a set hold.
+/// The least bit at or above `start` that the bytes of a set hold. A byte of zeros is passed over at
+/// once.
 fn first_bit(order: Order, body: &[u8], start: u64) -> Option<u64>
     requires { length body.now < 2 ^ 32 }
     ensures { result ≡ first_marked (byte_bit order body.now) start (8 * length body.now - start) }
 {
-    for bit in start..body.len() as u64 * 8 {
+    let mut bit = start;
+    'bits: while bit < body.len() as u64 * 8 {
+        if byte_at(order, body, bit / 8) == 0 {
+            bit = bit / 8 * 8 + 8;
+            continue 'bits;
+        }
         if has_bit(order, body, bit) {
             return Some(bit);
         }
+        bit += 1;
     }
     None
 }

@@ -1,9 +1,9 @@
 ghost use Rattle.std.specs.Prelude.{◌≡◌, ◌≤◌, ◌<◌, map, option_map};
 ghost use Rattle.pvd_type.specs.View.{shape_view, members_view};
 ghost use Rattle.pvd_type.specs.Numbers.{nodes, nodes_in};
-ghost use Rattle.pvd_value.specs.View.{view, row_view, parcel_view};
+ghost use Rattle.pvd_value.specs.View.{view, row_view, boxed_view, parcel_view};
 ghost use Rattle.pvd_desc.specs.Types.{laid};
-ghost use Rattle.pvd_codec.specs.Reading.{Gives, items_at, flagged, listed, value_at, row_at, union_at, element_with, element_at, variant_with, parcel_at};
+ghost use Rattle.pvd_codec.specs.Reading.{Gives, items_at, flagged, listed, value_at, row_at, union_at, element_with, element_at, variant_with, pair_view, parcel_at};
 
 use crate::fault::{ValueCause, ValueStop};
 use crate::lists::list_at;
@@ -27,11 +27,33 @@ pub enum Element {
     Union,
 }
 
+/// How many bytes of memory a value counts for.
+const VALUE: u64 = 64;
+
 /// A value of a shape. What its variants define goes into `changed`, which hides the types of `base`.
-/// After a refusal `changed` may hold a part of that.
+/// After a refusal `changed` may hold a part of that. The value counts against the memory that the read
+/// may take, since values without bytes, as empty structures, could be any number.
+#[cycle(value)]
+pub fn value_at<'a>(
+    alloc: Global,
+    order: Order,
+    base: &Registry,
+    changed: &mut Definitions,
+    shape: &Shape,
+    left: u32,
+    bytes: &'a [u8],
+) -> Result<(PvValue, &'a [u8]), ValueStop>
+    requires { nodes (shape_view shape.now) ≤ 4096 }
+    ensures { Gives (λ x. (view x.0, (x.1.now, laid base.now changed.new))) result (value_at left order (shape_view shape.now) (bytes.now, laid base.now changed.old)) }
+{
+    changed.spend(VALUE)?;
+    shaped_at(alloc, order, base, changed, shape, left, bytes)
+}
+
+/// A value of a shape, which is counted.
 #[cycle(value)]
 #[tactic(auto, unfolding(crate::specs::Reading::value_with))]
-pub fn value_at<'a>(
+fn shaped_at<'a>(
     alloc: Global,
     order: Order,
     base: &Registry,
@@ -115,7 +137,7 @@ fn row_at<'a>(
     requires { nodes_in (members_view members.now) < 4096 }
     ensures { Gives (λ x. (row_view x.0.items, (x.1.now, laid base.now changed.new))) result (row_at left order (members_view members.now) (bytes.now, laid base.now changed.old)) }
 {
-    let mut values = Vec::new(alloc);
+    let mut values = Vec::with_capacity(alloc, members.len())?;
     let mut rest = bytes;
     for member in members {
         let (value, after) = value_at(alloc, order, base, changed, &member.shape, left, rest)?;
@@ -166,9 +188,9 @@ fn listed_at<'a>(
     members: &[Member],
     left: u32,
     bytes: &'a [u8],
-) -> Result<(Vec<Option<PvValue>>, &'a [u8]), ValueStop>
+) -> Result<(Vec<Option<Box<PvValue>>>, &'a [u8]), ValueStop>
     requires { nodes_in (members_view members.now) < 4096 }
-    ensures { Gives (λ x. (map (option_map view) x.0.items, (x.1.now, laid base.now changed.new))) result (listed order (element_with order (parcel_at left order) element (members_view members.now)) (bytes.now, laid base.now changed.old)) }
+    ensures { Gives (λ x. (map (option_map boxed_view) x.0.items, (x.1.now, laid base.now changed.new))) result (listed order (element_with order (parcel_at left order) element (members_view members.now)) (bytes.now, laid base.now changed.old)) }
 {
     let (count, rest) = counted_at(order, 1, bytes)?;
     let (values, rest) = elements_at(
@@ -189,11 +211,11 @@ fn elements_at<'a>(
     left: u32,
     count: u32,
     bytes: &'a [u8],
-) -> Result<(Vec<Option<PvValue>>, &'a [u8]), ValueStop>
+) -> Result<(Vec<Option<Box<PvValue>>>, &'a [u8]), ValueStop>
     requires { nodes_in (members_view members.now) < 4096 }
-    ensures { Gives (λ x. (map (option_map view) x.0.items, (x.1.now, laid base.now changed.new))) result (items_at (element_at left order element (members_view members.now)) count (bytes.now, laid base.now changed.old)) }
+    ensures { Gives (λ x. (map (option_map boxed_view) x.0.items, (x.1.now, laid base.now changed.new))) result (items_at (element_at left order element (members_view members.now)) count (bytes.now, laid base.now changed.old)) }
 {
-    let mut values = Vec::new(alloc);
+    let mut values = Vec::with_capacity(alloc, count as usize)?;
     let mut rest = bytes;
     for _ in 0..count {
         let (value, after) = element_at(alloc, order, base, changed, element, members, left, rest)?;
@@ -215,22 +237,24 @@ fn element_at<'a>(
     members: &[Member],
     left: u32,
     bytes: &'a [u8],
-) -> Result<(Option<PvValue>, &'a [u8]), ValueStop>
+) -> Result<(Option<Box<PvValue>>, &'a [u8]), ValueStop>
     requires { nodes_in (members_view members.now) < 4096 }
-    ensures { Gives (λ x. (option_map view x.0, (x.1.now, laid base.now changed.new))) result (element_at left order element (members_view members.now) (bytes.now, laid base.now changed.old)) }
+    ensures { Gives (λ x. (option_map boxed_view x.0, (x.1.now, laid base.now changed.new))) result (element_at left order element (members_view members.now) (bytes.now, laid base.now changed.old)) }
 {
     let (present, rest) = bool_at(bytes)?;
     if !present {
         return Ok((None, rest));
     }
+    changed.spend(VALUE)?;
     match element {
         Element::Struct => {
             let (values, rest) = row_at(alloc, order, base, changed, members, left, rest)?;
-            Ok((Some(PvValue::Struct(values)), rest))
+            let value = Box::new(alloc, PvValue::Struct(values))?;
+            Ok((Some(value), rest))
         }
         Element::Union => {
             let (value, rest) = union_at(alloc, order, base, changed, members, left, rest)?;
-            Ok((Some(value), rest))
+            Ok((Some(Box::new(alloc, value)?), rest))
         }
     }
 }
@@ -266,7 +290,7 @@ fn parcel_at<'a>(
     left: u32,
     bytes: &'a [u8],
 ) -> Result<(Option<(PvType, PvValue)>, &'a [u8]), ValueStop>
-    ensures { Gives (λ x. (option_map parcel_view x.0, (x.1.now, laid base.now changed.new))) result (parcel_at left order (bytes.now, laid base.now changed.old)) }
+    ensures { Gives (λ x. (option_map pair_view x.0, (x.1.now, laid base.now changed.new))) result (parcel_at left order (bytes.now, laid base.now changed.old)) }
 {
     if left == 0 {
         return Err(ValueStop::Fault(ValueCause::TooNested, bytes.len()));
@@ -289,7 +313,7 @@ fn variants_at<'a>(
     changed: &mut Definitions,
     left: u32,
     bytes: &'a [u8],
-) -> Result<(Vec<Option<(PvType, PvValue)>>, &'a [u8]), ValueStop>
+) -> Result<(Vec<Option<Box<(PvType, PvValue)>>>, &'a [u8]), ValueStop>
     ensures { Gives (λ x. (map (option_map parcel_view) x.0.items, (x.1.now, laid base.now changed.new))) result (listed order (parcel_at left order) (bytes.now, laid base.now changed.old)) }
 {
     let (count, rest) = counted_at(order, 1, bytes)?;
@@ -307,10 +331,10 @@ fn parcels_at<'a>(
     left: u32,
     count: u32,
     bytes: &'a [u8],
-) -> Result<(Vec<Option<(PvType, PvValue)>>, &'a [u8]), ValueStop>
+) -> Result<(Vec<Option<Box<(PvType, PvValue)>>>, &'a [u8]), ValueStop>
     ensures { Gives (λ x. (map (option_map parcel_view) x.0.items, (x.1.now, laid base.now changed.new))) result (items_at (flagged (parcel_at left order)) count (bytes.now, laid base.now changed.old)) }
 {
-    let mut values = Vec::new(alloc);
+    let mut values = Vec::with_capacity(alloc, count as usize)?;
     let mut rest = bytes;
     for _ in 0..count {
         let (value, after) = flagged_at(alloc, order, base, changed, left, rest)?;
@@ -330,13 +354,17 @@ fn flagged_at<'a>(
     changed: &mut Definitions,
     left: u32,
     bytes: &'a [u8],
-) -> Result<(Option<(PvType, PvValue)>, &'a [u8]), ValueStop>
+) -> Result<(Option<Box<(PvType, PvValue)>>, &'a [u8]), ValueStop>
     ensures { Gives (λ x. (option_map parcel_view x.0, (x.1.now, laid base.now changed.new))) result (flagged (parcel_at left order) (bytes.now, laid base.now changed.old)) }
 {
     let (present, rest) = bool_at(bytes)?;
     if !present {
         return Ok((None, rest));
     }
-    let (value, rest) = parcel_at(alloc, order, base, changed, left, rest)?;
-    Ok((value, rest))
+    changed.spend(VALUE)?;
+    let (parcel, rest) = parcel_at(alloc, order, base, changed, left, rest)?;
+    match parcel {
+        None => Ok((None, rest)),
+        Some(pair) => Ok((Some(Box::new(alloc, pair)?), rest)),
+    }
 }

@@ -7,6 +7,9 @@ ghost use Rattle.pvd_value.specs.Data.{Single, boolean, byte, short, int, long, 
 ghost use Rattle.pvd_value.specs.View.{view, items_view};
 ghost use Rattle.pvd_codec.specs.Written.{Begins, canonical_single, canonical_count, canonical_list, canonical_items, canonical_value, CanSingle, CanEach, CanItems, CanCount, CanList, CanValue};
 
+use crate::lists_writing::{
+    write_i8s, write_i16s, write_i32s, write_i64s, write_u8s, write_u16s, write_u32s, write_u64s,
+};
 use pva_wire::{Order, write_size, write_text, write_u16, write_u32, write_u64};
 use pvd_type::{Extent, Name, NoMemory};
 use pvd_value::{Items, PvValue};
@@ -105,7 +108,7 @@ impl WriteScalar for Name {
     }
 }
 
-/// Appends the bytes of scalars, one after another.
+/// Appends the bytes of scalars, one after another, each by itself.
 pub fn write_all<T: WriteScalar>(
     out: &mut Vec<u8>,
     order: Order,
@@ -159,16 +162,16 @@ fn write_items(out: &mut Vec<u8>, order: Order, items: &Items) -> Result<(), NoM
 {
     match items {
         Items::Bool(values) => write_all(out, order, values),
-        Items::I8(values) => write_all(out, order, values),
-        Items::I16(values) => write_all(out, order, values),
-        Items::I32(values) => write_all(out, order, values),
-        Items::I64(values) => write_all(out, order, values),
-        Items::U8(values) => write_all(out, order, values),
-        Items::U16(values) => write_all(out, order, values),
-        Items::U32(values) => write_all(out, order, values),
-        Items::U64(values) => write_all(out, order, values),
-        Items::F32(values) => write_all(out, order, values),
-        Items::F64(values) => write_all(out, order, values),
+        Items::I8(values) => write_i8s(out, order, values),
+        Items::I16(values) => write_i16s(out, order, values),
+        Items::I32(values) => write_i32s(out, order, values),
+        Items::I64(values) => write_i64s(out, order, values),
+        Items::U8(values) => write_u8s(out, order, values),
+        Items::U16(values) => write_u16s(out, order, values),
+        Items::U32(values) => write_u32s(out, order, values),
+        Items::U64(values) => write_u64s(out, order, values),
+        Items::F32(values) => write_u32s(out, order, values),
+        Items::F64(values) => write_u64s(out, order, values),
         Items::Text(values) => write_all(out, order, values),
     }
 }

@@ -204,7 +204,7 @@ fn put_struct_list(
 /// Appends a count and so many structures, each of which may be null.
 #[cycle(put)]
 fn put_structs(
-    values: &[Option<PvValue>],
+    values: &[Option<Box<PvValue>>],
     node: &Node,
     order: Order,
     out: &mut Vec<u8>,
@@ -247,7 +247,7 @@ fn put_union_list(
 /// Appends a count and so many unions, each of which may be null.
 #[cycle(put)]
 fn put_unions(
-    values: &[Option<PvValue>],
+    values: &[Option<Box<PvValue>>],
     node: &Node,
     order: Order,
     out: &mut Vec<u8>,
@@ -285,7 +285,7 @@ fn put_variant_list(value: &PvValue, order: Order, out: &mut Vec<u8>) -> Result<
 /// Appends a count and so many variants, each of which may be null.
 #[cycle(put)]
 fn put_variants(
-    values: &[Option<(PvType, PvValue)>],
+    values: &[Option<Box<(PvType, PvValue)>>],
     order: Order,
     out: &mut Vec<u8>,
 ) -> Result<(), NoMemory>
@@ -295,10 +295,11 @@ fn put_variants(
 {
     write_count(out, order, values.len())?;
     'elements: for value in values {
-        let Some((ty, inner)) = value else {
+        let Some(parcel) = value else {
             out.push(0)?;
             continue 'elements;
         };
+        let (ty, inner) = &**parcel;
         out.push(1)?;
         put_carried(inner, ty, order, out)?;
     }

@@ -3,6 +3,7 @@ use pva_wire::Order;
 use pvd_type::{BitSet, Extent, Member, Name, NoMemory, Node, PvType, Scalar, Shape};
 use pvd_value::{Items, PvValue, fits};
 use std::alloc::Global;
+use std::sync::Arc;
 use std::test::Fail;
 
 /// Whether these bytes are written of a value, behind a byte that was there.
@@ -143,7 +144,7 @@ fn scalars_and_their_lists_are_written_in_both_orders(rt: HostRuntime) -> Result
 }
 
 /// A node with these members.
-fn node(alloc: Global, members: &[(&str, Scalar)]) -> Result<Node, NoMemory> {
+fn node(alloc: Global, members: &[(&str, Scalar)]) -> Result<Arc<Node>, NoMemory> {
     let mut made = Vec::new(alloc);
     for (name, scalar) in members {
         made.push(Member {
@@ -151,10 +152,7 @@ fn node(alloc: Global, members: &[(&str, Scalar)]) -> Result<Node, NoMemory> {
             shape: Shape::Plain(*scalar),
         })?;
     }
-    Ok(Node {
-        id: Name::of(alloc, "")?,
-        members: made,
-    })
+    Node::of(alloc, Name::of(alloc, "")?, made)
 }
 
 /// The structure of a time stamp.
@@ -177,7 +175,7 @@ fn moment(alloc: Global) -> Result<PvValue, NoMemory> {
 }
 
 /// The members of a union of a short and a text.
-fn choices(alloc: Global) -> Result<Node, NoMemory> {
+fn choices(alloc: Global) -> Result<Arc<Node>, NoMemory> {
     node(alloc, &[("number", Scalar::I16), ("text", Scalar::Text)])
 }
 
@@ -203,16 +201,29 @@ fn carried(alloc: Global) -> Result<PvValue, Fail> {
 fn structures(alloc: Global) -> Result<PvValue, NoMemory> {
     let mut values = Vec::new(alloc);
     values.push(None)?;
-    values.push(Some(lone(alloc)?))?;
+    values.push(Some(Box::new(alloc, lone(alloc)?)?))?;
     Ok(PvValue::StructList(values))
+}
+
+/// An element that isn't null.
+fn element(alloc: Global, value: PvValue) -> Result<Option<Box<PvValue>>, NoMemory> {
+    Ok(Some(Box::new(alloc, value)?))
+}
+
+/// A union without a member and a null union.
+fn empty_unions(alloc: Global) -> Result<Vec<Option<Box<PvValue>>>, NoMemory> {
+    let first = element(alloc, PvValue::Union(None))?;
+    let mut values = Vec::new(alloc);
+    values.push(first)?;
+    values.push(None)?;
+    Ok(values)
 }
 
 /// A union without a member, a null union and one with a member.
 fn unions(alloc: Global) -> Result<PvValue, NoMemory> {
-    let mut values = Vec::new(alloc);
-    values.push(Some(PvValue::Union(None)))?;
-    values.push(None)?;
-    values.push(Some(chosen(alloc)?))?;
+    let last = element(alloc, chosen(alloc)?)?;
+    let mut values = empty_unions(alloc)?;
+    values.push(last)?;
     Ok(PvValue::UnionList(values))
 }
 
@@ -221,7 +232,7 @@ fn variants(alloc: Global) -> Result<PvValue, Fail> {
     let mut values = Vec::new(alloc);
     values.push(None)?;
     let ty = PvType::check(alloc, Shape::Plain(Scalar::I16))?;
-    values.push(Some((ty, PvValue::I16(3))))?;
+    values.push(Some(Box::new(alloc, (ty, PvValue::I16(3)))?))?;
     Ok(PvValue::VariantList(values))
 }
 
@@ -319,10 +330,8 @@ fn pairs(alloc: Global) -> Result<Shape, NoMemory> {
             shape: Shape::Struct(node(alloc, &[("x", Scalar::I16), ("y", Scalar::I16)])?),
         })?;
     }
-    Ok(Shape::Struct(Node {
-        id: Name::of(alloc, "")?,
-        members,
-    }))
+    let none = Name::of(alloc, "")?;
+    Ok(Shape::Struct(Node::of(alloc, none, members)?))
 }
 
 /// The shorts 2, 3, 5 and 6.

@@ -10,3 +10,4 @@ pub mod Back
 pub mod Calls
 pub mod Parts
 pub mod FoundThere
+pub mod Alone

@@ -1,10 +1,10 @@
 -- The maps that keep types, as finite maps.
-use Rattle.std.proofs.Common.{◌≡◌, ℕ, Bool, true, false, cond, List, [], ◌∷◌, Option, Some, None, nat_eq, nat_cmp, option_map, refl, sym, ap, ◌∙◌, arith, inl, inr}
+use Rattle.std.proofs.Common.{◌≡◌, ℕ, Bool, true, false, cond, ◌||◌, List, [], ◌∷◌, Option, Some, None, nat_eq, nat_cmp, option_map, refl, sym, ap, ◌∙◌, arith, inl, inr}
 use Rattle.std.proofs.lemmas.Bool.{cases_lt, eq-eqb, eqb-true}
 use Rattle.std.specs.Cmp.{nat_cmp_total, nat_cmp_is, eq_by_cmp_equiv}
 use Rattle.std.specs.declared.cmp.Ordering.TheVariants.{Less, Equal, Greater}
 use Rattle.std.specs.Ordering.{is_eq}
-use Rattle.std.specs.FinMap.{from_entries, insert, get, find, get-from_entries, get-insert, same_map, nat_cmp-IsAntisymmetric}
+use Rattle.std.specs.FinMap.{FinMap, from_entries, insert, get, find, get-from_entries, get-insert, same_map, nat_cmp-IsAntisymmetric}
 use Rattle.std.specs.BTreeMap.{is_at}
 use Rattle.std.specs.Map.{lookup}
 use Rattle.std.specs.Arc.{arc_value}
@@ -15,7 +15,7 @@ use Rattle.pvd_desc.specs.Types.{laid}
 use Rattle.pvd_desc.specs.Shared.{shared, first_of}
 use Rattle.pvd_desc.proofs.Laid.{get_laid}
 
-alike : (q k : ℕ) → is_eq (nat_cmp q k) ≡ nat_eq q k
+pub alike : (q k : ℕ) → is_eq (nat_cmp q k) ≡ nat_eq q k
 alike q k =
     elim (cases_lt q k) [
       | inl lt ↦ ap is_eq (sym (nat_cmp_is q k Less lt)) ∙ sym (differs q k (λ e. omega arith))
@@ -24,6 +24,22 @@ alike q k =
         | inr ge ↦ let same : q ≡ k = omega arith in ap is_eq (sym (nat_cmp_is q k Equal same)) ∙ sym (eq-eqb q k same)
       ]
     ]
+
+-- a type that is there already is put there again
+pub put_again : (types : FinMap nat_cmp Tree) (id : ℕ) (t : Tree) → get types id ≡ Some t → insert types id t ≡ types
+put_again types id t there = same_map nat_cmp_total nat_cmp-IsAntisymmetric _ _ (λ q. get-insert nat_cmp_total types id t q ∙ ap (λ b. cond b (Some t) (get types q)) (alike q id) ∙ go q (nat_eq q id) refl)
+  where
+    go : (q : ℕ) (b : Bool) → nat_eq q id ≡ b → cond b (Some t) (get types q) ≡ get types q
+    go q true e = sym (ap (get types) (eqb-true q id e) ∙ there)
+    go q false e = refl
+
+-- what is under a number once a type is put under another, or the same
+pub put_there : (types : FinMap nat_cmp Tree) (id q : ℕ) (t : Tree) (known : Bool) → (known ≡ true → get types q ≡ Some t) → (nat_eq q id || known) ≡ true → get (insert types id t) q ≡ Some t
+put_there types id q t known h some = get-insert nat_cmp_total types id t q ∙ ap (λ b. cond b (Some t) (get types q)) (alike q id) ∙ go (nat_eq q id) some
+  where
+    go : (b : Bool) → (b || known) ≡ true → cond b (Some t) (get types q) ≡ Some t
+    go true e = refl
+    go false e = h e
 
 mapped : {A B : Type 0} (f : A → B) (c : Bool) (a : A) (o : Option A) → option_map f (cond c (Some a) o) ≡ cond c (Some (f a)) (option_map f o)
 mapped f true a o = refl

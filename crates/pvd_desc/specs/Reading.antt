@@ -182,6 +182,11 @@ unfoldable pub null : List ℕ → Option (List ℕ)
 null [] = None
 null (b ∷ rest) = if b == 0xFF then Some rest else None
 
+-- what follows the code of a cached type
+unfoldable pub cached : List ℕ → Option (List ℕ)
+cached [] = None
+cached (b ∷ rest) = if b == 0xFE then Some rest else None
+
 abbrev pub desc_of : Option (List ℕ) → Read Tree → Types → Result (Option Tree × List ℕ × Types) (DescCause × ℕ)
 desc_of (Some rest) read types = Ok (None, rest, types)
 desc_of None read types = read >>= λ t. Ok (Some t.0, t.2, t.3)

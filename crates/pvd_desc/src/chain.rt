@@ -10,7 +10,7 @@ use crate::fault::DescStop;
 use crate::items::{definition, id_at};
 use crate::registry::{Definitions, Registry};
 use pva_wire::Order;
-use pvd_type::{NoMemory, PvType, Shape};
+use pvd_type::{BitSet, NoMemory, PvType, Shape};
 use std::alloc::Global;
 use std::sync::Arc;
 
@@ -38,12 +38,16 @@ pub fn known<'a>(base: &'a Registry, changed: &'a Definitions, id: u16) -> Optio
     }
 }
 
-/// Puts a type under each of the ids, which share it in memory.
+/// How many bytes a type takes in memory beside four for each of its nodes.
+const TYPE: u64 = 256;
+
+/// Puts a type of so many nodes under each of the ids, which share it in memory.
 pub fn define_all(
     alloc: Global,
     changed: &mut Definitions,
     ids: &[u16],
     shape: &Shape,
+    nodes: u32,
 ) -> Result<(), NoMemory>
     requires { IsType (shape_view shape.now) }
     ensures { OnOk result ((base : Types) → laid base changed.new ≡ define_all ids.now (shape_view shape.now) (laid base changed.old)) }
@@ -51,20 +55,27 @@ pub fn define_all(
     if ids.is_empty() {
         return Ok(());
     }
+    changed.spend(TYPE + 4 * nodes as u64)?;
     let ty = Arc::new(alloc, PvType::of_checked(alloc, shape.clone_in(alloc)?)?)?;
-    define_each(changed, ids, &ty)
+    define_each(alloc, changed, ids, &ty)
 }
 
-/// Puts a type under each of the ids.
+/// Puts a type under each of the ids, once where one stands there again.
 fn define_each(
+    alloc: Global,
     changed: &mut Definitions,
     ids: &[u16],
     ty: &Arc<PvType, Global>,
 ) -> Result<(), NoMemory>
     ensures { OnOk result ((base : Types) → laid base changed.new ≡ define_all ids.now (arc_value ty.now) (laid base changed.old)) }
 {
-    for id in ids {
+    let mut done = BitSet::new(alloc);
+    'ids: for id in ids {
+        if done.contains(*id as u32) {
+            continue 'ids;
+        }
         changed.define(*id, ty)?;
+        done.insert(*id as u32)?;
     }
     Ok(())
 }

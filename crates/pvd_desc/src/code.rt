@@ -132,15 +132,22 @@ pub fn takes(element: Element, code: Code) -> bool
 pub fn is_element(element: Element, shape: &Shape) -> bool
     ensures { result ≡ is_element element (shape_view shape.now) }
 {
-    match element {
-        Element::Struct => match shape {
-            Shape::Struct(_) => true,
-            _ => false,
+    match shape {
+        Shape::Struct(_) => match element {
+            Element::Struct => true,
+            Element::Union => false,
         },
-        Element::Union => match shape {
-            Shape::Union(_) => true,
-            _ => false,
+        Shape::Union(_) => match element {
+            Element::Struct => false,
+            Element::Union => true,
         },
+        Shape::Plain(_) => false,
+        Shape::BoundText(_) => false,
+        Shape::List(_, _) => false,
+        Shape::StructList(_) => false,
+        Shape::UnionList(_) => false,
+        Shape::Variant => false,
+        Shape::VariantList => false,
     }
 }
 
@@ -151,6 +158,12 @@ pub fn list_tree(shape: Shape) -> Shape
     match shape {
         Shape::Struct(node) => Shape::StructList(node),
         Shape::Union(node) => Shape::UnionList(node),
-        other => other,
+        Shape::Plain(scalar) => Shape::Plain(scalar),
+        Shape::BoundText(bound) => Shape::BoundText(bound),
+        Shape::List(scalar, extent) => Shape::List(scalar, extent),
+        Shape::StructList(node) => Shape::StructList(node),
+        Shape::UnionList(node) => Shape::UnionList(node),
+        Shape::Variant => Shape::Variant,
+        Shape::VariantList => Shape::VariantList,
     }
 }

@@ -18,12 +18,45 @@ pub enum DescCause {
     UnknownId(u16),
 }
 
+impl DescCause {
+    ghost use Rattle.std.specs.Prelude.{◌≡◌};
+    ghost use Rattle.pvd_desc.specs.Faults.{fault_at};
+
+    /// The fault of an item at this place.
+    pub fn at(self, place: usize) -> DescFault
+        ensures { result ≡ fault_at self place }
+    {
+        match self {
+            DescCause::Wire(cause) => DescFault::Wire(cause.at(place)),
+            DescCause::Shape(fault) => DescFault::Shape(fault, place),
+            DescCause::UnknownCode(byte) => DescFault::UnknownCode(byte, place),
+            DescCause::UnknownId(id) => DescFault::UnknownId(id, place),
+        }
+    }
+}
+
 /// Why a reader over a slice stopped: at a fault, with the number of bytes that are left from the
 /// faulty item on, or for want of memory.
 #[derive(Debug, Drop)]
 pub enum DescStop {
     Memory,
     Fault(DescCause, usize),
+}
+
+impl DescStop {
+    ghost use Rattle.std.specs.Prelude.{◌≡◌};
+    ghost use Rattle.pvd_desc.specs.Faults.{fault_of};
+
+    /// The fault of a reader over the last bytes of a payload, at its place in the payload, which has
+    /// `length` bytes.
+    pub fn placed(self, length: usize) -> DescFault
+        ensures { result ≡ fault_of length self }
+    {
+        match self {
+            DescStop::Memory => DescFault::NoMemory,
+            DescStop::Fault(cause, left) => cause.at(length.saturating_sub(left)),
+        }
+    }
 }
 
 impl From<NoMemory> for DescStop {

@@ -1,6 +1,6 @@
 ghost use Rattle.std.specs.Prelude.{◌≡◌, ◌<◌, length, get_or, IfSome, option_map};
 ghost use Rattle.pva_wire.specs.Reading.{count_at, counted_at, text_at};
-ghost use Rattle.pvd_desc.specs.Reading.{Gives, lifted, id_at, definition, code_at, null};
+ghost use Rattle.pvd_desc.specs.Reading.{Gives, lifted, id_at, definition, code_at, null, cached};
 
 use crate::code::{Code, code_of};
 use crate::fault::{DescCause, DescStop};
@@ -83,6 +83,17 @@ pub fn null(bytes: &[u8]) -> Option<&[u8]>
 {
     match bytes {
         [0xFF, rest @ ..] => Some(rest),
+        _ => None,
+    }
+}
+
+/// What follows the code of a cached type, where it stands.
+#[tactic(auto, unfolding(crate::specs::Reading::cached))]
+pub fn cached(bytes: &[u8]) -> Option<&[u8]>
+    ensures { option_map (λ r. r.now) result ≡ cached bytes.now }
+{
+    match bytes {
+        [0xFE, rest @ ..] => Some(rest),
         _ => None,
     }
 }

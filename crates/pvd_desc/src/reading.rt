@@ -1,4 +1,5 @@
-ghost use Rattle.std.specs.Prelude.{◌≡◌, ◌≤◌, ◌<◌, ◌+◌, ◌-◌, [], IfOk, OnOk, Some};
+ghost use Rattle.std.specs.Prelude.{◌≡◌, ◌∷◌, ◌≤◌, ◌<◌, ◌+◌, ◌-◌, [], IfOk, OnOk, Some};
+ghost use Rattle.std.specs.Arc.{arc_value};
 ghost use Rattle.pvd_type.specs.View.{shape_view, member_view, node_view, members_view, names_of};
 ghost use Rattle.pvd_type.specs.Check.{below, first_fault, label_fault};
 ghost use Rattle.pvd_type.specs.Numbers.{nodes};
@@ -9,11 +10,12 @@ ghost use Rattle.pvd_desc.specs.Reading.{Gives, here_at, unless, wants, cached_a
 use crate::chain::{chain_at, define_all, known};
 use crate::code::{Code, Element, is_element, list_tree, takes};
 use crate::fault::{DescCause, DescStop};
-use crate::items::{bound_at, code_at, first_byte, id_at, member_count_at, name_at, null};
+use crate::items::{bound_at, cached, code_at, first_byte, id_at, member_count_at, name_at, null};
 use crate::registry::{Definitions, Registry};
 use pva_wire::Order;
 use pvd_type::{Extent, Member, Name, Node, PvType, Shape, TypeFault, check_below, is_among};
 use std::alloc::Global;
+use std::sync::Arc;
 
 /// Tests a node on this level that has `seen` nodes before it and whose name has the fault given; its
 /// code had `left` bytes from it on.
@@ -118,10 +120,10 @@ fn inside_at<'a>(
     room: u32,
     seen: u32,
     bytes: &'a [u8],
-) -> Result<(Node, u32, &'a [u8]), DescStop>
+) -> Result<(Arc<Node>, u32, &'a [u8]), DescStop>
     requires room { (0 < room) × (room ≤ 33) }
     requires seen { seen ≤ 4095 }
-    ensures value { Gives (λ x. (node_view x.0, x.1, x.2.now, laid base.now changed.new)) result (inside_at order (33 - room) (fields_below order room) seen (laid base.now changed.old) bytes.now) }
+    ensures value { Gives (λ x. (node_view (arc_value x.0), x.1, x.2.now, laid base.now changed.new)) result (inside_at order (33 - room) (fields_below order room) seen (laid base.now changed.old) bytes.now) }
     ensures few { IfOk result (λ x. x.1 ≤ 4096) }
 {
     let (id, rest) = name_at(alloc, order, bytes)?;
@@ -136,7 +138,7 @@ fn inside_at<'a>(
         seen + 1,
         rest,
     )?;
-    Ok((Node { id, members }, seen, rest))
+    Ok((Node::of(alloc, id, members)?, seen, rest))
 }
 
 /// So many members, where `room` levels are left for what stands below them.
@@ -217,9 +219,9 @@ fn node_at<'a>(
     let left = rest.len();
     let (code, rest) = code_at(rest)?;
     check_here(33 - room, seen, named, left)?;
-    let (shape, seen, rest) = parts_at(alloc, order, base, changed, room, code, left, seen, rest)?;
-    define_all(alloc, changed, &ids, &shape)?;
-    Ok((shape, seen, rest))
+    let (shape, total, rest) = parts_at(alloc, order, base, changed, room, code, left, seen, rest)?;
+    define_all(alloc, changed, &ids, &shape, total.saturating_sub(seen))?;
+    Ok((shape, total, rest))
 }
 
 /// What follows a node's code, which had `left` bytes from it on.
@@ -325,7 +327,7 @@ fn element_at<'a>(
     let left = rest.len();
     let (code, rest) = code_at(rest)?;
     let first = first_byte(bytes);
-    let (shape, seen, rest) = element_of(
+    let (shape, total, rest) = element_of(
         alloc,
         order,
         base,
@@ -339,8 +341,8 @@ fn element_at<'a>(
         code,
         rest,
     )?;
-    define_all(alloc, changed, &ids, &shape)?;
-    Ok((list_tree(shape), seen, rest))
+    define_all(alloc, changed, &ids, &shape, total.saturating_sub(seen))?;
+    Ok((list_tree(shape), total, rest))
 }
 
 /// The element of a list, after its code, which had `left` bytes from it on. A code of another kind is
@@ -391,6 +393,30 @@ fn element_of<'a>(
     }
 }
 
+/// The type under the id that stands here, where a cached type is the whole description. It was tested
+/// when it was defined, and is shared.
+fn alone_at<'a>(
+    alloc: Global,
+    order: Order,
+    base: &Registry,
+    changed: &Definitions,
+    bytes: &'a [u8],
+) -> Result<(Option<PvType>, &'a [u8]), DescStop>
+    ensures { Gives (λ x. (x.0, x.1.now, laid base.now changed.now)) result (desc_at order (laid base.now changed.now) (0xFE ∷ bytes.now)) }
+{
+    let (id, rest) = id_at(order, bytes)?;
+    match known(base, changed, id) {
+        None => Err(DescStop::Fault(DescCause::UnknownId(id), bytes.len())),
+        Some(ty) => {
+            let _tested = ty.shape();
+            Ok((Some(ty.clone_in(alloc)?), rest))
+        }
+    }
+}
+
+/// How many bytes a node of a type counts for, in memory and in the time to test it.
+const NODE: u64 = 16;
+
 /// A description and what follows it; None is the null description. What it defines goes into
 /// `changed`, which hides the types of `base`. After a refusal `changed` may hold a part of that.
 #[tactic(auto, unfolding(crate::specs::Reading::desc_at))]
@@ -406,6 +432,10 @@ pub fn desc_at<'a>(
     if let Some(rest) = null(bytes) {
         return Ok((None, rest));
     }
-    let (shape, _, rest) = node_at(alloc, order, base, changed, 32, 0, None, bytes)?;
+    if let Some(rest) = cached(bytes) {
+        return alone_at(alloc, order, base, changed, rest);
+    }
+    let (shape, nodes, rest) = node_at(alloc, order, base, changed, 32, 0, None, bytes)?;
+    changed.spend(NODE * nodes as u64)?;
     Ok((Some(PvType::of_checked(alloc, shape)?), rest))
 }

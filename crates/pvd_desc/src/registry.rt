@@ -34,11 +34,17 @@ impl Model for Registry {
     ghost view = { λ a. map.from_entries (shared a.types.entries) };
 }
 
+/// How many bytes of memory a read may take at first, for types and values.
+const ROOM: u64 = 16_777_216;
+
 /// The types that a read has defined so far, which are put over those of the registry once the whole
-/// is read. The ids of one chain of definitions share one type in memory.
+/// is read, and how much memory the read may still take. The ids of one chain of definitions share one
+/// type in memory.
 #[derive(Drop)]
 pub struct Definitions {
     types: BTreeMap<u16, Arc<PvType, Global>>,
+    // how many bytes of memory may still be taken
+    room: u64,
 }
 
 impl Model for Definitions {
@@ -94,7 +100,7 @@ impl Registry {
         ensures ok { OnOk result (self.new ≡ laid self.old defined) }
         ensures err { OnErr result (self.new ≡ self.old) }
     {
-        let Definitions { types } = defined;
+        let Definitions { types, .. } = defined;
         self.types.reserve(types.len())?;
         fill(&mut self.types, types);
         Ok(())
@@ -102,13 +108,33 @@ impl Registry {
 }
 
 impl Definitions {
-    /// No definitions.
+    /// No definitions, and room for 16 MiB.
     pub fn new(alloc: Global) -> Definitions
         ensures { result ≡ map.empty }
     {
         Definitions {
             types: BTreeMap::new(alloc),
+            room: ROOM,
         }
+    }
+
+    /// Lets the read take so many bytes of memory more.
+    pub fn allow(&mut self, bytes: u64)
+        ensures { self.new ≡ self.old }
+    {
+        self.room = self.room.saturating_add(bytes);
+    }
+
+    /// Counts bytes of memory that the read takes. Where they are more than it may take it is NoMemory:
+    /// few bytes of a hostile payload could stand for any number of values.
+    pub fn spend(&mut self, bytes: u64) -> Result<(), NoMemory>
+        ensures { self.new ≡ self.old }
+    {
+        if self.room < bytes {
+            return Err(NoMemory);
+        }
+        self.room -= bytes;
+        Ok(())
     }
 
     /// The type under an id.

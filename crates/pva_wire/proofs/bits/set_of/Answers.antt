@@ -12,7 +12,7 @@ loop-p-init c = λ q. rw (c.new-bits.ensures, contains-empty nat_cmp q) (ap (λ 
 
 pub loop-p-preserved : goal.loop-p-preserved
 loop-p-preserved c = λ q.
-    c.in_ok-add_byte.ensures q
+    c.in_ok-insert_byte.ensures.ok q
     ∙ rw (c.loop-p.invariant q, c.byte_place.ensures.place) (one_byte c.args.order c.args.body.now c.loop-p.p q)
 
 pub returns : goal.returns

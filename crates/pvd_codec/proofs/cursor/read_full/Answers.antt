@@ -12,9 +12,9 @@ use Rattle.pvd_codec.proofs.cursor.read_full.Goals as goal
 pub returns-in_ok-commit-in-Ok-clause-exact : goal.returns-in_ok-commit-in-Ok-clause-exact
 returns-in_ok-commit-in-Ok-clause-exact c =
     let from = c.args.from.now in
-    let gave = rw (c.new-defined.ensures, c.order.ensures, c.rest-bytes.ensures, c.shape.ensures.tree) at c.in-Ok.ensures in
+    let gave = rw (c.new-defined.ensures, c.order.ensures, c.rest-bytes.ensures) at c.in-Ok.ensures.exact in
     let rest_is : c.go_to.new.self.rest ≡ c.in-Ok.rest.now = ap (λ (input : Input). input.rest) c.go_to.ensures in (
-      read_gave (full_at from.order c.args.ty.now) c.args.registry.now from.rest c.in-Ok.rest.now c.value_at.new.changed c.commit.new.self (view c.in-Ok.value) gave c.in_ok-commit-in-Ok.ensures.ok
+      read_gave (full_at from.order c.args.ty.now) c.args.registry.now from.rest c.in-Ok.rest.now c.full_at.new.changed c.commit.new.self (view c.in-Ok.value) gave c.in_ok-commit-in-Ok.ensures.ok
           ∙ ap (λ (rest : List ℕ). Ok (view c.in-Ok.value, (rest, c.commit.new.self))) (sym rest_is),
       c.go_to.ensures ∙ ap (λ (rest : List ℕ). record { order = from.order; end = from.end; rest = rest }) (sym rest_is),
     )
@@ -40,8 +40,8 @@ returns-in_ok-commit-in-Ok-clause-fits c =
 pub returns-in-Err-clause-exact : goal.returns-in-Err-clause-exact
 returns-in-Err-clause-exact c =
     let from = c.args.from.now in
-    let failed = rw (c.new-defined.ensures, c.order.ensures, c.rest-bytes.ensures, c.shape.ensures.tree) at c.in-Err.ensures in
-    (rw c.placed.ensures (read_failed (full_at from.order c.args.ty.now) c.args.registry.now from.rest from.end c.in-Err.stop failed), refl, refl)
+    let failed = rw (c.new-defined.ensures, c.order.ensures, c.rest-bytes.ensures) at c.in-Err.ensures.exact in
+    (rw (c.placed.ensures, c.length.ensures) (read_failed (full_at from.order c.args.ty.now) c.args.registry.now from.rest from.end c.in-Err.stop failed), refl, refl)
 
 pub returns-in-Err-clause-found : goal.returns-in-Err-clause-found
 returns-in-Err-clause-found c = λ front rest v after full parts.

@@ -1,15 +1,19 @@
-use Rattle.std.proofs.Common.{◌≡◌, ◌≤◌, ◌+◌, ◌∙◌, length, get_or, drop, arith, rules}
+use Rattle.std.proofs.Common.{◌≡◌, ◌≤◌, ◌+◌, ◌∙◌, List, ap, sym, length, get_or, drop, arith, rules}
 use Rattle.std.specs.FinSet as set
 use Rattle.std.proofs.lemmas.List.{length-append}
 use Rattle.std.proofs.lemmas.Result.{err_from_is_err_and}
+use Rattle.pvd_type.specs.Tree.{Tree}
 use Rattle.pvd_type.specs.View.{shape_view, members_view}
 use Rattle.pvd_type.specs.Numbers.{numbered, numbered_fields}
+use Rattle.pvd_type.proofs.At.{lone}
+use Rattle.pvd_type.proofs.Shapes.{unentered}
 use Rattle.pvd_type.proofs.Counts.{nodes_within}
 use Rattle.pvd_type.proofs.Walks.{members_from}
 use Rattle.pvd_value.specs.View.{view, row_view}
 use Rattle.pvd_desc.specs.Types.{laid}
-use Rattle.pvd_codec.specs.Reading.{State, marked_row}
-use Rattle.pvd_codec.proofs.Steps.{row_push, none_left}
+use Rattle.pvd_codec.specs.Reading.{State, marked_with, marked_row}
+use Rattle.pvd_codec.proofs.Steps.{row_push, none_left, along}
+use Rattle.pvd_codec.proofs.Unentered.{leaf_read}
 use Rattle.pvd_codec.proofs.Marked.{marked_ends, marked_goes, marked_done}
 use Rattle.pvd_codec.proofs.parts.+marked.Goals as goal
 
@@ -57,3 +61,26 @@ marked_row_at-returns-clause-values t c =
     let over = none_left ms c.loop-member.member-index c.loop-member-test.false in
     marked_done c.args.order (set.contains c.args.mask.now) c.loop-member.next c.loop-member.values.items (c.loop-member.rest.now, laid c.args.base.now c.loop-member.changed)
     (marked_row c.args.order (set.contains c.args.mask.now) c.args.number (members_view ms) (c.args.bytes.now, laid c.args.base.now c.args.changed.now)) (rw over at c.loop-member.invariant.same)
+
+pub marked_at-returns-in_err-value-in_default : goal.marked_at-returns-in_err-value-in_default
+marked_at-returns-in_err-value-in_default t c =
+    let p = err_from_is_err_and c.from_residual-in_err-value-in_default.result c.from_residual-in_err-value-in_default.ensures.1 in
+    let tree = shape_view c.args.shape.now in
+    let marked = set.contains c.args.mask.now in
+    let st : State = (c.args.bytes.now, laid c.args.base.now c.args.changed.now) in
+    let alone = unentered c.args.shape.now c.in_default.not-Struct in
+    let fails = rw c.contains.ensures at c.in_err-value-in_default.ensures in
+    record {
+      value = rw (p.1, p.2) (along c.in_err-value-in_default.field-0.0 (marked_with c.args.order marked c.args.number tree st) _ (leaf_read c.args.order marked c.args.number tree st alone) fails);
+      next = rw p.1 tt;
+    }
+
+pub marked_at-returns-in_ok-value-in_default : goal.marked_at-returns-in_ok-value-in_default
+marked_at-returns-in_ok-value-in_default t c =
+    let tree = shape_view c.args.shape.now in
+    let st : State = (c.args.bytes.now, laid c.args.base.now c.args.changed.now) in
+    let alone = unentered c.args.shape.now c.in_default.not-Struct in
+    record {
+      value = leaf_read c.args.order (set.contains c.args.mask.now) c.args.number tree st alone ∙ (rw c.contains.ensures at c.in_ok-value-in_default.ensures);
+      next = sym (ap (λ (ts : List Tree). c.args.number + length ts) (lone tree alone));
+    }

@@ -1,14 +1,18 @@
-use Rattle.std.proofs.Common.{◌≡◌, ◌+◌, ◌<◌, ◌≤◌, ◌++◌, ℕ, Bool, length, get_or, drop, rules, arith}
+use Rattle.std.proofs.Common.{◌≡◌, ◌∙◌, ◌+◌, ◌<◌, ◌≤◌, ◌++◌, ℕ, Bool, List, ap, sym, length, get_or, drop, rules, arith}
 use Rattle.std.specs.FinSet as set
 use Rattle.std.proofs.lemmas.List.{length-append}
+use Rattle.pvd_type.specs.Tree.{Tree}
 use Rattle.pvd_type.specs.View.{shape_view, members_view}
 use Rattle.pvd_type.specs.Numbers.{numbered, numbered_fields}
+use Rattle.pvd_type.proofs.At.{lone}
+use Rattle.pvd_type.proofs.Shapes.{unentered}
 use Rattle.pvd_type.proofs.Counts.{nodes_within}
 use Rattle.pvd_value.specs.View.{view, row_view}
 use Rattle.pvd_value.proofs.Rows.{row_from, members_from, rows_split, rows_length, rows_over}
 use Rattle.pvd_codec.specs.Written.{canonical_marked, canonical_marked_row}
 use Rattle.pvd_codec.proofs.Growing.{begins_on, begins_written}
 use Rattle.pvd_codec.proofs.Elements.{on_err, value_done, all_done}
+use Rattle.pvd_codec.proofs.Unentered.{leaf_written, leaf_can}
 use Rattle.pvd_codec.proofs.parts_writing.+part.Goals as goal
 
 pub put_marked_row-put_marked-requires : goal.put_marked_row-put_marked-requires
@@ -70,3 +74,15 @@ put_marked_row-returns-clause-written t c =
     let marked : ℕ → Bool = set.contains c.args.mask.now in
     let rest = canonical_marked_row c.args.order marked c.loop-i.next (row_view (drop i vs)) (members_view (drop i ms)) in
     all_done c.loop-i.out.items rest _ (λ j. canonical_marked_row c.args.order marked c.loop-i.next (over.0 j) (over.1 j)) c.loop-i.invariant.written
+
+pub put_marked-returns-in_ok-put_leaf-in_default : goal.put_marked-returns-in_ok-put_leaf-in_default
+put_marked-returns-in_ok-put_leaf-in_default t c =
+    let tree = shape_view c.args.shape.now in
+    let marked : ℕ → Bool = set.contains c.args.mask.now in
+    let alone = unentered c.args.shape.now c.in_default.not-Struct in
+    record {
+      written = (rw c.contains.ensures at c.in_ok-put_leaf-in_default.ensures.written) ∙ ap (λ (b : List ℕ). c.args.out.now.items ++ b) (sym (leaf_written c.args.order marked c.args.number (view c.args.value.now) tree alone));
+      can = leaf_can marked c.args.number (view c.args.value.now) tree alone (rw c.contains.ensures at c.in_ok-put_leaf-in_default.ensures.can);
+      next = sym (ap (λ (ts : List Tree). c.args.number + length ts) (lone tree alone));
+      begins = tt;
+    }

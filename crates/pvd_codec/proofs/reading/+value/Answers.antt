@@ -2,46 +2,47 @@ use Rattle.std.proofs.Common.{◌≡◌, ◌<◌, ◌+◌, ◌∙◌, List, get_
 use Rattle.std.proofs.lemmas.Result.{err_from_is_err_and}
 use Rattle.std.proofs.lemmas.List.{map_push}
 use Rattle.pva_wire.specs.Reading.{size_at}
-use Rattle.pvd_type.specs.Tree.{Tree, node, struct_list, union_list}
-use Rattle.pvd_type.specs.declared.shape.Node.{out-Node}
+use Rattle.pvd_type.specs.Tree.{Tree, leaf, variant_list, node, struct_list, union_list}
+use Rattle.pvd_type.specs.declared.shape.Node.{Node, out-Node}
 use Rattle.pvd_type.specs.declared.shape.Member.{Member}
 use Rattle.pvd_type.specs.View.{shape_view, members_view}
 use Rattle.pvd_type.proofs.Counts.{nodes_within}
+use Rattle.pvd_type.proofs.Shapes.{struct_list_is, union_list_is, variant_list_is}
 use Rattle.pvd_type.proofs.Walks.{members_from}
 use Rattle.pvd_value.specs.Data.{Data, selected, carried}
-use Rattle.pvd_value.specs.View.{view, row_view, parcel_view}
-use Rattle.pvd_value.proofs.Rows.{view_selected, view_carried, view_structs, view_unions}
+use Rattle.pvd_value.specs.View.{view, row_view, boxed_view, parcel_view}
+use Rattle.pvd_value.proofs.Rows.{view_selected, view_carried, view_structs, view_unions, view_variants}
 use Rattle.pvd_desc.specs.Types.{laid}
 use Rattle.pvd_desc.specs.Reading.{desc_at}
-use Rattle.pvd_codec.specs.Reading.{State, Parcel, described_stop, items_at, flagged, row_at, element_at, parcel_at}
+use Rattle.pvd_codec.specs.Reading.{State, Parcel, described_stop, items_at, flagged, row_at, element_at, pair_view, parcel_at}
 use Rattle.pvd_codec.proofs.Loop.{goes_on, ends, is_done}
-use Rattle.pvd_codec.proofs.Steps.{nodes_at, row_ends, row_goes, row_push, row_done, none_left, structs_tree, unions_tree, described_fails, structs_fail, structs_are, unions_fail, unions_are, variant_is, union_bad, union_fails, union_is, parcel_none, parcel_fails, parcel_null, parcel_value_fails, parcel_is}
+use Rattle.pvd_codec.proofs.Steps.{nodes_at, row_ends, row_goes, row_push, row_done, none_left, described_fails, structs_fail, structs_are, unions_fail, unions_are, variants_are, variant_is, union_bad, union_fails, union_is, parcel_none, parcel_fails, parcel_null, parcel_value_fails, parcel_is}
 use Rattle.pvd_codec.proofs.reading.+value.Goals as goal
 
 pub elements_at-returns-in_err-value : goal.elements_at-returns-in_err-value
 elements_at-returns-in_err-value t c =
     let item = element_at c.args.left c.args.order c.args.element (members_view c.args.members.now) in
-    let p = err_from_is_err_and c.from_residual.result c.from_residual.ensures.1 in
-    rw (p.1, p.2) (ends item c.in_err-value.field-0.0 (map (option_map view) c.loop.values.items) c.args.count c.loop.counter (c.loop.rest.now, laid c.args.base.now c.loop.changed)
+    let p = err_from_is_err_and c.from_residual-in_err-value.result c.from_residual-in_err-value.ensures.1 in
+    rw (p.1, p.2) (ends item c.in_err-value.field-0.0 (map (option_map boxed_view) c.loop.values.items) c.args.count c.loop.counter (c.loop.rest.now, laid c.args.base.now c.loop.changed)
     (items_at item c.args.count (c.args.bytes.now, laid c.args.base.now c.args.changed.now)) c.loop-test.true c.in_err-value.ensures c.loop.invariant)
 
 pub elements_at-loop-preserved : goal.elements_at-loop-preserved
 elements_at-loop-preserved t c =
     let item = element_at c.args.left c.args.order c.args.element (members_view c.args.members.now) in
-    rw (c.in_ok-push.ensures.items, map_push (option_map view) c.loop.values.items c.in_ok-value.value)
-    (goes_on item (map (option_map view) c.loop.values.items) c.args.count c.loop.counter (c.loop.rest.now, laid c.args.base.now c.loop.changed) (option_map view c.in_ok-value.value)
+    rw (c.in_ok-push.ensures.items, map_push (option_map boxed_view) c.loop.values.items c.in_ok-value.value)
+    (goes_on item (map (option_map boxed_view) c.loop.values.items) c.args.count c.loop.counter (c.loop.rest.now, laid c.args.base.now c.loop.changed) (option_map boxed_view c.in_ok-value.value)
     (c.in_ok-value.after.now, laid c.args.base.now c.element_at.new.changed) (items_at item c.args.count (c.args.bytes.now, laid c.args.base.now c.args.changed.now)) c.loop-test.true c.in_ok-value.ensures c.loop.invariant)
 
 pub elements_at-returns : goal.elements_at-returns
 elements_at-returns t c =
     let item = element_at c.args.left c.args.order c.args.element (members_view c.args.members.now) in
-    is_done item (map (option_map view) c.loop.values.items) c.args.count c.loop.counter (c.loop.rest.now, laid c.args.base.now c.loop.changed)
+    is_done item (map (option_map boxed_view) c.loop.values.items) c.args.count c.loop.counter (c.loop.rest.now, laid c.args.base.now c.loop.changed)
     (items_at item c.args.count (c.args.bytes.now, laid c.args.base.now c.args.changed.now)) c.loop-test.false c.loop.invariant
 
 pub parcels_at-returns-in_err-value : goal.parcels_at-returns-in_err-value
 parcels_at-returns-in_err-value t c =
     let item = flagged (parcel_at c.args.left c.args.order) in
-    let p = err_from_is_err_and c.from_residual.result c.from_residual.ensures.1 in
+    let p = err_from_is_err_and c.from_residual-in_err-value.result c.from_residual-in_err-value.ensures.1 in
     rw (p.1, p.2) (ends item c.in_err-value.field-0.0 (map (option_map parcel_view) c.loop.values.items) c.args.count c.loop.counter (c.loop.rest.now, laid c.args.base.now c.loop.changed)
     (items_at item c.args.count (c.args.bytes.now, laid c.args.base.now c.args.changed.now)) c.loop-test.true c.in_err-value.ensures c.loop.invariant)
 
@@ -73,7 +74,7 @@ row_at-returns-in_err-value t c =
     let m = c.member-item.result in
     let here : get_or ms i m ≡ m = search rules in
     let rest = members_from ms i m c.loop-member-test.true here in
-    let p = err_from_is_err_and c.from_residual.result c.from_residual.ensures.1 in
+    let p = err_from_is_err_and c.from_residual-in_err-value.result c.from_residual-in_err-value.ensures.1 in
     rw (p.1, p.2) (row_ends c.args.order (parcel_at c.args.left c.args.order) (row_view c.loop-member.values.items) m.name (shape_view m.shape) (members_view (drop (i + 1) ms)) (c.loop-member.rest.now, laid c.args.base.now c.loop-member.changed)
     c.in_err-value.field-0.0 (row_at c.args.left c.args.order (members_view ms) (c.args.bytes.now, laid c.args.base.now c.args.changed.now)) c.in_err-value.ensures (rw rest at c.loop-member.invariant))
 
@@ -164,38 +165,52 @@ variant_at-returns t c =
     let ty : Tree = c.in-Some.ty in
     let made = c.in_ok-value.value in
     let after : State = (c.in_ok-parcel.rest.now, laid c.args.base.now c.parcel_at.new.changed) in
-    let pair : option_map parcel_view c.in_ok-parcel.parcel ≡ Some (ty, view c.in-Some.value) = search rules in
+    let pair : option_map pair_view c.in_ok-parcel.parcel ≡ Some (ty, view c.in-Some.value) = search rules in
     let parcel : parcel_at c.args.left c.args.order (c.args.bytes.now, laid c.args.base.now c.args.changed.now) ≡ Ok (Some (ty, view c.in-Some.value), after) = c.in_ok-parcel.ensures ∙ ap (λ (o : Parcel). Ok (o, after)) pair in
     let shown : view c.in-Some.value ≡ view made.value = ap view (sym c.in_ok-value.ensures.ok) in
     variant_is c.args.order (parcel_at c.args.left c.args.order) (c.args.bytes.now, laid c.args.base.now c.args.changed.now) ty (view c.in-Some.value) after parcel
     ∙ ap (λ (d : Data). Ok (d, after)) (ap (carried ty) shown ∙ sym (view_carried ty made))
 
-pub value_at-returns-in_err-values-in-StructList : goal.value_at-returns-in_err-values-in-StructList
-value_at-returns-in_err-values-in-StructList t c =
+pub shaped_at-returns-in_err-values-in-StructList : goal.shaped_at-returns-in_err-values-in-StructList
+shaped_at-returns-in_err-values-in-StructList t c =
     let p = err_from_is_err_and c.from_residual-in_err-values-in-StructList.result c.from_residual-in_err-values-in-StructList.ensures.1 in
-    let fs = members_view c.deref-in-StructList.result.now in
-    let tree : shape_view c.args.shape.now ≡ node struct_list (out-Node c.in-StructList.node).id fs = ap shape_view c.in-StructList.is ∙ structs_tree c.in-StructList.node ∙ ap (λ (ms : List Member). node struct_list (out-Node c.in-StructList.node).id (members_view ms)) (sym c.deref-in-StructList.ensures.value) in
-    rw (p.1, p.2, tree) (structs_fail c.args.order (parcel_at c.args.left c.args.order) (out-Node c.in-StructList.node).id fs (c.args.bytes.now, laid c.args.base.now c.args.changed.now) c.in_err-values-in-StructList.field-0.0 c.in_err-values-in-StructList.ensures)
+    let listed : c.deref-in-StructList-2.result.now ≡ (out-Node c.in-StructList.node.value).members.items = c.deref-in-StructList-2.ensures.value ∙ ap (λ (n : Node). (out-Node n).members.items) c.deref-in-StructList.ensures in
+    let fs = members_view c.deref-in-StructList-2.result.now in
+    let tree : shape_view c.args.shape.now ≡ node struct_list (out-Node c.in-StructList.node.value).id fs = ap shape_view c.in-StructList.is ∙ struct_list_is c.in-StructList.node ∙ ap (λ (ms : List Member). node struct_list (out-Node c.in-StructList.node.value).id (members_view ms)) (sym listed) in
+    rw (p.1, p.2, tree) (structs_fail c.args.order (parcel_at c.args.left c.args.order) (out-Node c.in-StructList.node.value).id fs (c.args.bytes.now, laid c.args.base.now c.args.changed.now) c.in_err-values-in-StructList.field-0.0 c.in_err-values-in-StructList.ensures)
 
-pub value_at-returns-in_err-values-in-UnionList : goal.value_at-returns-in_err-values-in-UnionList
-value_at-returns-in_err-values-in-UnionList t c =
+pub shaped_at-returns-in_err-values-in-UnionList : goal.shaped_at-returns-in_err-values-in-UnionList
+shaped_at-returns-in_err-values-in-UnionList t c =
     let p = err_from_is_err_and c.from_residual-in_err-values-in-UnionList.result c.from_residual-in_err-values-in-UnionList.ensures.1 in
-    let fs = members_view c.deref-in-UnionList.result.now in
-    let tree : shape_view c.args.shape.now ≡ node union_list (out-Node c.in-UnionList.node).id fs = ap shape_view c.in-UnionList.is ∙ unions_tree c.in-UnionList.node ∙ ap (λ (ms : List Member). node union_list (out-Node c.in-UnionList.node).id (members_view ms)) (sym c.deref-in-UnionList.ensures.value) in
-    rw (p.1, p.2, tree) (unions_fail c.args.order (parcel_at c.args.left c.args.order) (out-Node c.in-UnionList.node).id fs (c.args.bytes.now, laid c.args.base.now c.args.changed.now) c.in_err-values-in-UnionList.field-0.0 c.in_err-values-in-UnionList.ensures)
+    let listed : c.deref-in-UnionList-2.result.now ≡ (out-Node c.in-UnionList.node.value).members.items = c.deref-in-UnionList-2.ensures.value ∙ ap (λ (n : Node). (out-Node n).members.items) c.deref-in-UnionList.ensures in
+    let fs = members_view c.deref-in-UnionList-2.result.now in
+    let tree : shape_view c.args.shape.now ≡ node union_list (out-Node c.in-UnionList.node.value).id fs = ap shape_view c.in-UnionList.is ∙ union_list_is c.in-UnionList.node ∙ ap (λ (ms : List Member). node union_list (out-Node c.in-UnionList.node.value).id (members_view ms)) (sym listed) in
+    rw (p.1, p.2, tree) (unions_fail c.args.order (parcel_at c.args.left c.args.order) (out-Node c.in-UnionList.node.value).id fs (c.args.bytes.now, laid c.args.base.now c.args.changed.now) c.in_err-values-in-UnionList.field-0.0 c.in_err-values-in-UnionList.ensures)
 
-pub value_at-returns-in_ok-values-in-StructList : goal.value_at-returns-in_ok-values-in-StructList
-value_at-returns-in_ok-values-in-StructList t c =
-    let fs = members_view c.deref-in-StructList.result.now in
-    let tree : shape_view c.args.shape.now ≡ node struct_list (out-Node c.in-StructList.node).id fs = ap shape_view c.in-StructList.is ∙ structs_tree c.in-StructList.node ∙ ap (λ (ms : List Member). node struct_list (out-Node c.in-StructList.node).id (members_view ms)) (sym c.deref-in-StructList.ensures.value) in
+pub shaped_at-returns-in_ok-values-in-StructList : goal.shaped_at-returns-in_ok-values-in-StructList
+shaped_at-returns-in_ok-values-in-StructList t c =
+    let listed : c.deref-in-StructList-2.result.now ≡ (out-Node c.in-StructList.node.value).members.items = c.deref-in-StructList-2.ensures.value ∙ ap (λ (n : Node). (out-Node n).members.items) c.deref-in-StructList.ensures in
+    let fs = members_view c.deref-in-StructList-2.result.now in
+    let tree : shape_view c.args.shape.now ≡ node struct_list (out-Node c.in-StructList.node.value).id fs = ap shape_view c.in-StructList.is ∙ struct_list_is c.in-StructList.node ∙ ap (λ (ms : List Member). node struct_list (out-Node c.in-StructList.node.value).id (members_view ms)) (sym listed) in
     let after : State = (c.in_ok-values-in-StructList.rest.now, laid c.args.base.now c.listed_at.new.changed) in
-    rw tree (structs_are c.args.order (parcel_at c.args.left c.args.order) (out-Node c.in-StructList.node).id fs (c.args.bytes.now, laid c.args.base.now c.args.changed.now) (map (option_map view) c.in_ok-values-in-StructList.values.items) after c.in_ok-values-in-StructList.ensures
+    rw tree (structs_are c.args.order (parcel_at c.args.left c.args.order) (out-Node c.in-StructList.node.value).id fs (c.args.bytes.now, laid c.args.base.now c.args.changed.now) (map (option_map boxed_view) c.in_ok-values-in-StructList.values.items) after c.in_ok-values-in-StructList.ensures
     ∙ ap (λ (d : Data). Ok (d, after)) (sym (view_structs c.in_ok-values-in-StructList.values)))
 
-pub value_at-returns-in_ok-values-in-UnionList : goal.value_at-returns-in_ok-values-in-UnionList
-value_at-returns-in_ok-values-in-UnionList t c =
-    let fs = members_view c.deref-in-UnionList.result.now in
-    let tree : shape_view c.args.shape.now ≡ node union_list (out-Node c.in-UnionList.node).id fs = ap shape_view c.in-UnionList.is ∙ unions_tree c.in-UnionList.node ∙ ap (λ (ms : List Member). node union_list (out-Node c.in-UnionList.node).id (members_view ms)) (sym c.deref-in-UnionList.ensures.value) in
+pub shaped_at-returns-in_ok-values-in-UnionList : goal.shaped_at-returns-in_ok-values-in-UnionList
+shaped_at-returns-in_ok-values-in-UnionList t c =
+    let listed : c.deref-in-UnionList-2.result.now ≡ (out-Node c.in-UnionList.node.value).members.items = c.deref-in-UnionList-2.ensures.value ∙ ap (λ (n : Node). (out-Node n).members.items) c.deref-in-UnionList.ensures in
+    let fs = members_view c.deref-in-UnionList-2.result.now in
+    let tree : shape_view c.args.shape.now ≡ node union_list (out-Node c.in-UnionList.node.value).id fs = ap shape_view c.in-UnionList.is ∙ union_list_is c.in-UnionList.node ∙ ap (λ (ms : List Member). node union_list (out-Node c.in-UnionList.node.value).id (members_view ms)) (sym listed) in
     let after : State = (c.in_ok-values-in-UnionList.rest.now, laid c.args.base.now c.listed_at-in-UnionList.new.changed) in
-    rw tree (unions_are c.args.order (parcel_at c.args.left c.args.order) (out-Node c.in-UnionList.node).id fs (c.args.bytes.now, laid c.args.base.now c.args.changed.now) (map (option_map view) c.in_ok-values-in-UnionList.values.items) after c.in_ok-values-in-UnionList.ensures
+    rw tree (unions_are c.args.order (parcel_at c.args.left c.args.order) (out-Node c.in-UnionList.node.value).id fs (c.args.bytes.now, laid c.args.base.now c.args.changed.now) (map (option_map boxed_view) c.in_ok-values-in-UnionList.values.items) after c.in_ok-values-in-UnionList.ensures
     ∙ ap (λ (d : Data). Ok (d, after)) (sym (view_unions c.in_ok-values-in-UnionList.values)))
+
+pub shaped_at-returns-in_ok-values-in-VariantList : goal.shaped_at-returns-in_ok-values-in-VariantList
+shaped_at-returns-in_ok-values-in-VariantList t c =
+    let tree : shape_view c.args.shape.now ≡ leaf variant_list = ap shape_view c.in-VariantList.is ∙ variant_list_is in
+    let after : State = (c.in_ok-values-in-VariantList.rest.now, laid c.args.base.now c.variants_at.new.changed) in
+    rw tree (variants_are c.args.order (parcel_at c.args.left c.args.order) (c.args.bytes.now, laid c.args.base.now c.args.changed.now) (map (option_map parcel_view) c.in_ok-values-in-VariantList.values.items) after c.in_ok-values-in-VariantList.ensures
+    ∙ ap (λ (d : Data). Ok (d, after)) (sym (view_variants c.in_ok-values-in-VariantList.values)))
+
+pub value_at-returns : goal.value_at-returns
+value_at-returns t c = rw c.spend.ensures at c.shaped_at.ensures

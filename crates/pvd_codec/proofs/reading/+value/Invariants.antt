@@ -1,7 +1,7 @@
 use Rattle.std.proofs.Common.{◌≡◌, ◌+◌, ◌-◌, ◌*◌, drop, map, option_map}
 use Rattle.pvd_type.specs.View.{shape_view, members_view}
 use Rattle.pvd_type.specs.Numbers.{nodes, nodes_in}
-use Rattle.pvd_value.specs.View.{view, row_view, parcel_view}
+use Rattle.pvd_value.specs.View.{row_view, boxed_view, parcel_view}
 use Rattle.pvd_value.proofs.Rows.{joined}
 use Rattle.pvd_desc.specs.Types.{laid}
 use Rattle.pvd_codec.specs.Reading.{items_at, flagged, row_at, element_at, parcel_at}
@@ -10,7 +10,10 @@ use Rattle.pvd_codec.proofs.Steps.{with_row}
 use Rattle.pvd_codec.proofs.reading.+value.Given as goal
 
 abbrev pub decreases-value_at : goal.decreases-value_at
-decreases-value_at f = 32768 * f.left + 8 * nodes (shape_view f.shape.now)
+decreases-value_at f = 32768 * f.left + (8 * nodes (shape_view f.shape.now) + 1)
+
+abbrev pub decreases-shaped_at : goal.decreases-shaped_at
+decreases-shaped_at f = 32768 * f.left + 8 * nodes (shape_view f.shape.now)
 
 abbrev pub decreases-listed_at : goal.decreases-listed_at
 decreases-listed_at f = 32768 * f.left + (8 * nodes_in (members_view f.members.now) + 7)
@@ -22,10 +25,10 @@ abbrev pub decreases-element_at : goal.decreases-element_at
 decreases-element_at f = 32768 * f.left + (8 * nodes_in (members_view f.members.now) + 5)
 
 abbrev pub decreases-row_at : goal.decreases-row_at
-decreases-row_at f = 32768 * f.left + (8 * nodes_in (members_view f.members.now) + 1)
+decreases-row_at f = 32768 * f.left + (8 * nodes_in (members_view f.members.now) + 2)
 
 abbrev pub decreases-union_at : goal.decreases-union_at
-decreases-union_at f = 32768 * f.left + (8 * nodes_in (members_view f.members.now) + 1)
+decreases-union_at f = 32768 * f.left + (8 * nodes_in (members_view f.members.now) + 2)
 
 abbrev pub decreases-variants_at : goal.decreases-variants_at
 decreases-variants_at f = 32768 * f.left + 7
@@ -49,7 +52,7 @@ invariant-row_at-loop-member l =
 
 abbrev pub invariant-elements_at-loop : goal.invariant-elements_at-loop
 invariant-elements_at-loop l =
-    with_front (map (option_map view) l.values.items) (items_at (element_at l.left l.order l.element (members_view l.members)) (l.count - l.counter) (l.rest, laid l.base l.changed))
+    with_front (map (option_map boxed_view) l.values.items) (items_at (element_at l.left l.order l.element (members_view l.members)) (l.count - l.counter) (l.rest, laid l.base l.changed))
     ≡ items_at (element_at l.left l.order l.element (members_view l.members)) l.count (l.bytes, laid l.base l.fn.changed)
 
 abbrev pub invariant-parcels_at-loop : goal.invariant-parcels_at-loop

@@ -20,4 +20,4 @@ pub returns-in-Err : goal.returns-in-Err
 returns-in-Err c =
     let from = c.args.from.now in
     let failed = rw (c.new-defined.ensures, c.order.ensures, c.rest-bytes.ensures) at c.in-Err.ensures in
-    record { exact = (rw c.placed.ensures (read_failed from.order c.args.registry.now from.rest from.end c.in-Err.stop failed), refl, refl) }
+    record { exact = (rw (c.placed.ensures, c.length.ensures) (read_failed from.order c.args.registry.now from.rest from.end c.in-Err.stop failed), refl, refl) }

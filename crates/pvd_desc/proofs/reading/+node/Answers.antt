@@ -1,8 +1,7 @@
 use Rattle.std.proofs.Common.{◌≡◌, ◌∙◌, ◌<◌, ◌-◌, ◌+◌, ap, sym, rules, arith, List, ℕ, Ok}
-use Rattle.pvd_type.specs.Tree.{Tree, Fields}
-use Rattle.pvd_type.specs.declared.shape.Node.{fold-roll-Node}
+use Rattle.pvd_type.specs.Tree.{Fields}
 use Rattle.std.proofs.lemmas.Result.{err_from_is_err_and}
-use Rattle.pvd_type.specs.View.{shape_step, member_step, node_step, shape_view}
+use Rattle.pvd_type.specs.View.{shape_view}
 use Rattle.pvd_desc.specs.Types.{laid}
 use Rattle.pvd_desc.specs.Reading.{fields_below, node_at}
 use Rattle.pvd_desc.proofs.Chains.{fields_fails, fields_goes, fields_done, inside_fails, inside_is}
@@ -51,7 +50,7 @@ pub inside_at-returns-clause-value : goal.inside_at-returns-clause-value
 inside_at-returns-clause-value t c =
     inside_is c.args.order (33 - c.args.room) c.args.room c.args.seen (laid c.args.base.now c.args.changed.now) c.args.bytes.now _ c.in_ok-count.count _ c.in_ok-count.rest.now c.requires.room.0 c.in_ok-id.ensures c.in_ok-count.ensures
     _ _ _ _ c.in_ok-members.ensures.value
-    ∙ ap (λ (p : List ℕ × Fields). Ok (p, c.in_ok-members.seen, c.in_ok-members.rest.now, laid c.args.base.now c.fields_at.new.changed)) (sym (fold-roll-Node Tree (List ℕ × Tree) (List ℕ × Fields) shape_step member_step node_step _))
+    ∙ ap (λ (p : List ℕ × Fields). Ok (p, c.in_ok-members.seen, c.in_ok-members.rest.now, laid c.args.base.now c.fields_at.new.changed)) (sym c.in_ok-of.ensures)
 
 pub node_at-define_all-requires : goal.node_at-define_all-requires
 node_at-define_all-requires t c =

@@ -1,0 +1,239 @@
+#!/bin/sh
+# Reads the worst payloads of 64 MiB that we know of, one after another, each in a process of its own, and copies a payload of that size.
+# Prints for each whether it was read or refused, the seconds that the reading took and the greatest memory of the process in MiB, the payload
+# and the making of it included. The stack has 2 MiB. It works in a copy of the crates. Needs `rt`, `/usr/bin/time` and some minutes.
+set -eu
+top=$(cd "$(dirname "$0")/.." && pwd)
+work=$(mktemp -d)
+trap 'rm -rf "$work"' EXIT
+mkdir -p "$work/crates/hostile_bench/src"
+for name in pvd_type pvd_value pva_wire pvd_desc pvd_codec; do
+    mkdir -p "$work/crates/$name"
+    (cd "$top/crates/$name" && cp -r src specs proofs "$work/crates/$name/")
+    grep -E "^$name:" "$top/crates.txt" >> "$work/crates.txt"
+done
+echo 'hostile_bench: pvd_codec pvd_desc pvd_value pva_wire pvd_type' >> "$work/crates.txt"
+git init -q "$work"
+cat > "$work/crates/hostile_bench/src/main.rt" <<'RT'
+//! Hostile payloads, each read once.
+#![tactic(auto)]
+
+use pva_wire::{Cursor, Order, write_size};
+use pvd_codec::{read_full, read_part};
+use pvd_desc::{Registry, read_desc};
+use pvd_type::{Extent, NoMemory, PvType, Scalar, Shape};
+use std::alloc::{AllocError, Global};
+use std::time::Instant;
+use std::{env, io};
+
+const SIZE: u32 = 67_108_864;
+
+/// Bytes one after another, so many times.
+fn repeat(out: &mut Vec<u8>, bytes: &[u8], times: u32) -> Result<(), AllocError> {
+    for _ in 0..times {
+        out.extend_from_slice(bytes)?;
+    }
+    Ok(())
+}
+
+/// A size, four bytes after its code.
+fn size(out: &mut Vec<u8>, number: u32) -> Result<(), AllocError> {
+    out.push(0xFE)?;
+    out.extend_from_slice(&number.to_be_bytes())?;
+    Ok(())
+}
+
+/// One of sixteen letters.
+fn letter(number: u32) -> u8 {
+    b'a' + (number % 16) as u8
+}
+
+/// A name of letters for a number: `length` letters, the last four of which tell it.
+fn name(out: &mut Vec<u8>, number: u32, length: u32) -> Result<(), AllocError> {
+    size(out, length)?;
+    repeat(out, b"a", length.saturating_sub(4))?;
+    out.push(letter(number))?;
+    out.push(letter(number / 16))?;
+    out.push(letter(number / 256))?;
+    out.push(letter(number / 4096))?;
+    Ok(())
+}
+
+/// The description of a structure or a union of so many members of this code, defined under 1.
+fn defined(out: &mut Vec<u8>, code: u8, members: u32, member: &[u8]) -> Result<(), AllocError> {
+    out.extend_from_slice(&[0xFD, 0, 1, code, 0])?;
+    size(out, members)?;
+    for number in 0..members {
+        name(out, number, 4)?;
+        out.extend_from_slice(member)?;
+    }
+    Ok(())
+}
+
+/// What is read before the payload, a description, or nothing.
+fn before(out: &mut Vec<u8>, case: &str) -> Result<(), AllocError> {
+    match case {
+        "cached" => defined(out, 0x81, 4095, &[0x00]),
+        "nested" => defined(out, 0x80, 4000, &[0x80, 0, 0]),
+        "empty" => defined(out, 0x80, 4000, &[0x80, 0, 0]),
+        _ => Ok(()),
+    }
+}
+
+/// So many elements of a list of variants.
+fn list(out: &mut Vec<u8>, element: &[u8], count: u32) -> Result<(), AllocError> {
+    size(out, count)?;
+    repeat(out, element, count)
+}
+
+/// The payload of a case.
+fn payload(out: &mut Vec<u8>, case: &str) -> Result<(), AllocError> {
+    match case {
+        "copy" => repeat(out, b"a", SIZE),
+        "nulls" => list(out, &[0], SIZE),
+        "bytes" => list(out, &[1, 0x20, 0], SIZE / 3),
+        "defined" => list(out, &[1, 0xFD, 0, 7, 0x20, 0], SIZE / 6),
+        "cached" => list(out, &[1, 0xFE, 0, 1, 0xFF], SIZE / 5),
+        "empty" => list(out, &[1, 0xFE, 0, 1], SIZE / 4),
+        "nested" => list(out, &[1, 0x80, 0, 1, 1, b'a', 0xFE, 0, 1], SIZE / 9),
+        "deep" => deep(out),
+        "named" => named(out),
+        "chain" => chain(out),
+        "siblings" => siblings(out),
+        "texts" => {
+            size(out, SIZE)?;
+            repeat(out, &[0], SIZE)
+        }
+        "structures" => {
+            size(out, SIZE / 2)?;
+            repeat(out, &[1, 7], SIZE / 2)
+        }
+        "zeros" => {
+            size(out, SIZE)?;
+            repeat(out, &[0], SIZE)
+        }
+        _ => repeat(out, &[0], 1),
+    }
+}
+
+/// A definition with a name of 60 MiB, and 2,000 members of that type.
+fn named(out: &mut Vec<u8>) -> Result<(), AllocError> {
+    out.extend_from_slice(&[0x80, 0])?;
+    size(out, 2001)?;
+    name(out, 0, 4)?;
+    out.extend_from_slice(&[0xFD, 0, 2, 0x80])?;
+    name(out, 0, 62_914_560)?;
+    out.push(0)?;
+    for number in 1..2001 {
+        name(out, number, 4)?;
+        out.extend_from_slice(&[0xFE, 0, 2])?;
+    }
+    Ok(())
+}
+
+/// Sixteen variants inside one another, each but the last of 31 lists inside one another.
+fn deep(out: &mut Vec<u8>) -> Result<(), AllocError> {
+    out.extend_from_slice(&[1, 1])?;
+    for _ in 0..15 {
+        repeat(out, &[0x88, 0x80, 0, 1, 1, b'a'], 31)?;
+        out.extend_from_slice(&[0x82])?;
+        repeat(out, &[1, 1], 31)?;
+    }
+    out.extend_from_slice(&[0x20, 7])?;
+    Ok(())
+}
+
+/// 22 million definitions of one byte, under all ids.
+fn chain(out: &mut Vec<u8>) -> Result<(), AllocError> {
+    for number in 0..22_369_621u32 {
+        let id = number.wrapping_mul(40_503) % 65_536;
+        out.extend_from_slice(&[0xFD, (id / 256) as u8, (id % 256) as u8])?;
+    }
+    out.push(0x20)?;
+    Ok(())
+}
+
+/// 4,095 siblings whose names of 16,384 letters differ at the end.
+fn siblings(out: &mut Vec<u8>) -> Result<(), AllocError> {
+    out.extend_from_slice(&[0x80, 0])?;
+    size(out, 4095)?;
+    for number in 0..4095 {
+        name(out, number, 16_384)?;
+        out.push(0x00)?;
+    }
+    Ok(())
+}
+
+/// The type of the value of a case.
+fn shape(case: &str) -> Shape {
+    match case {
+        "texts" => Shape::List(Scalar::Text, Extent::Variable),
+        "part" => Shape::List(Scalar::I32, Extent::Fixed(0x7FFF_FFFE)),
+        "zeros" => Shape::Plain(Scalar::I32),
+        _ => Shape::VariantList,
+    }
+}
+
+/// A list of structures of one byte.
+fn small_structures(alloc: Global) -> Option<PvType> {
+    let bytes = [0x88, 0x80, 0, 1, 1, b'a', 0x20];
+    let mut from = Cursor::new(&bytes, Order::Big);
+    match read_desc(alloc, &mut from, &mut Registry::new(alloc)) {
+        Ok(ty) => ty,
+        Err(_) => None,
+    }
+}
+
+/// Whether the payload is read.
+fn read(alloc: Global, case: &str, ty: &PvType, known: &mut Registry, bytes: &[u8]) -> bool {
+    let mut from = Cursor::new(bytes, Order::Big);
+    match case {
+        "copy" => Vec::from_slice(alloc, bytes).is_ok(),
+        "named" | "chain" | "siblings" => read_desc(alloc, &mut from, known).is_ok(),
+        "zeros" | "part" => read_part(alloc, &mut from, known, ty).is_ok(),
+        _ => read_full(alloc, &mut from, known, ty).is_ok(),
+    }
+}
+
+fn measure(rt: &HostRuntime, case: &str) -> io::Result<()> {
+    let alloc = rt.alloc();
+    let mut known = Registry::new(alloc);
+    let mut first: Vec<u8> = Vec::new(alloc);
+    before(&mut first, case)?;
+    if !first.is_empty() {
+        let _ = read_desc(alloc, &mut Cursor::new(&first, Order::Big), &mut known);
+    }
+    let mut bytes: Vec<u8> = Vec::with_capacity(alloc, 70_000_000)?;
+    payload(&mut bytes, case)?;
+    let made = match case {
+        "structures" => small_structures(alloc),
+        _ => PvType::check(alloc, shape(case)).ok(),
+    };
+    let Some(ty) = made else {
+        return rt.println("no type");
+    };
+    let start = Instant::now(rt)?;
+    let whole = read(alloc, case, &ty, &mut known, &bytes);
+    let taken = start.elapsed(rt)?;
+    let (seconds, hundredths) = (taken.as_secs(), taken.subsec_nanos() / 10_000_000);
+    let length = bytes.len();
+    let told = if whole { "read" } else { "refused" };
+    println!(rt; "{case}: {length} bytes {told} in {seconds}.{hundredths:02} s")
+}
+
+fn main(rt: HostRuntime) -> io::Result<()> {
+    let mut arguments = env::args(&rt)?;
+    let _name = arguments.next();
+    let words: Vec<String> = arguments.collect(rt.alloc())?;
+    match words.first() {
+        Some(word) => measure(&rt, word.as_str()),
+        None => measure(&rt, "copy"),
+    }
+}
+RT
+cd "$work/crates/hostile_bench"
+rt run 2>"$work/log" >/dev/null || { cat "$work/log"; exit 1; }
+for case in copy deep nulls bytes defined cached empty nested named chain siblings texts structures zeros part; do
+    (ulimit -v 8000000; ulimit -s 2048; /usr/bin/time -f '%M' -o "$work/peak" out/hostile_bench "$case" || echo "$case: ended with no answer")
+    echo "    at most $(($(tail -1 "$work/peak") / 1024)) MiB"
+done
