@@ -5,9 +5,11 @@ use native.Mathlib.Decide.{ℕ_discrete}
 use Rattle.std.proofs.Math.Seq.{drop-append_seam}
 use Rattle.std.proofs.lemmas.List.{append-nil, append_cancel_left}
 use Rattle.std.proofs.lemmas.Option.{slice_get_within}
-use Rattle.hall_core.specs.History.{Meaning, Among, Every, IsLegalAfter}
+use Rattle.hall_core.specs.Meanings.{Meaning, Among}
+use Rattle.histories.specs.History.{Every, IsLegalAfter}
 use Rattle.hall_core.specs.Floor.{FloorState, Event, take_cell, take_hub, commit, look, give_cell, Holds, written, by_actor, entries_in, IsSound, MayCommit, IsReady, IsEnabled, Steps, after, made, Runs, ends, goes, LeavesHeld, AllLeaveHeld}
-use Rattle.hall_core.proofs.Histories.{not_first, legal_snoc}
+use Rattle.hall_core.proofs.Numbers.{not_first}
+use Rattle.histories.proofs.Judged.{legal_snoc}
 
 pub get_set_here : {A : Type 0} (xs : List A) (i : ℕ) (x : A) → i < length xs → slice_get (set xs i x) i ≡ Some x
 get_set_here [] i x l = absurd (omega arith)
@@ -118,13 +120,13 @@ module _ (C H E B S M R : Type 0) (law : Meaning C H E B M R S) where
         s.shown c x t.1 ∙ (sym (law.outside (law.base_of f.hub) (law.entries f.hub) may.entry may.legal c (λ a. t.0 ((may.footprint c).1 a)))
         ∙ ap (λ (z : B × List E). law.shown_after z.0 z.1 c) (λ i. (sym may.base i, sym may.entries i))))
         (written_at f.cells writes c x e);
-    legal = subst (λ (z : B × List E). IsLegalAfter law.may_follow z.0 [] z.1) (λ i. (sym may.base i, sym may.entries i)) (legal_snoc law.may_follow (law.base_of f.hub) [] (law.entries f.hub) may.entry s.legal may.legal);
+    legal = subst (λ (z : B × List E). IsLegalAfter (law.may_follow z.0) [] z.1) (λ i. (sym may.base i, sym may.entries i)) (legal_snoc (law.may_follow (law.base_of f.hub)) [] (law.entries f.hub) may.entry s.legal may.legal);
   }
 
   same_sound : (f g : St) → g.cells ≡ f.cells → g.hub ≡ f.hub → IsSound law f → IsSound law g
   same_sound f g cells hub s = record {
     shown = subst (λ (z : List C × H). (c : ℕ) (x : C) → slice_get z.0 c ≡ Some x → law.shows x ≡ law.shown_after (law.base_of z.1) (law.entries z.1) c) (λ i. (sym cells i, sym hub i)) s.shown;
-    legal = subst (λ (h : H). IsLegalAfter law.may_follow (law.base_of h) [] (law.entries h)) (sym hub) s.legal;
+    legal = subst (λ (h : H). IsLegalAfter (law.may_follow (law.base_of h)) [] (law.entries h)) (sym hub) s.legal;
   }
 
   after_sound : (f : St) (event : Ev) → IsReady law f event → IsSound law f → IsSound law (after law f event)

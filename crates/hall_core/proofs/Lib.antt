@@ -1,3 +1,3 @@
-pub mod Histories
+pub mod Numbers
 pub mod Floors
 pub mod TwoCells

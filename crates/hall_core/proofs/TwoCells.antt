@@ -1,6 +1,6 @@
 -- The first entry on two cells.
 use Rattle.std.proofs.Common.{◌≡◌, ◌↔◌, ℕ, zero, suc, Bool, true, false, List, [], ◌∷◌, ◌++◌, length, map, slice_get, sym, refl, subst, ap, ◌∙◌, Some, replicate}
-use Rattle.hall_core.specs.History.{Among}
+use Rattle.hall_core.specs.Meanings.{Among}
 use Rattle.hall_core.specs.Floor.{FloorState, Event, take_cell, take_hub, commit, look, give_cell, Steps, MayCommit}
 use Rattle.hall_core.specs.TwoCells.{two_cells}
 use Rattle.hall_core.proofs.Floors.{length_written}

@@ -1,8 +1,10 @@
--- The floor: cells and a hub, each with at most one holder, and actors that take them, commit entries and give them back.
+-- The floor: cells and a hub, each with at most one holder, and actors that take them, commit entries and give them
+-- back.
 use Rattle.std.specs.Prelude.{◌≡◌, ◌≢◌, ◌↔◌, ℕ, ◌≤◌, Bool, true, false, List, [], ◌∷◌, ◌++◌, Option, Some, None, length, drop, map, replicate, slice_get, slice_set}
 use Rattle.hall_core.specs.declared.floor.FloorEvent.{FloorEvent}
 use Rattle.hall_core.specs.declared.floor.FloorEvent.TheVariants.{Take, TakeHub, Commit, Look, Give}
-use Rattle.hall_core.specs.History.{Meaning, Among, IsLegalAfter}
+use Rattle.hall_core.specs.Meanings.{Meaning, Among}
+use Rattle.histories.specs.History.{IsLegalAfter}
 
 pub record FloorState (C H : Type 0) : Type 0 where
   pub cells : List C
@@ -60,21 +62,24 @@ entries_in (m ∷ ms) = m.1 ∷ entries_in ms
 module _ {C H E B M R S : Type 0} (law : Meaning C H E B M R S) where
   -- each cell shows what the law gives after these entries
   abbrev pub Shows : B → List E → List C → Type 0
-  Shows base entries cells = (cell : ℕ) (value : C) → slice_get cells cell ≡ Some value → law.shows value ≡ law.shown_after base entries cell
+  Shows base entries cells =
+      (cell : ℕ) (value : C) → slice_get cells cell ≡ Some value → law.shows value ≡ law.shown_after base entries cell
 
   -- each cell shows what the law gives after the journal, which is legal
   pub record IsSound (f : FloorState C H) : Type 0 where
     pub shown : Shows (law.base_of f.hub) (law.entries f.hub) f.cells
-    pub legal : IsLegalAfter law.may_follow (law.base_of f.hub) [] (law.entries f.hub)
+    pub legal : IsLegalAfter (law.may_follow (law.base_of f.hub)) [] (law.entries f.hub)
 
-  -- what a commit owes: the hub has one more entry, which is legal, and the cells of its footprint are written with what the law gives after it
+  -- what a commit owes: the hub has one more entry, which is legal, and the cells of its footprint are written with
+  -- what the law gives after it
   pub record MayCommit (f : FloorState C H) (hub : H) (writes : List (ℕ × C)) : Type 0 where
     pub entry : E
     pub base : law.base_of hub ≡ law.base_of f.hub
     pub entries : law.entries hub ≡ law.entries f.hub ++ entry ∷ []
     pub legal : law.may_follow (law.base_of f.hub) (law.entries f.hub) entry
     pub footprint : (cell : ℕ) → Among cell (map (λ w. w.0) writes) ↔ Among cell (law.footprint entry)
-    pub shown : (at : ℕ) (write : ℕ × C) → slice_get writes at ≡ Some write → law.shows write.1 ≡ law.shown_after (law.base_of f.hub) (law.entries hub) write.0
+    pub shown : (at : ℕ) (write : ℕ × C) → slice_get writes at ≡ Some write
+        → law.shows write.1 ≡ law.shown_after (law.base_of f.hub) (law.entries hub) write.0
 
   -- what the caller of a step owes
   abbrev pub IsReady : FloorState C H → Event C H → Type 0
@@ -86,11 +91,15 @@ module _ {C H E B M R S : Type 0} (law : Meaning C H E B M R S) where
 
   -- cells are taken in rising order, and the hub last. An entry needs the hub and every cell of its footprint
   abbrev pub IsEnabled : FloorState C H → Event C H → Type 0
-  IsEnabled f (take_cell actor cell) = (slice_get f.holders cell ≡ Some None) × ((above : ℕ) → cell ≤ above → ¬ (Holds f actor above)) × (f.hub_holder ≢ Some actor)
+  IsEnabled f (take_cell actor cell) =
+      (slice_get f.holders cell ≡ Some None) × ((above : ℕ) → cell ≤ above → ¬ (Holds f actor above))
+      × (f.hub_holder ≢ Some actor)
   IsEnabled f (take_hub actor) = f.hub_holder ≡ None
   IsEnabled f (commit actor hub writes) =
       (f.hub_holder ≡ Some actor)
-      × ((entry : E) → law.entries hub ≡ law.entries f.hub ++ entry ∷ [] → law.may_follow (law.base_of f.hub) (law.entries f.hub) entry × ((cell : ℕ) → Among cell (law.footprint entry) → Holds f actor cell))
+      × ((entry : E) → law.entries hub ≡ law.entries f.hub ++ entry ∷ []
+      → law.may_follow (law.base_of f.hub) (law.entries f.hub) entry
+      × ((cell : ℕ) → Among cell (law.footprint entry) → Holds f actor cell))
   IsEnabled f (look actor) = f.hub_holder ≡ Some actor
   IsEnabled f (give_cell actor cell) = Holds f actor cell × (f.hub_holder ≢ Some actor)
 
@@ -98,7 +107,8 @@ module _ {C H E B M R S : Type 0} (law : Meaning C H E B M R S) where
   abbrev pub after : FloorState C H → Event C H → FloorState C H
   after f (take_cell actor cell) = record f { holders = slice_set f.holders cell (Some actor) }
   after f (take_hub actor) = record f { hub_holder = Some actor }
-  after f (commit actor hub writes) = record { cells = written f.cells writes; holders = f.holders; hub = hub; hub_holder = None }
+  after f (commit actor hub writes) =
+      record { cells = written f.cells writes; holders = f.holders; hub = hub; hub_holder = None }
   after f (look actor) = record f { hub_holder = None }
   after f (give_cell actor cell) = record f { holders = slice_set f.holders cell None }
 
@@ -119,8 +129,10 @@ module _ {C H E B M R S : Type 0} (law : Meaning C H E B M R S) where
   -- the floor f goes by these events, with these answers, to the floor g, and the actors make these entries on the way
   pub data Runs : FloorState C H → List (Event C H) → List Bool → List (ℕ × E) → FloorState C H → Type 0 where
     ends : {f : FloorState C H} → Runs f [] [] [] f
-    goes : {f m g : FloorState C H} {event : Event C H} {events : List (Event C H)} {answer : Bool} {answers : List Bool} {entries : List (ℕ × E)}
-        → IsReady f event → Steps f event answer m → Runs m events answers entries g → Runs f (event ∷ events) (answer ∷ answers) (made f event answer ++ entries) g
+    goes : {f m g : FloorState C H} {event : Event C H} {events : List (Event C H)} {answer : Bool}
+        {answers : List Bool} {entries : List (ℕ × E)}
+        → IsReady f event → Steps f event answer m → Runs m events answers entries g
+        → Runs f (event ∷ events) (answer ∷ answers) (made f event answer ++ entries) g
 
 -- whether by this event, where it is enabled, the actor neither commits nor looks nor gives the cell back
 abbrev pub LeavesHeld : {C H : Type 0} → ℕ → ℕ → Event C H → Bool → Type 0
@@ -134,7 +146,8 @@ LeavesHeld actor cell (give_cell by other) true = by ≡ actor → other ≢ cel
 abbrev pub AllLeaveHeld : {C H : Type 0} → ℕ → ℕ → List (Event C H) → List Bool → Type 0
 AllLeaveHeld actor cell [] answers = Unit {0}
 AllLeaveHeld actor cell (event ∷ events) [] = Unit {0}
-AllLeaveHeld actor cell (event ∷ events) (answer ∷ answers) = LeavesHeld actor cell event answer × AllLeaveHeld actor cell events answers
+AllLeaveHeld actor cell (event ∷ events) (answer ∷ answers) =
+    LeavesHeld actor cell event answer × AllLeaveHeld actor cell events answers
 
 -- what holds of every list of events
 module _ {C H E B S M R : Type 0} (law : Meaning C H E B M R S) where
@@ -144,9 +157,12 @@ module _ {C H E B S M R : Type 0} (law : Meaning C H E B M R S) where
 
   abbrev pub JournalGrows : Type 0
   JournalGrows = (f g : FloorState C H) (events : List (Event C H)) (answers : List Bool) (entries : List (ℕ × E))
-      → Runs law f events answers entries g → (law.base_of g.hub ≡ law.base_of f.hub) × (law.entries g.hub ≡ law.entries f.hub ++ entries_in entries)
+      → Runs law f events answers entries g
+      → (law.base_of g.hub ≡ law.base_of f.hub) × (law.entries g.hub ≡ law.entries f.hub ++ entries_in entries)
 
   -- the cell has at the end the value that it had when the actor held it
   abbrev pub HeldCellStays : Type 0
-  HeldCellStays = (f g : FloorState C H) (events : List (Event C H)) (answers : List Bool) (entries : List (ℕ × E)) (actor cell : ℕ)
-      → Runs law f events answers entries g → Holds f actor cell → AllLeaveHeld actor cell events answers → (slice_get g.cells cell ≡ slice_get f.cells cell) × Holds g actor cell
+  HeldCellStays =
+      (f g : FloorState C H) (events : List (Event C H)) (answers : List Bool) (entries : List (ℕ × E)) (actor cell : ℕ)
+      → Runs law f events answers entries g → Holds f actor cell → AllLeaveHeld actor cell events answers
+      → (slice_get g.cells cell ≡ slice_get f.cells cell) × Holds g actor cell

@@ -1,3 +1,3 @@
-pub mod History
+pub mod Meanings
 pub mod Floor
 pub mod TwoCells

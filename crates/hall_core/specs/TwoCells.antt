@@ -1,7 +1,7 @@
 -- The law of two cells: each entry adds 1 to both. It serves the tests.
 use Rattle.std.specs.Prelude.{◌≡◌, ℕ, zero, suc, List, [], ◌∷◌, ◌++◌, length, replicate}
 use Rattle.std.proofs.Common.{suc-le-suc, zero-le}
-use Rattle.hall_core.specs.History.{Meaning, adds_entry, Among}
+use Rattle.hall_core.specs.Meanings.{Meaning, adds_entry, Among}
 
 -- what a cell shows after the entries
 abbrev pub count_in : List (Unit {0}) → ℕ → ℕ
@@ -9,7 +9,8 @@ count_in entries zero = length entries
 count_in entries (suc zero) = length entries
 count_in entries (suc (suc cell)) = 0
 
-pub untouched : (es : List (Unit {0})) (e : Unit {0}) (c : ℕ) → ¬ (Among c (0 ∷ 1 ∷ [])) → count_in (es ++ e ∷ []) c ≡ count_in es c
+pub untouched : (es : List (Unit {0})) (e : Unit {0}) (c : ℕ) → ¬ (Among c (0 ∷ 1 ∷ []))
+    → count_in (es ++ e ∷ []) c ≡ count_in es c
 untouched es e zero out = absurd (out (0, suc-le-suc zero-le, λ i. 0))
 untouched es e (suc zero) out = absurd (out (1, suc-le-suc (suc-le-suc zero-le), λ i. 1))
 untouched es e (suc (suc c)) out = λ i. 0

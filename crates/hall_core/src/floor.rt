@@ -1,6 +1,6 @@
 //! The floor: cells, a hub, and actors that take them and give them back.
 ghost use Rattle.std.specs.Prelude.{◌≡◌, ◌↔◌, ◌^◌, ◌<◌, [], Bool, Some, length, slice_get, IfOk, IsTrue};
-ghost use Rattle.hall_core.specs.History.{Every};
+ghost use Rattle.histories.specs.History.{Every};
 ghost use Rattle.hall_core.specs.Floor.{opened_with, written, HoldsNoneFrom, HoldsOneFrom, Shows, IsSound, take_cell, take_hub, commit, look, give_cell, event_of, IsReady, Steps, FloorState};
 
 use crate::law::Law;

@@ -1,5 +1,5 @@
 //! What a journal means for the cells and for the hub that keeps it.
-ghost use Rattle.hall_core.specs.History.{Meaning};
+ghost use Rattle.hall_core.specs.Meanings.{Meaning};
 
 /// What cells and a hub are, and what the entries of a journal mean for them.
 ///

@@ -8,7 +8,6 @@ mod floor;
 mod law;
 mod laws;
 mod memory;
-mod story;
 #[cfg(test)]
 mod tests;
 
@@ -16,4 +15,3 @@ pub use floor::{Floor, FloorEvent, Next};
 pub use law::Law;
 pub use laws::floor_law;
 pub use memory::NoMemory;
-pub use story::{Deed, Story};

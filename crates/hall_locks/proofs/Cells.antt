@@ -7,11 +7,12 @@ use lib.ListN.{get_elem?}
 use prog.Atomic.{either}
 use Rattle.atomic_table.specs.Table.{State, Me, step, keeps, takes, gives, stepped, Allows, rest}
 use Rattle.atomic_table.proofs.Lists.{set_here, set_else}
-use Rattle.hall_core.specs.History.{Meaning, Among, Every}
+use Rattle.hall_core.specs.Meanings.{Meaning, Among}
+use Rattle.histories.specs.History.{Every, IsLegalAfter, entries_of}
 use Rattle.hall_locks.specs.declared.view.View.{View}
 use Rattle.hall_locks.specs.declared.view.Place.{Place}
 use Rattle.hall_locks.specs.declared.view.Place.TheVariants.{Away, Cell}
-use Rattle.hall_locks.specs.Hall.{with_cell, with_cells, TakesCell, GivesCell, shown_by, InHand, Falls}
+use Rattle.hall_locks.specs.Hall.{with_cell, with_cells, WasShown, TakesCell, GivesCell, shown_by, InHand, Falls}
 use Rattle.hall_locks.proofs.Lists.{every_both, held_by, held_here, held_else}
 use Rattle.hall_locks.proofs.Floors.{floor_takes, floor_gives}
 use Rattle.hall_locks.proofs.Deeds.{every_among}
@@ -26,14 +27,15 @@ module _ (C H E B M R S : Type 0) (law : Meaning C H E B M R S) (base : B) (slot
 
   takes_free : (bound : List ℕ) (s : State Pl Vw) (r : Rule C H E B M R S law base s) (v : Vw) (cs : List (ℕ × Pl)) → length s.homes ≡ slots → get_elem? s.views id ≡ some v → get_or s.words (suc c) 0 ≡ 0
       → v.live ≡ true → Every (λ p. p.0 < c) v.cells → Every (λ p. Among p.0 bound) v.cells → Among c bound → v.hub ≡ None
-      → (x : C) × (get_elem? s.homes (suc c) ≡ some (some (Cell x))) × Rule C H E B M R S law base (stepped s (suc c) 1 id cs (with_cell v bound c (law.shows x)) (takes (suc c) (Cell x)))
+      → (x : C) × (get_elem? s.homes (suc c) ≡ some (some (Cell x))) × Rule C H E B M R S law base (stepped s (suc c) 1 id cs (with_cell v bound c (law.shows x)) (takes (suc c) (Cell x))) × WasShown law v.seen.base (c, law.shows x)
   takes_free bound s r v cs long at zero_now live below within there no_hub =
       let in_words : suc c < length s.words = omega (arith, r.wide) in
       let h = r.home c in_words zero_now in
       let nobody : r.holder (suc c) ≡ 0 = r.free (suc c) in_words zero_now in
       let holder' : ℕ → ℕ = held_by r.holder (suc c) (suc id) in
       let w : Vw = with_cell v bound c (law.shows h.value) in
-      let was = r.each id v at in (
+      let was = r.each id v at in
+      let goes_on = was.seen (was.own live).2 in (
         h.value,
         h.there,
         moved C H E B M R S law base s r (suc c) 1 (suc id) (set s.homes (suc c) none) in_words (λ i ne. set_else s.homes (suc c) i none ne) id v w at record { live = refl; number = refl; others = refl } (λ t. t) (λ t e. e) (length-set s.homes (suc c) none)
@@ -44,6 +46,7 @@ module _ (C H E B M R S : Type 0) (law : Meaning C H E B M R S) (base : B) (slot
               seen = was.seen;
               old = was.old;
               own = was.own;
+              did = was.did;
               others = was.others;
               distinct = was.distinct;
               cells = (
@@ -56,6 +59,11 @@ module _ (C H E B M R S : Type 0) (law : Meaning C H E B M R S) (base : B) (slot
               hub = λ x is. absurd (let e : None ≡ Some x = sym no_hub ∙ is in cc e);
               empty = λ dead. let e : true ≡ false = sym live ∙ dead in absurd (cc e);
             },
+        (
+          entries_of r.journal.deeds,
+          subst (λ g. IsLegalAfter (law.may_follow g) [] (entries_of r.journal.deeds)) (sym r.same_base ∙ goes_on.base) r.legal,
+          h.shown ∙ ap (λ g. law.shown_after g (entries_of r.journal.deeds) c) goes_on.base,
+        ),
       )
 
   pub takes_cell : (bound : List ℕ) (me : Me Pl Vw) → me.0.live ≡ true → Every (λ p. p.0 < c) me.0.cells → Every (λ p. Among p.0 bound) me.0.cells → Among c bound → me.0.hub ≡ None
@@ -66,7 +74,7 @@ module _ (C H E B M R S : Type 0) (law : Meaning C H E B M R S) (base : B) (slot
         takes (suc c) (Cell t.0),
         t.1,
         subst (λ b. Rule C H E B M R S law base (stepped s (suc c) (either b 1 n) id me.1 (with_cell me.0 bound c (law.shows t.0)) (takes (suc c) (Cell t.0)))) (sym (eq-eqb n 0 hit)) t.2,
-        ((λ _. (c, t.0, refl, refl)), λ miss. absurd (miss hit)),
+        ((λ _. (c, t.0, refl, refl, t.3)), λ miss. absurd (miss hit)),
       ))
       (λ miss. (
         me.0,
@@ -99,6 +107,7 @@ module _ (C H E B M R S : Type 0) (law : Meaning C H E B M R S) (base : B) (slot
         seen = was.seen;
         old = was.old;
         own = was.own;
+        did = was.did;
         others = was.others;
         distinct = was.distinct;
         cells = every_both (InHand law r.journal r.holder v.bound id) (λ p. p.0 < c) (InHand law r.journal holder' v.bound id) ps
@@ -145,6 +154,10 @@ module _ {C H E B M R S : Type 0} where
       let p : t.0 ≡ cell = let e = t.2 in omega arith in
       let q : t.1 ≡ x = ap (value_or x) (ap (first_or Away) (sym (ap (λ z. z.1) t.3) ∙ first) ∙ here) in
       now ∙ ((λ i. ((t.3 i).0, (k, Away) ∷ rest (t.3 i).1)) ∙ (λ i. (with_cell m.0 bound (p i) (shows (q i)), (is i, Away) ∷ m.1)))
+
+  -- the cell that was asked for is the one that was taken
+  pub same_taken : (m w : Me (Place C H) (View H E B M R S)) (cell k c' : ℕ) (x x' : C) (y : Place C H) (v : View H E B M R S) → k ≡ suc cell → k ≡ suc c' → w ≡ (v, (suc c', Cell x') ∷ m.1) → w.1 ≡ (k, y) ∷ rest w.1 → y ≡ Cell x → (c' ≡ cell) × (x' ≡ x)
+  same_taken m w cell k c' x x' y v is at now first here = (omega (arith, is, at), ap (value_or x) (ap (first_or Away) (sym (ap (λ z. z.1) now) ∙ first) ∙ here))
 
   pub given_is : (m w w' : Me (Place C H) (View H E B M R S)) (k : ℕ) (y : Place C H) → w ≡ (m.0, (k, y) ∷ rest m.1) → (x : ℕ × Place C H) × (w.1 ≡ x ∷ w'.1) → w'.0 ≡ with_cells w.0 (rest w.0.cells)
       → w' ≡ (with_cells m.0 (rest m.0.cells), rest m.1)

@@ -6,19 +6,23 @@ use native.Mathlib.Decide.{ℕ_discrete, dec_lt}
 use lib.ListN.{get_elem?}
 use Rattle.atomic_table.specs.Table.{State, Me, step, gives, stepped, Allows, rest}
 use Rattle.atomic_table.proofs.Lists.{set_here, set_else}
-use Rattle.hall_core.specs.declared.story.Story.{Story}
-use Rattle.hall_core.specs.declared.story.Deed.{Deed}
-use Rattle.hall_core.specs.declared.story.Deed.TheVariants.{Entry, Item}
-use Rattle.hall_core.specs.History.{Meaning, Begins, Among, IsLegalAfter, AllTrue, Pairs, entries_of, deeds_by, Every}
+use Rattle.histories.specs.declared.story.Story.{Story}
+use Rattle.histories.specs.declared.story.Deed.{Deed}
+use Rattle.histories.specs.declared.story.Deed.TheVariants.{Entry, Item}
+use Rattle.hall_core.specs.Meanings.{Meaning, Among, Pairs}
+use Rattle.histories.specs.History.{Begins, IsLegalAfter, AllTrue, entries_of, deeds_by, Every}
 use Rattle.hall_locks.specs.declared.view.View.{View}
 use Rattle.hall_locks.specs.declared.view.Place.{Place}
 use Rattle.hall_locks.specs.declared.view.Place.TheVariants.{Hub}
 use Rattle.hall_locks.specs.Hall.{given_hub, deed_of, shown_cells, cells_after, shown_by, GivesHub, MayGive, IsDue, IsMarked, IsTrueMark, grown, with_mark, numbers_of, IsHub, InHand, HubInHand, IsFloor, Fits, InHandOf, Whose}
-use Rattle.hall_core.proofs.Histories.{legal_snoc}
-use Rattle.hall_locks.proofs.Lists.{every_weaken, every_apart, held_by, held_else}
+use Rattle.histories.proofs.Judged.{legal_snoc}
+use Rattle.histories.proofs.Judged.{every_weaken}
+use Rattle.hall_locks.proofs.Lists.{every_apart, held_by, held_else}
 use Rattle.hall_locks.proofs.Floors.{floor_gives_hub}
 use Rattle.hall_locks.proofs.Rules.{Rule, seats, within, kept_on, free_after, taken_after}
-use Rattle.hall_locks.proofs.Deeds.{begins_self, begins_trans, begins_grown, base-grown, entries_snoc, entries_item, true_snoc, true_weaken, deeds_own, deeds_other, ds_with, pairs_more, every_among, falls_numbers}
+use Rattle.histories.proofs.Stories.{begins_self, begins_trans}
+use Rattle.histories.proofs.Judged.{true_snoc, true_weaken}
+use Rattle.hall_locks.proofs.Deeds.{begins_grown, base-grown, entries_snoc, entries_item, deeds_own, deeds_other, ds_with, pairs_more, every_among, falls_numbers}
 
 module _ {C H E B M R S : Type 0} (law : Meaning C H E B M R S) where
   -- a cell that is not in hand shows what it did
@@ -27,11 +31,11 @@ module _ {C H E B M R S : Type 0} (law : Meaning C H E B M R S) where
   unaffected h n hand (Some (Item i)) due c out x v = v ∙ ap (λ l. law.shown_after h.base l c) (sym (entries_item h.deeds n i))
   unaffected h n hand (Some (Entry e)) due c out x v = v ∙ (sym (law.outside h.base (entries_of h.deeds) e due.0 c (λ a. out (due.1 c a))) ∙ ap (λ l. law.shown_after h.base l c) (sym (entries_snoc h.deeds n e)))
 
-  pub legal_grown : (g : B) (h : Story B E R) (n : ℕ) (hand : List ℕ) (deed : Option (Deed E R)) → h.base ≡ g → IsDue law h hand deed → IsLegalAfter law.may_follow g [] (entries_of h.deeds) → IsLegalAfter law.may_follow g [] (entries_of (grown h n deed).deeds)
+  pub legal_grown : (g : B) (h : Story B E R) (n : ℕ) (hand : List ℕ) (deed : Option (Deed E R)) → h.base ≡ g → IsDue law h hand deed → IsLegalAfter (law.may_follow g) [] (entries_of h.deeds) → IsLegalAfter (law.may_follow g) [] (entries_of (grown h n deed).deeds)
   legal_grown g h n hand None is due a = a
-  legal_grown g h n hand (Some (Item i)) is due a = subst (IsLegalAfter law.may_follow g []) (sym (entries_item h.deeds n i)) a
-  legal_grown g h n hand (Some (Entry e)) is due a = subst (IsLegalAfter law.may_follow g []) (sym (entries_snoc h.deeds n e))
-      (legal_snoc law.may_follow g [] (entries_of h.deeds) e a (subst (λ y. law.may_follow y (entries_of h.deeds) e) is due.0))
+  legal_grown g h n hand (Some (Item i)) is due a = subst (IsLegalAfter (law.may_follow g) []) (sym (entries_item h.deeds n i)) a
+  legal_grown g h n hand (Some (Entry e)) is due a = subst (IsLegalAfter (law.may_follow g) []) (sym (entries_snoc h.deeds n e))
+      (legal_snoc (law.may_follow g) [] (entries_of h.deeds) e a (subst (λ y. law.may_follow y (entries_of h.deeds) e) is due.0))
 
   pub true_own : (h : Story B E R) (n : ℕ) (log : List M) (mark : Option M) → AllTrue (λ m b. law.is_true m h n b) [] log → IsTrueMark law mark h n log → AllTrue (λ m b. law.is_true m h n b) [] (with_mark log mark)
   true_own h n log None a t = a
@@ -39,7 +43,7 @@ module _ {C H E B M R S : Type 0} (law : Meaning C H E B M R S) where
 
   deeds_grown : (h : Story B E R) (n : ℕ) (deed : Option (Deed E R)) → deeds_by n (grown h n deed).deeds ≡ ds_with (deeds_by n h.deeds) deed
   deeds_grown h n None = refl
-  deeds_grown h n (Some d) = deeds_own n n h.deeds d refl
+  deeds_grown h n (Some d) = deeds_own n h.deeds d
 
   pub pairs_own : (h : Story B E R) (n : ℕ) (log : List M) (mark : Option M) (deed : Option (Deed E R)) → IsMarked law mark deed → Pairs law.adds law.fits log (deeds_by n h.deeds) → Pairs law.adds law.fits (with_mark log mark) (deeds_by n (grown h n deed).deeds)
   pairs_own h n log None None k a = a
@@ -163,6 +167,7 @@ module _ (C H E B M R S : Type 0) (law : Meaning C H E B M R S) (base : B) (slot
       seen = λ _. begins_self after;
       old = tt;
       own = λ l. (number_is, sym (log_here r.logs v.number log' id (sym number_is)), (was.own l).2, keeper_is);
+      did = λ _. refl;
       others = others_after id v own_apart was.others;
       distinct = was.distinct;
       cells = cells_now law v.seen v.number r.holder holder' v.bound id deed v.cells (λ c is. held_else r.holder 0 0 (suc c) (λ e. omega arith) ∙ is) (subst (λ (h : Story B E R). Every (InHand law h r.holder v.bound id) v.cells) (sym whole) was.cells);
@@ -173,9 +178,10 @@ module _ (C H E B M R S : Type 0) (law : Meaning C H E B M R S) (base : B) (slot
 
     theirs : (j : ℕ) (u : Vw) → j ≢ id → get_elem? s.views j ≡ some u → Fits law after holder' r.keeper logs' j u
     theirs j u other e = let was = r.each j u e in record {
-      seen = λ t. begins_trans u.seen r.journal after (was.seen t) begins_after;
-      old = every_weaken (λ h. Begins h r.journal) (λ h. Begins h after) u.old (λ h b. begins_trans h r.journal after b begins_after) was.old;
+      seen = λ t. begins_trans (was.seen t) begins_after;
+      old = every_weaken (λ h. Begins h r.journal) (λ h. Begins h after) u.old (λ h b. begins_trans b begins_after) was.old;
       own = λ l. let o = was.own l in (o.0, o.1 ∙ sym (log_else r.logs v.number log' j (λ same. other (same ∙ number_is))), o.2, o.3);
+      did = λ l. was.did l ∙ sym (deeds_else law v.seen v.number j deed (λ same. other (sym same ∙ number_is)) ∙ ap (λ (h : Story B E R). deeds_by j h.deeds) whole);
       others = others_after j u (other_apart j u other e) was.others;
       distinct = was.distinct;
       cells = every_weaken (InHand law r.journal r.holder u.bound j) (InHand law after holder' u.bound j) u.cells
@@ -221,7 +227,7 @@ module _ (C H E B M R S : Type 0) (law : Meaning C H E B M R S) (base : B) (slot
           keeper = r.keeper;
           logs = logs';
           same_base = base-grown v.seen v.number deed ∙ gr;
-          legal = legal_grown law base v.seen v.number (numbers_of v.cells) deed gr may.due (subst (λ h. IsLegalAfter law.may_follow base [] (entries_of h.deeds)) (sym whole) r.legal);
+          legal = legal_grown law base v.seen v.number (numbers_of v.cells) deed gr may.due (subst (λ h. IsLegalAfter (law.may_follow base) [] (entries_of h.deeds)) (sym whole) r.legal);
           wide = length-set s.words 0 0 ∙ (r.wide ∙ sym (length-set s.homes 0 (some (Hub next))));
           free = free_after C H E B M R S law base s r 0 0 0 homes' in_words (λ i ne. set_else s.homes 0 i (some (Hub next)) ne) (λ _. refl);
           taken = taken_after C H E B M R S law base s r 0 0 0 homes' in_words (λ i ne. set_else s.homes 0 i (some (Hub next)) ne) (λ ne. absurd (ne refl));

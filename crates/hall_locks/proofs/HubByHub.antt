@@ -2,10 +2,11 @@
 use Rattle.std.proofs.Common.{◌≡◌, ◌≢◌, ℕ, suc, ◌<◌, true, List, [], ◌∷◌, ◌++◌, sym, refl, ap, ◌∙◌, subst, Option, Some, None}
 use mathlib.Core.Option.{none}
 use Rattle.atomic_table.specs.Table.{Me, step, Allows, rest}
-use Rattle.hall_core.specs.declared.story.Story.{Story}
-use Rattle.hall_core.specs.declared.story.Deed.{Deed}
-use Rattle.hall_core.specs.declared.story.Deed.TheVariants.{Entry, Item}
-use Rattle.hall_core.specs.History.{Meaning, Begins, IsLegalAfter, entries_of, Every, Adds, adds_nothing, adds_entry, adds_item}
+use Rattle.histories.specs.declared.story.Story.{Story}
+use Rattle.histories.specs.declared.story.Deed.{Deed}
+use Rattle.histories.specs.declared.story.Deed.TheVariants.{Entry, Item}
+use Rattle.hall_core.specs.Meanings.{Meaning, Adds, adds_nothing, adds_entry, adds_item}
+use Rattle.histories.specs.History.{Begins, IsLegalAfter, entries_of, deeds_by, Every}
 use Rattle.hall_locks.specs.declared.view.View.{View}
 use Rattle.hall_locks.specs.declared.view.Place.{Place}
 use Rattle.hall_locks.specs.declared.view.Place.TheVariants.{Away, Hub}
@@ -32,7 +33,7 @@ module _ (C H E B M R S : Type 0) (law : Meaning C H E B M R S) where
 
   abbrev Took : Mine → Mine → H → Story B E R → Type 0
   Took m w h seen = (w ≡ (with_hub m.0 seen h, (0, Hub h) ∷ m.1)) × Begins m.0.seen seen × (law.base_of h ≡ seen.base) × (law.entries h ≡ entries_of seen.deeds)
-      × law.keeps h seen m.0.number m.0.log × IsLegalAfter law.may_follow seen.base [] (entries_of seen.deeds) × Every (λ p. p.1 ≡ shown_by law seen p.0) m.0.cells
+      × law.keeps h seen m.0.number m.0.log × IsLegalAfter (law.may_follow seen.base) [] (entries_of seen.deeds) × Every (λ p. p.1 ≡ shown_by law seen p.0) m.0.cells × (deeds_by m.0.number seen.deeds ≡ deeds_by m.0.number m.0.seen.deeds)
 
   pub hub_first : (m w : Mine) (h : H) (seen : Story B E R) → w ≡ (with_hub m.0 seen h, (0, Hub h) ∷ m.1) → w.1 ≡ (0, Hub h) ∷ rest w.1
   hub_first m w h seen e = ap (λ z. z.1) e ∙ (λ i. (0, Hub h) ∷ rest (sym e i).1)
@@ -44,7 +45,7 @@ module _ (C H E B M R S : Type 0) (law : Meaning C H E B M R S) where
       let is : w' ≡ (with_hub m.0 seen h', (0, Away) ∷ m.1) = now ∙ (λ i. ((t.0 i).0, (0, Away) ∷ rest (t.0 i).1)) in
       let s : w'.0.seen ≡ seen = ap (λ (z : Mine). z.0.seen) is in (
         is ∙ (λ i. (with_hub m.0 (sym s i) (q i), (0, Away) ∷ m.1)),
-        subst (λ (z : Story B E R × H). Found law m.0 z.0 z.1) (λ i. (sym s i, q i)) record { goes_on = t.1; base = t.2; entries = t.3; own = t.4; legal = t.5; shown = t.6 },
+        subst (λ (z : Story B E R × H). Found law m.0 z.0 z.1) (λ i. (sym s i, q i)) record { goes_on = t.1; base = t.2; entries = t.3; own = t.4; legal = t.5; shown = t.6; did = t.7 },
       )
 
   pub gives_at : (base : B) (slots id : ℕ) → 0 < slots → (old me : Mine) (next : H) (mark : Option M) → old.0.live ≡ true → me ≡ (old.0, (0, Hub next) ∷ rest old.1) → MayGive law old.0 next mark

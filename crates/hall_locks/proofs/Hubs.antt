@@ -7,16 +7,18 @@ use lib.ListN.{get_elem?}
 use prog.Atomic.{either}
 use Rattle.atomic_table.specs.Table.{State, Me, step, keeps, takes, stepped, Allows}
 use Rattle.atomic_table.proofs.Lists.{set_else}
-use Rattle.hall_core.specs.declared.story.Story.{Story}
-use Rattle.hall_core.specs.History.{Meaning, Begins, IsLegalAfter, entries_of, Every}
+use Rattle.histories.specs.declared.story.Story.{Story}
+use Rattle.hall_core.specs.Meanings.{Meaning}
+use Rattle.histories.specs.History.{Begins, IsLegalAfter, entries_of, deeds_by, Every}
 use Rattle.hall_locks.specs.declared.view.View.{View}
 use Rattle.hall_locks.specs.declared.view.Place.{Place}
 use Rattle.hall_locks.specs.declared.view.Place.TheVariants.{Hub}
 use Rattle.hall_locks.specs.Hall.{with_hub, TakesHub, shown_by, IsHub, InHand}
-use Rattle.hall_locks.proofs.Lists.{every_weaken, held_by, held_here, held_else}
+use Rattle.histories.proofs.Judged.{every_weaken}
+use Rattle.hall_locks.proofs.Lists.{held_by, held_here, held_else}
 use Rattle.hall_locks.proofs.Floors.{floor_takes_hub}
 use Rattle.hall_locks.proofs.Rules.{Rule, moved, unmoved, hub_in_hand}
-use Rattle.hall_locks.proofs.Deeds.{begins_self}
+use Rattle.histories.proofs.Stories.{begins_self}
 
 module _ (C H E B M R S : Type 0) (law : Meaning C H E B M R S) (base : B) (slots id : ℕ) (inside : 0 < slots) where
   abbrev Vw : Type 0
@@ -26,7 +28,7 @@ module _ (C H E B M R S : Type 0) (law : Meaning C H E B M R S) (base : B) (slot
   Pl = Place C H
 
   abbrev Known : Vw → H → Story B E R → Type 0
-  Known v h seen = Begins v.seen seen × (law.base_of h ≡ seen.base) × (law.entries h ≡ entries_of seen.deeds) × law.keeps h seen v.number v.log × IsLegalAfter law.may_follow seen.base [] (entries_of seen.deeds) × Every (λ p. p.1 ≡ shown_by law seen p.0) v.cells
+  Known v h seen = Begins v.seen seen × (law.base_of h ≡ seen.base) × (law.entries h ≡ entries_of seen.deeds) × law.keeps h seen v.number v.log × IsLegalAfter (law.may_follow seen.base) [] (entries_of seen.deeds) × Every (λ p. p.1 ≡ shown_by law seen p.0) v.cells × (deeds_by v.number seen.deeds ≡ deeds_by v.number v.seen.deeds)
 
   takes_free : (s : State Pl Vw) (r : Rule C H E B M R S law base s) (v : Vw) (cs : List (ℕ × Pl)) → length s.homes ≡ slots → get_elem? s.views id ≡ some v → get_or s.words 0 0 ≡ 0 → v.live ≡ true
       → (h : H) × (get_elem? s.homes 0 ≡ some (some (Hub h))) × Rule C H E B M R S law base (stepped s 0 1 id cs (with_hub v r.journal h) (takes 0 (Hub h))) × Known v h r.journal
@@ -47,6 +49,7 @@ module _ (C H E B M R S : Type 0) (law : Meaning C H E B M R S) (base : B) (slot
               seen = λ _. begins_self r.journal;
               old = tt;
               own = was.own;
+              did = λ _. refl;
               others = was.others;
               distinct = was.distinct;
               cells = every_weaken (InHand law r.journal r.holder v.bound id) (InHand law r.journal holder' v.bound id) v.cells
@@ -60,8 +63,9 @@ module _ (C H E B M R S : Type 0) (law : Meaning C H E B M R S) (base : B) (slot
           h.hub.base,
           h.hub.entries,
           subst (λ (z : ℕ × List M). law.keeps h.value r.journal z.0 z.1) (λ i. (sym own.0 i, sym own.1 i)) (h.hub.keeps id),
-          subst (λ g. IsLegalAfter law.may_follow g [] (entries_of r.journal.deeds)) (sym r.same_base) r.legal,
+          subst (λ g. IsLegalAfter (law.may_follow g) [] (entries_of r.journal.deeds)) (sym r.same_base) r.legal,
           every_weaken (InHand law r.journal r.holder v.bound id) (λ p. p.1 ≡ shown_by law r.journal p.0) v.cells (λ p i. i.value) was.cells,
+          subst (λ n. deeds_by n r.journal.deeds ≡ deeds_by n v.seen.deeds) (sym own.0) (sym (was.did live)),
         ),
       )
 
@@ -72,7 +76,7 @@ module _ (C H E B M R S : Type 0) (law : Meaning C H E B M R S) (base : B) (slot
         takes 0 (Hub t.0),
         t.1,
         subst (λ b. Rule C H E B M R S law base (stepped s 0 (either b 1 n) id me.1 (with_hub me.0 r.journal t.0) (takes 0 (Hub t.0)))) (sym (eq-eqb n 0 hit)) t.2,
-        ((λ _. (t.0, r.journal, refl, t.3.0, t.3.1, t.3.2, t.3.3, t.3.4, t.3.5)), λ miss. absurd (miss hit)),
+        ((λ _. (t.0, r.journal, refl, t.3.0, t.3.1, t.3.2, t.3.3, t.3.4, t.3.5, t.3.6)), λ miss. absurd (miss hit)),
       ))
       (λ miss. (
         me.0,

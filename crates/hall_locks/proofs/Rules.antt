@@ -7,12 +7,13 @@ use lib.ListN.{get_elem?}
 use lib.Seq.{set-get_or}
 use Rattle.atomic_table.specs.Table.{State, keeps, stepped}
 use Rattle.atomic_table.proofs.Lists.{at_set, set_again, set_here, set_else}
-use Rattle.hall_core.specs.declared.story.Story.{Story}
-use Rattle.hall_core.specs.History.{Meaning, Among}
+use Rattle.histories.specs.declared.story.Story.{Story}
+use Rattle.hall_core.specs.Meanings.{Meaning, Among}
 use Rattle.hall_locks.specs.declared.view.View.{View}
 use Rattle.hall_locks.specs.declared.view.Place.{Place}
 use Rattle.hall_locks.specs.Hall.{InHand, Fits, CellHome, HubHome, InHandOf, Whose, HasLog, HasSeen, IsFloor, Ruled, with_cell, with_cells, with_hub, numbers_of}
-use Rattle.hall_locks.proofs.Lists.{every_weaken, held_by, held_here, held_else}
+use Rattle.histories.proofs.Judged.{every_weaken}
+use Rattle.hall_locks.proofs.Lists.{held_by, held_here, held_else}
 
 module _ (C H E B M R S : Type 0) (law : Meaning C H E B M R S) (base : B) where
   abbrev pub V : Type 0
@@ -44,6 +45,7 @@ module _ (C H E B M R S : Type 0) (law : Meaning C H E B M R S) (base : B) where
     seen = f.seen;
     old = f.old;
     own = λ l. let o = f.own l in (o.0, o.1, o.2, keep_on j o.3);
+    did = f.did;
     others = every_weaken (λ (p : ℕ × List M). (p.1 ≡ logs p.0) × (keeper p.0 ≡ suc j)) (λ (p : ℕ × List M). (p.1 ≡ logs p.0) × (keeper' p.0 ≡ suc j)) v.others (λ p a. (a.0, keep_on p.0 a.1)) f.others;
     distinct = f.distinct;
     cells = every_weaken (InHand law h holder v.bound j) (InHand law h holder' v.bound j) v.cells (λ p i. record { held = same (suc p.0) i.held; bounded = i.bounded; value = i.value }) f.cells;

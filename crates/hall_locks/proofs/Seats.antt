@@ -6,17 +6,26 @@ use mathlib.Core.Option.{none, some, some-injective}
 use native.Mathlib.Decide.{ℕ_discrete}
 use lib.ListN.{get_elem?}
 use Rattle.std.proofs.lemmas.Bool.Decides.{nat_tests}
+use Rattle.std.proofs.lemmas.List.{append-nil}
 use Rattle.atomic_table.specs.Table.{State, Me, step, keeps, Allows, Enters, Splits, Joins}
 use Rattle.atomic_table.proofs.Lists.{set_again, set_here, set_else, at_longer}
-use Rattle.hall_core.specs.declared.story.Story.{Story}
-use Rattle.hall_core.specs.History.{Meaning, Begins, Every, Among, AreDistinct}
+use Rattle.histories.specs.declared.story.Story.{Story}
+use Rattle.histories.specs.declared.story.Deed.{Deed}
+use Rattle.hall_core.specs.Meanings.{Meaning, Adds, Among, AreDistinct, Pairs}
+use Rattle.histories.specs.History.{Begins, Every, deeds_by}
 use Rattle.hall_locks.specs.declared.view.View.{View}
 use Rattle.hall_locks.specs.declared.view.Place.{Place}
 use Rattle.hall_locks.specs.Hall.{pass_view, note_view, spent_view, no_story, hearing, merging, longer, longer_if, Compares, InHand, Fits, HasLog, HasSeen, Ruled, numbers_of}
 use Rattle.hall_locks.specs.Hall as hall
-use Rattle.hall_locks.proofs.Lists.{every_weaken, every_append, at_end, at_last, prefix_shorter, prefix_whole, held_by, held_here, held_else, not_none, numbers_append, among_left, among_right, all_among, distinct_append}
+use Rattle.histories.proofs.Judged.{every_weaken}
+use Rattle.histories.proofs.Prefixes.{prefix_whole}
+use Rattle.hall_locks.proofs.Lists.{every_append, at_end, at_last, held_by, held_here, held_else, not_none, numbers_append, among_left, among_right, all_among, distinct_append}
 use Rattle.hall_locks.proofs.Rules.{Rule, seats, refit, within, unmoved, same_in_hand, nothing_in_hand}
-use Rattle.hall_locks.proofs.Deeds.{begins_self}
+use Rattle.histories.proofs.Stories.{begins_self, begins_shorter, deeds_by_append}
+
+no_length : {D : Type 0} (xs : List D) → length xs ≡ 0 → xs ≡ []
+no_length [] e = refl
+no_length (x ∷ xs) e = absurd (omega (arith, e))
 
 longer_begins_if : {B E R : Type 0} (b : Bool) (h k j : Story B E R) → Begins h j → Begins k j → Begins (longer_if b h k) j
 longer_begins_if true h k j x y = y
@@ -25,12 +34,9 @@ longer_begins_if false h k j x y = x
 pub longer_begins : {B E R : Type 0} (h k j : Story B E R) → Begins h j → Begins k j → Begins (longer h k) j
 longer_begins h k j x y = longer_begins_if (nat_le (length h.deeds) (length k.deeds)) h k j x y
 
-shorter_begins : {B E R : Type 0} (h k j : Story B E R) → Begins h j → Begins k j → length h.deeds ≤ length k.deeds → Begins h k
-shorter_begins h k j x y le = record { base = sym y.base ∙ x.base; deeds = prefix_shorter h.deeds k.deeds j.deeds x.deeds y.deeds le }
-
 longer_has_if : {B E R : Type 0} (h k j : Story B E R) → Begins h j → Begins k j → (b : Bool) → nat_le (length h.deeds) (length k.deeds) ≡ b → Begins h (longer_if b h k) × Begins k (longer_if b h k)
-longer_has_if h k j x y true e = let le : length h.deeds ≤ length k.deeds = grind (arith, nat_tests) in (shorter_begins h k j x y le, begins_self k)
-longer_has_if h k j x y false e = let le : length k.deeds ≤ length h.deeds = grind (arith, nat_tests) in (begins_self h, shorter_begins k h j y x le)
+longer_has_if h k j x y true e = let le : length h.deeds ≤ length k.deeds = grind (arith, nat_tests) in (begins_shorter h k j x y le, begins_self k)
+longer_has_if h k j x y false e = let le : length k.deeds ≤ length h.deeds = grind (arith, nat_tests) in (begins_self h, begins_shorter k h j y x le)
 
 -- of two beginnings of one history the longer has both
 pub longer_has : {B E R : Type 0} (h k j : Story B E R) → Begins h j → Begins k j → Begins h (longer h k) × Begins k (longer h k)
@@ -53,6 +59,33 @@ longer_right_if {B} {E} {R} h k j false e x is = let le : length k.deeds ≤ len
 
 longer_right : {B E R : Type 0} (h k j : Story B E R) → Begins h j → k ≡ j → longer h k ≡ j
 longer_right h k j x is = longer_right_if h k j (nat_le (length h.deeds) (length k.deeds)) refl x is
+
+-- what the seat did stands in each history between
+between_did : {D : Type 0} (n : ℕ) (xs ys zs : List (ℕ × D)) → deeds_by n xs ≡ deeds_by n ((xs ++ ys) ++ zs) → deeds_by n (xs ++ ys) ≡ deeds_by n ((xs ++ ys) ++ zs)
+between_did n xs ys zs e =
+    let first = deeds_by_append n xs ys in
+    let all = deeds_by_append n (xs ++ ys) zs in
+    let many : length (deeds_by n xs) ≡ length (deeds_by n xs ++ deeds_by n ys) + length (deeds_by n zs) =
+    ap length (e ∙ (all ∙ ap (λ l. l ++ deeds_by n zs) first)) ∙ length-append (deeds_by n xs ++ deeds_by n ys) (deeds_by n zs) in
+    let none : deeds_by n zs ≡ [] = no_length (deeds_by n zs) (omega (arith, many, length-append (deeds_by n xs) (deeds_by n ys))) in
+    sym (all ∙ (ap (λ l. deeds_by n (xs ++ ys) ++ l) none ∙ append-nil (deeds_by n (xs ++ ys))))
+
+longer_did_if : {B E R : Type 0} (n : ℕ) (h k j : Story B E R) → Begins h j → Begins k j → deeds_by n h.deeds ≡ deeds_by n j.deeds → (b : Bool) → nat_le (length h.deeds) (length k.deeds) ≡ b → deeds_by n (longer_if b h k).deeds ≡ deeds_by n j.deeds
+longer_did_if n h k j x y did false e = did
+longer_did_if {B} {E} {R} n h k j x y did true e =
+    let le : length h.deeds ≤ length k.deeds = grind (arith, nat_tests) in
+    let z = (begins_shorter h k j x y le).deeds in
+    let kd : k.deeds ≡ h.deeds ++ z.rest = z.whole in
+    let jd : j.deeds ≡ (h.deeds ++ z.rest) ++ y.deeds.rest = y.deeds.whole ∙ ap (λ (l : List (ℕ × Deed E R)). l ++ y.deeds.rest) kd in
+    ap (deeds_by n) kd ∙ (between_did n h.deeds z.rest y.deeds.rest (did ∙ ap (deeds_by n) jd) ∙ sym (ap (deeds_by n) jd))
+
+-- of two histories of which one has all that a seat did, the longer has it
+longer_did : {B E R : Type 0} (n : ℕ) (h k j : Story B E R) → Begins h j → Begins k j → deeds_by n h.deeds ≡ deeds_by n j.deeds → deeds_by n (longer h k).deeds ≡ deeds_by n j.deeds
+longer_did n h k j x y did = longer_did_if n h k j x y did (nat_le (length h.deeds) (length k.deeds)) refl
+
+none_paired : {M E R : Type 0} (adds : M → Adds R) (fits : M → E → Type 0) (ds : List (Deed E R)) → Pairs adds fits [] ds → ds ≡ []
+none_paired adds fits [] p = refl
+none_paired adds fits (d ∷ ds) p = absurd p
 
 nobody_before : (n : ℕ) → ((seat : ℕ) → n ≡ suc seat → ⊥) → n ≡ 0
 nobody_before zero f = refl
@@ -120,9 +153,10 @@ module _ (C H E B M R S : Type 0) (law : Meaning C H E B M R S) (base : B) where
             (λ ne. inl (sym (held_else r.keeper n (suc n) k ne) ∙ now)))
             (λ k l. held_else r.keeper n (suc n) k (λ e. omega arith) ∙ r.beyond k (omega arith))
             record {
-              seen = λ _. record { base = r.same_base; deeds = (r.journal.deeds, refl) };
+              seen = λ _. record { base = r.same_base; deeds = record { rest = r.journal.deeds; whole = refl } };
               old = tt;
               own = λ _. (refl, sym (r.unkept n fresh), refl, held_here r.keeper n (suc n) n refl);
+              did = λ _. sym (none_paired law.adds law.fits (deeds_by n r.journal.deeds) (subst (λ (l : List M). Pairs law.adds law.fits l (deeds_by n r.journal.deeds)) (r.unkept n fresh) (r.pairs n)));
               others = tt;
               distinct = (not_none n, tt);
               cells = tt;
@@ -140,6 +174,7 @@ module _ (C H E B M R S : Type 0) (law : Meaning C H E B M R S) (base : B) where
         seen = λ _. was.seen (was.own live).2;
         old = tt;
         own = λ e. absurd (cc e);
+        did = λ e. absurd (cc e);
         others = tt;
         distinct = (not_none (length s.views), tt);
         cells = tt;
@@ -203,7 +238,7 @@ module _ (C H E B M R S : Type 0) (law : Meaning C H E B M R S) (base : B) where
         legal = r.legal;
         longest = longest_after s r id v both o other at there apart tells seen a b;
         each = seats C H E B M R S law base (Fits law r.journal r.holder keeper' r.logs) vs other Gone
-            record { seen = λ e. absurd (cc e); old = tt; own = λ e. absurd (cc e); others = tt; distinct = (not_none other, tt); cells = tt; falls = tt; hub = λ x e. absurd (cc e); empty = λ _. (refl, refl) }
+            record { seen = λ e. absurd (cc e); old = tt; own = λ e. absurd (cc e); did = λ e. absurd (cc e); others = tt; distinct = (not_none other, tt); cells = tt; falls = tt; hub = λ x e. absurd (cc e); empty = λ _. (refl, refl) }
             (λ j u apart_j at_j. seats C H E B M R S law base (λ i x. i ≢ other → Fits law r.journal r.holder keeper' r.logs i x) s.views id both (λ _. mine)
             (λ i x _ e ne. refit C H E B M R S law base r.journal r.holder r.holder r.keeper keeper' r.logs i x (λ k is. is) (λ k is. stays k i ne is) (r.each i x e)) j u at_j apart_j);
         kept = has;
@@ -242,6 +277,7 @@ module _ (C H E B M R S : Type 0) (law : Meaning C H E B M R S) (base : B) where
         seen = λ _. longer_begins v.seen n.seen r.journal a b;
         old = (a, (b, tt));
         own = was.own;
+        did = λ l. longer_did id v.seen n.seen r.journal a b (was.did l);
         others = was.others;
         distinct = was.distinct;
         cells = was.cells;
@@ -309,6 +345,7 @@ module _ (C H E B M R S : Type 0) (law : Meaning C H E B M R S) (base : B) where
         seen = λ _. longer_begins v.seen o.seen r.journal a b;
         old = (a, (b, tt));
         own = λ l. (mine.0, mine.1, mine.2, still id id (λ x. apart (sym x)) mine.3);
+        did = λ l. longer_did id v.seen o.seen r.journal a b (was.did l);
         others = every_append KNew v.others ((o.number, o.log) ∷ o.others)
             (every_weaken (λ (p : ℕ × List M). (p.1 ≡ r.logs p.0) × (r.keeper p.0 ≡ suc id)) KNew v.others (λ p x. (x.0, still p.0 id (λ y. apart (sym y)) x.1)) was.others) (
               (own.1 ∙ ap r.logs (sym own.0), passed_here r.keeper other id o.number (ap r.keeper own.0 ∙ own.3)),

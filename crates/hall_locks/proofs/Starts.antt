@@ -5,14 +5,14 @@ use mathlib.Core.Option.{some, some-injective, some-ne-none}
 use native.Mathlib.Decide.{ℕ_discrete}
 use lib.ListN.{get_elem?}
 use Rattle.atomic_table.specs.Table.{opening}
-use Rattle.hall_core.specs.History.{Meaning}
+use Rattle.hall_core.specs.Meanings.{Meaning}
 use Rattle.hall_locks.specs.declared.view.View.{View}
 use Rattle.hall_locks.specs.declared.view.Place.{Place}
 use Rattle.hall_locks.specs.declared.view.Place.TheVariants.{Cell, Hub}
 use Rattle.hall_locks.specs.Hall.{first_view, no_story, Fits, HasLog, IsFloor, Ruled}
 use Rattle.hall_locks.proofs.Lists.{not_none, held_by, held_here, held_else}
 use Rattle.hall_core.specs.Floor.{Shows, ends}
-use Rattle.hall_locks.proofs.Deeds.{begins_self}
+use Rattle.histories.proofs.Stories.{begins_self}
 
 abbrev none_held : Option ℕ
 none_held = None
@@ -61,6 +61,7 @@ module _ (C H E B M R S : Type 0) (law : Meaning C H E B M R S) where
     seen = λ _. begins_self (no_story (law.base_of hub));
     old = tt;
     own = λ _. (refl, refl, refl, refl);
+    did = λ _. refl;
     others = tt;
     distinct = (not_none 0, tt);
     cells = tt;

@@ -4,10 +4,11 @@ use Rattle.std.specs.Prelude.{◌≡◌, ◌≢◌, nat_le, ℕ, suc, ◌+◌, �
 use mathlib.Core.Option.{some}
 use lib.ListN.{get_elem?}
 use Rattle.atomic_table.specs.Table.{State, Me, Step, rest}
-use Rattle.hall_core.specs.declared.story.Story.{Story}
-use Rattle.hall_core.specs.declared.story.Deed.{Deed}
-use Rattle.hall_core.specs.declared.story.Deed.TheVariants.{Entry, Item}
-use Rattle.hall_core.specs.History.{Every, Meaning, Adds, adds_nothing, adds_entry, adds_item, Begins, Among, AreDistinct, IsLegalAfter, AllTrue, Pairs, entries_of, deeds_by}
+use Rattle.histories.specs.declared.story.Story.{Story}
+use Rattle.histories.specs.declared.story.Deed.{Deed}
+use Rattle.histories.specs.declared.story.Deed.TheVariants.{Entry, Item}
+use Rattle.hall_core.specs.Meanings.{Meaning, Adds, adds_nothing, adds_entry, adds_item, Among, AreDistinct, Pairs}
+use Rattle.histories.specs.History.{entries_by_seat, Every, Begins, IsLegalAfter, AllTrue, entries_of, deeds_by}
 use Rattle.hall_core.specs.Floor.{FloorState, Event, Shows, Runs, entries_in}
 use Rattle.hall_locks.specs.declared.view.View.{View}
 use Rattle.hall_locks.specs.declared.view.Place.{Place}
@@ -61,12 +62,6 @@ abbrev pub owner : ℕ → Option ℕ
 owner zero = None
 owner (suc seat) = Some seat
 
--- the entries, each with the seat that made it
-abbrev pub made_in : {E R : Type 0} → List (ℕ × Deed E R) → List (ℕ × E)
-made_in [] = []
-made_in ((seat, Entry e) ∷ ds) = (seat, e) ∷ made_in ds
-made_in ((seat, Item i) ∷ ds) = made_in ds
-
 -- the longer of two beginnings of one history
 abbrev pub longer_if : {A : Type 0} → Bool → A → A → A
 longer_if true h k = k
@@ -77,18 +72,51 @@ longer h k = longer_if (nat_le (length h.deeds) (length k.deeds)) h k
 
 -- the view of a new pass
 abbrev pub pass_view : {H E B M R S : Type 0} → ℕ → Story B E R → View H E B M R S
-pass_view n h = record { live = true; tells = true; number = n; seen = h; old = []; log = []; others = []; bound = []; cells = []; hub = None }
+pass_view n h = record {
+  live = true;
+  tells = true;
+  number = n;
+  seen = h;
+  old = [];
+  log = [];
+  others = [];
+  bound = [];
+  cells = [];
+  hub = None;
+}
 
 abbrev pub first_view : {H E B M R S : Type 0} → B → View H E B M R S
 first_view g = pass_view 0 (no_story g)
 
 -- a note of what was seen
 abbrev pub note_view : {H E B M R S : Type 0} → Story B E R → View H E B M R S
-note_view h = record { live = false; tells = true; number = 0; seen = h; old = []; log = []; others = []; bound = []; cells = []; hub = None }
+note_view h = record {
+  live = false;
+  tells = true;
+  number = 0;
+  seen = h;
+  old = [];
+  log = [];
+  others = [];
+  bound = [];
+  cells = [];
+  hub = None;
+}
 
 -- what is left of a seat that was joined to another
 abbrev pub spent_view : {H E B M R S : Type 0} → B → View H E B M R S
-spent_view g = record { live = false; tells = false; number = 0; seen = no_story g; old = []; log = []; others = []; bound = []; cells = []; hub = None }
+spent_view g = record {
+  live = false;
+  tells = false;
+  number = 0;
+  seen = no_story g;
+  old = [];
+  log = [];
+  others = [];
+  bound = [];
+  cells = [];
+  hub = None;
+}
 
 module _ {H E B M R S : Type 0} where
   -- the view after a cell is taken that shows y, for a visit with this footprint
@@ -112,19 +140,28 @@ module _ {H E B M R S : Type 0} where
 
   -- the view after another pass is taken in
   abbrev pub merging : View H E B M R S → View H E B M R S → View H E B M R S
-  merging v o = record v { seen = longer v.seen o.seen; old = v.seen ∷ o.seen ∷ []; others = v.others ++ (o.number, o.log) ∷ o.others }
+  merging v o = record v {
+    seen = longer v.seen o.seen;
+    old = v.seen ∷ o.seen ∷ [];
+    others = v.others ++ (o.number, o.log) ∷ o.others;
+  }
 
 module _ {C H E B M R S : Type 0} where
-  abbrev pub GivesCell : Step (Place C H) → Me (Place C H) (View H E B M R S) → ℕ → Me (Place C H) (View H E B M R S) → Type 0
+  abbrev pub GivesCell : Step (Place C H) → Me (Place C H) (View H E B M R S) → ℕ
+      → Me (Place C H) (View H E B M R S) → Type 0
   GivesCell st m found w = (x : ℕ × Place C H) × (m.1 ≡ x ∷ w.1) × (w.0 ≡ with_cells m.0 (rest m.0.cells))
 
   -- a new pass, with the number of seats so far
-  abbrev pub Enters : Step (Place C H) → Me (Place C H) (View H E B M R S) → ℕ → Me (Place C H) (View H E B M R S) → Type 0
+  abbrev pub Enters : Step (Place C H) → Me (Place C H) (View H E B M R S) → ℕ → Me (Place C H) (View H E B M R S)
+      → Type 0
   Enters st m found w = (n : ℕ) × (w.0 ≡ pass_view n m.0.seen)
 
   -- nothing changes, all that was seen begins one history, and each log in the view is of another seat
-  abbrev pub Compares : Step (Place C H) → Me (Place C H) (View H E B M R S) → ℕ → Me (Place C H) (View H E B M R S) → Type 0
-  Compares st m found w = (w ≡ m) × ((h : Story B E R) × Begins m.0.seen h × Every (λ k. Begins k h) m.0.old) × AreDistinct (m.0.number ∷ numbers_of m.0.others)
+  abbrev pub Compares : Step (Place C H) → Me (Place C H) (View H E B M R S) → ℕ → Me (Place C H) (View H E B M R S)
+      → Type 0
+  Compares st m found w =
+      (w ≡ m) × ((h : Story B E R) × Begins m.0.seen h × Every (λ k. Begins k h) m.0.old)
+      × AreDistinct (m.0.number ∷ numbers_of m.0.others)
 
 module _ {C H E B M R S : Type 0} (law : Meaning C H E B M R S) where
   -- what the cell shows after the history
@@ -149,7 +186,9 @@ module _ {C H E B M R S : Type 0} (law : Meaning C H E B M R S) where
 
   -- the view after it
   abbrev pub given_hub : View H E B M R S → H → Option M → View H E B M R S
-  given_hub v next mark = without_hub v (grown v.seen v.number (deed_of mark next)) (with_mark v.log mark) (cells_after (grown v.seen v.number (deed_of mark next)) (deed_of mark next) v.cells)
+  given_hub v next mark =
+      without_hub v (grown v.seen v.number (deed_of mark next)) (with_mark v.log mark)
+      (cells_after (grown v.seen v.number (deed_of mark next)) (deed_of mark next) v.cells)
 
   -- the hub holds the history, and keeps for each seat what the law says of that seat's log
   pub record IsHub (journal : Story B E R) (logs : ℕ → List M) (h : H) : Type 0 where
@@ -164,28 +203,44 @@ module _ {C H E B M R S : Type 0} (law : Meaning C H E B M R S) where
     pub value : p.1 ≡ shown_by journal p.0
 
   -- the hub in hand, as it was taken: nobody changes the history meanwhile
-  pub record HubInHand (journal : Story B E R) (holder : ℕ → ℕ) (logs : ℕ → List M) (seat : ℕ) (seen : Story B E R) (h : H) : Type 0 where
+  pub record HubInHand (journal : Story B E R) (holder : ℕ → ℕ) (logs : ℕ → List M) (seat : ℕ) (seen : Story B E R)
+      (h : H) : Type 0 where
     pub held : holder 0 ≡ suc seat
     pub whole : seen ≡ journal
     pub hub : IsHub journal logs h
 
-  abbrev pub TakesCell : List ℕ → Step (Place C H) → Me (Place C H) (View H E B M R S) → ℕ → Me (Place C H) (View H E B M R S) → Type 0
-  TakesCell bound st m found w = (found ≡ 0 → (c : ℕ) × (x : C) × (st.word ≡ suc c) × (w ≡ (with_cell m.0 bound c (law.shows x), (suc c, Cell x) ∷ m.1))) × (found ≢ 0 → w ≡ m)
+  -- a cell that shows what the law gives after some legal entries
+  abbrev pub WasShown : B → ℕ × S → Type 0
+  WasShown base p = (es : List E) × IsLegalAfter (law.may_follow base) [] es × (p.1 ≡ law.shown_after base es p.0)
 
-  abbrev pub TakesHub : Step (Place C H) → Me (Place C H) (View H E B M R S) → ℕ → Me (Place C H) (View H E B M R S) → Type 0
-  TakesHub st m found w =
-      (found ≡ 0 → (h : H) × (seen : Story B E R) × (w ≡ (with_hub m.0 seen h, (0, Hub h) ∷ m.1)) × Begins m.0.seen seen × (law.base_of h ≡ seen.base) × (law.entries h ≡ entries_of seen.deeds)
-      × law.keeps h seen m.0.number m.0.log × IsLegalAfter law.may_follow seen.base [] (entries_of seen.deeds) × Every (λ p. p.1 ≡ shown_by seen p.0) m.0.cells)
+  abbrev pub TakesCell : List ℕ → Step (Place C H) → Me (Place C H) (View H E B M R S) → ℕ
+      → Me (Place C H) (View H E B M R S) → Type 0
+  TakesCell bound st m found w =
+      (found ≡ 0 → (c : ℕ) × (x : C) × (st.word ≡ suc c)
+      × (w ≡ (with_cell m.0 bound c (law.shows x), (suc c, Cell x) ∷ m.1))
+      × WasShown m.0.seen.base (c, law.shows x))
       × (found ≢ 0 → w ≡ m)
 
-  abbrev pub GivesHub : Option M → Step (Place C H) → Me (Place C H) (View H E B M R S) → ℕ → Me (Place C H) (View H E B M R S) → Type 0
+  abbrev pub TakesHub : Step (Place C H) → Me (Place C H) (View H E B M R S) → ℕ → Me (Place C H) (View H E B M R S)
+      → Type 0
+  TakesHub st m found w =
+      (found ≡ 0 → (h : H) × (seen : Story B E R) × (w ≡ (with_hub m.0 seen h, (0, Hub h) ∷ m.1))
+      × Begins m.0.seen seen × (law.base_of h ≡ seen.base) × (law.entries h ≡ entries_of seen.deeds)
+      × law.keeps h seen m.0.number m.0.log × IsLegalAfter (law.may_follow seen.base) [] (entries_of seen.deeds)
+      × Every (λ p. p.1 ≡ shown_by seen p.0) m.0.cells
+      × (deeds_by m.0.number seen.deeds ≡ deeds_by m.0.number m.0.seen.deeds))
+      × (found ≢ 0 → w ≡ m)
+
+  abbrev pub GivesHub : Option M → Step (Place C H) → Me (Place C H) (View H E B M R S) → ℕ
+      → Me (Place C H) (View H E B M R S) → Type 0
   GivesHub mark st m found w = (next : H) × (m.1 ≡ (0, Hub next) ∷ w.1) × (w.0 ≡ given_hub m.0 next mark)
 
   -- an entry is legal after the history, and the cells of its footprint are in hand
   abbrev pub IsDue : Story B E R → List ℕ → Option (Deed E R) → Type 0
   IsDue h hand None = Unit {0}
   IsDue h hand (Some (Item i)) = Unit {0}
-  IsDue h hand (Some (Entry e)) = law.may_follow h.base (entries_of h.deeds) e × ((c : ℕ) → Among c (law.footprint e) → Among c hand)
+  IsDue h hand (Some (Entry e)) =
+      law.may_follow h.base (entries_of h.deeds) e × ((c : ℕ) → Among c (law.footprint e) → Among c hand)
 
   abbrev pub IsMarked : Option M → Option (Deed E R) → Type 0
   IsMarked None None = Unit {0}
@@ -203,16 +258,20 @@ module _ {C H E B M R S : Type 0} (law : Meaning C H E B M R S) where
     pub base : law.base_of next ≡ v.seen.base
     pub entries : law.entries next ≡ entries_of (grown v.seen v.number (deed_of mark next)).deeds
     pub due : IsDue v.seen (numbers_of v.cells) (deed_of mark next)
-    pub others : (k : ℕ) (log : List M) → k ≢ v.number → law.keeps found v.seen k log → law.keeps next (grown v.seen v.number (deed_of mark next)) k log
+    pub others : (k : ℕ) (log : List M) → k ≢ v.number → law.keeps found v.seen k log
+        → law.keeps next (grown v.seen v.number (deed_of mark next)) k log
     pub own : law.keeps next (grown v.seen v.number (deed_of mark next)) v.number (with_mark v.log mark)
     pub marked : IsMarked mark (deed_of mark next)
     pub true_mark : IsTrueMark mark (grown v.seen v.number (deed_of mark next)) v.number v.log
 
   -- what one view is to the journal
-  pub record Fits (journal : Story B E R) (holder keeper : ℕ → ℕ) (logs : ℕ → List M) (seat : ℕ) (v : View H E B M R S) : Type 0 where
+  pub record Fits (journal : Story B E R) (holder keeper : ℕ → ℕ) (logs : ℕ → List M) (seat : ℕ)
+      (v : View H E B M R S) : Type 0 where
     pub seen : v.tells ≡ true → Begins v.seen journal
     pub old : Every (λ h. Begins h journal) v.old
     pub own : v.live ≡ true → (v.number ≡ seat) × (v.log ≡ logs seat) × (v.tells ≡ true) × (keeper seat ≡ suc seat)
+    -- it has seen all that it did
+    pub did : v.live ≡ true → deeds_by seat v.seen.deeds ≡ deeds_by seat journal.deeds
     pub others : Every (λ p. (p.1 ≡ logs p.0) × (keeper p.0 ≡ suc seat)) v.others
     pub distinct : AreDistinct (seat ∷ numbers_of v.others)
     pub cells : Every (InHand journal holder v.bound seat) v.cells
@@ -220,12 +279,14 @@ module _ {C H E B M R S : Type 0} (law : Meaning C H E B M R S) where
     pub hub : (h : H) → v.hub ≡ Some h → HubInHand journal holder logs seat v.seen h
     pub empty : v.live ≡ false → (v.cells ≡ []) × (v.hub ≡ None)
 
-  pub record CellHome (journal : Story B E R) (homes : List (mathlib.Core.Option.Option (Place C H))) (c : ℕ) : Type 0 where
+  pub record CellHome (journal : Story B E R) (homes : List (mathlib.Core.Option.Option (Place C H)))
+      (c : ℕ) : Type 0 where
     pub value : C
     pub there : get_elem? homes (suc c) ≡ some (some (Cell value))
     pub shown : law.shows value ≡ shown_by journal c
 
-  pub record HubHome (journal : Story B E R) (logs : ℕ → List M) (homes : List (mathlib.Core.Option.Option (Place C H))) : Type 0 where
+  pub record HubHome (journal : Story B E R) (logs : ℕ → List M)
+      (homes : List (mathlib.Core.Option.Option (Place C H))) : Type 0 where
     pub value : H
     pub there : get_elem? homes 0 ≡ some (some (Hub value))
     pub hub : IsHub journal logs value
@@ -258,7 +319,8 @@ module _ {C H E B M R S : Type 0} (law : Meaning C H E B M R S) where
     pub tells : view.tells ≡ true
     pub whole : view.seen ≡ journal
 
-  -- the law of the floor that words and views show: a cell is what it shows, and the hub is the base and the entries, each with its seat
+  -- the law of the floor that words and views show: a cell is what it shows, and the hub is the base and the entries,
+  -- each with its seat
   abbrev pub floor_meaning : Meaning S (B × List (ℕ × E)) E B M R S
   floor_meaning = record {
     some_base = law.some_base;
@@ -284,12 +346,13 @@ module _ {C H E B M R S : Type 0} (law : Meaning C H E B M R S) where
     pub hub_free : f.hub_holder ≡ None
 
   -- the words, of which there are `count`, and the views show this floor
-  pub record ShowsFloor (count : ℕ) (journal : Story B E R) (holder : ℕ → ℕ) (f : FloorState S (B × List (ℕ × E))) : Type 0 where
+  pub record ShowsFloor (count : ℕ) (journal : Story B E R) (holder : ℕ → ℕ)
+      (f : FloorState S (B × List (ℕ × E))) : Type 0 where
     pub cells_long : length f.cells + 1 ≡ count
     pub holders_long : length f.holders + 1 ≡ count
     pub cells : (c : ℕ) → suc c < count → slice_get f.cells c ≡ Some (shown_by journal c)
     pub holders : (c : ℕ) → suc c < count → slice_get f.holders c ≡ Some (owner (holder (suc c)))
-    pub hub : f.hub ≡ (journal.base, made_in journal.deeds)
+    pub hub : f.hub ≡ (journal.base, entries_by_seat journal.deeds)
     pub hub_holder : f.hub_holder ≡ owner (holder 0)
 
   -- the floor that they show is one to which some list of events of the seats has led
@@ -302,7 +365,7 @@ module _ {C H E B M R S : Type 0} (law : Meaning C H E B M R S) where
     pub last : FloorState S (B × List (ℕ × E))
     pub runs : Runs floor_meaning first events answers entries last
     -- the actors of the events are the seats in the journal
-    pub makers : entries ≡ made_in journal.deeds
+    pub makers : entries ≡ entries_by_seat journal.deeds
     pub shows : ShowsFloor count journal holder last
 
   pub record Ruled (base : B) (s : State (Place C H) (View H E B M R S)) : Type 0 where
@@ -321,9 +384,10 @@ module _ {C H E B M R S : Type 0} (law : Meaning C H E B M R S) where
     pub nowhere : (k : ℕ) → length s.words ≤ k → holder k ≡ 0
     -- words and views show a floor, which the steps move by their events
     pub floor : IsFloor base (length s.words) journal holder
-    -- the journal is the longest history seen, it is legal, and a seat's entries and roll items are those of its log. Each log stands in one pass
+    -- the journal is the longest history seen, it is legal, and a seat's entries and roll items are those of its log.
+    -- Each log stands in one pass
     pub same_base : journal.base ≡ base
-    pub legal : IsLegalAfter law.may_follow base [] (entries_of journal.deeds)
+    pub legal : IsLegalAfter (law.may_follow base) [] (entries_of journal.deeds)
     pub longest : HasSeen s.views journal
     pub each : (j : ℕ) (v : View H E B M R S) → get_elem? s.views j ≡ some v → Fits journal holder keeper logs j v
     pub kept : (k seat : ℕ) → keeper k ≡ suc seat → HasLog s.views seat k

@@ -1,10 +1,11 @@
 -- What a pass and a visit have in hand.
 use Rattle.std.specs.Prelude.{◌≡◌, ◌≢◌, ℕ, suc, ◌+◌, ◌<◌, ◌&&◌, nat_lt, Bool, true, List, [], ◌∷◌, ◌++◌, map, reverse, take, drop, Option, Some, None}
 use Rattle.atomic_table.specs.Table.{Me}
-use Rattle.hall_core.specs.declared.story.Story.{Story}
-use Rattle.hall_core.specs.declared.story.Deed.{Deed}
-use Rattle.hall_core.specs.declared.story.Deed.TheVariants.{Entry, Item}
-use Rattle.hall_core.specs.History.{Among, Meaning, Adds, adds_nothing, adds_entry, adds_item, Begins, IsLegalAfter, entries_of, Every}
+use Rattle.histories.specs.declared.story.Story.{Story}
+use Rattle.histories.specs.declared.story.Deed.{Deed}
+use Rattle.histories.specs.declared.story.Deed.TheVariants.{Entry, Item}
+use Rattle.hall_core.specs.Meanings.{Among, Meaning, Adds, adds_nothing, adds_entry, adds_item}
+use Rattle.histories.specs.History.{Begins, IsLegalAfter, entries_of, deeds_by, Every}
 use Rattle.hall_locks.specs.declared.view.View.{View}
 use Rattle.hall_locks.specs.declared.view.Place.{Place}
 use Rattle.hall_locks.specs.declared.view.Place.TheVariants.{Away}
@@ -56,7 +57,8 @@ module _ {C H E B M R S : Type 0} where
     pub numbers : numbers_of m.0.cells ≡ reverse footprint
 
   -- the first i cells of the footprint are in hand
-  pub record Taking (first m : Me (Place C H) (View H E B M R S)) (bound footprint : List ℕ) (count i : ℕ) (shown : List S) : Type 0 where
+  pub record Taking (first m : Me (Place C H) (View H E B M R S)) (bound footprint : List ℕ) (count i : ℕ)
+      (shown : List S) : Type 0 where
     pub slots : m.1 ≡ aways m.0.cells
     pub numbers : numbers_of m.0.cells ≡ reverse (take i footprint)
     pub values : values_of m.0.cells ≡ reverse shown
@@ -79,8 +81,10 @@ module _ {C H E B M R S : Type 0} (law : Meaning C H E B M R S) where
     pub base : law.base_of hub ≡ seen.base
     pub entries : law.entries hub ≡ entries_of seen.deeds
     pub own : law.keeps hub seen before.number before.log
-    pub legal : IsLegalAfter law.may_follow seen.base [] (entries_of seen.deeds)
+    pub legal : IsLegalAfter (law.may_follow seen.base) [] (entries_of seen.deeds)
     pub shown : Every (λ p. p.1 ≡ shown_by law seen p.0) before.cells
+    -- what was seen has all that the seat did
+    pub did : deeds_by before.number seen.deeds ≡ deeds_by before.number before.seen.deeds
 
   -- each cell in hand shows what it showed when it was taken. The view has the last one first
   abbrev pub AsTaken : View H E B M R S → List C → Type 0
@@ -98,7 +102,8 @@ module _ {C H E B M R S : Type 0} (law : Meaning C H E B M R S) where
   abbrev pub IsOneMore : View H E B M R S → H → E → Type 0
   IsOneMore v next entry = law.entries next ≡ entries_of v.seen.deeds ++ entry ∷ []
 
-  -- what a commit owes: the hub has one more entry, which is legal, whose cells are in hand and show what the law gives after it, and it keeps what the law says of every seat
+  -- what a commit owes: the hub has one more entry, which is legal, whose cells are in hand and show what the law gives
+  -- after it, and it keeps what the law says of every seat
   pub record MayCommit (v : View H E B M R S) (next : H) (cells : List C) (mark : Option M) : Type 0 where
     -- the hub as it was taken
     pub found : H
@@ -116,7 +121,8 @@ module _ {C H E B M R S : Type 0} (law : Meaning C H E B M R S) where
     pub fits : law.fits named entry
     pub true_mark : law.is_true named (with_entry v entry) v.number v.log
     pub own : law.keeps next (with_entry v entry) v.number (v.log ++ named ∷ [])
-    pub others : (k : ℕ) (log : List M) → k ≢ v.number → law.keeps found v.seen k log → law.keeps next (with_entry v entry) k log
+    pub others : (k : ℕ) (log : List M) → k ≢ v.number → law.keeps found v.seen k log
+        → law.keeps next (with_entry v entry) k log
 
   -- the mark adds no entry
   abbrev pub AddsNoEntry : Option M → Type 0
@@ -132,7 +138,8 @@ module _ {C H E B M R S : Type 0} (law : Meaning C H E B M R S) where
   abbrev pub with_look : View H E B M R S → Option M → Story B E R
   with_look v mark = grown v.seen v.number (looked_at mark)
 
-  -- what a look owes: the hub has no more entries, the cells show what they showed, and the hub keeps what the law says of every seat
+  -- what a look owes: the hub has no more entries, the cells show what they showed, and the hub keeps what the law says
+  -- of every seat
   pub record MayLook (v : View H E B M R S) (next : H) (cells : List C) (mark : Option M) : Type 0 where
     -- the hub as it was taken
     pub found : H
@@ -144,4 +151,5 @@ module _ {C H E B M R S : Type 0} (law : Meaning C H E B M R S) where
     pub adds : AddsNoEntry mark
     pub true_mark : IsTrueMark law mark (with_look v mark) v.number v.log
     pub own : law.keeps next (with_look v mark) v.number (with_mark v.log mark)
-    pub others : (k : ℕ) (log : List M) → k ≢ v.number → law.keeps found v.seen k log → law.keeps next (with_look v mark) k log
+    pub others : (k : ℕ) (log : List M) → k ≢ v.number → law.keeps found v.seen k log
+        → law.keeps next (with_look v mark) k log

@@ -1,8 +1,9 @@
 //! One cell is taken or given back.
 ghost use Rattle.std.specs.Prelude.{◌≡◌, ℕ, suc, ◌+◌, ◌<◌, ◌∷◌, None, true};
-ghost use Rattle.hall_core.specs.History.{Among, Every};
+ghost use Rattle.hall_core.specs.Meanings.{Among};
+ghost use Rattle.histories.specs.History.{Every};
 ghost use Rattle.atomic_table.specs.Table.{rest};
-ghost use Rattle.hall_locks.specs.Hall.{with_cell, with_cells};
+ghost use Rattle.hall_locks.specs.Hall.{with_cell, with_cells, WasShown};
 ghost use Rattle.hall_locks.specs.declared.view.Place.TheVariants.{Away};
 
 use crate::hall::{Hall, Token};
@@ -29,6 +30,7 @@ impl<T: Law> Hall<T> {
         ensures own { (seat.new.table_id ≡ seat.old.table_id) × (seat.new.id ≡ seat.old.id) }
         ensures taken { seat.new.me
             ≡ (with_cell seat.old.me.0 B.bound cell (T.meaning.shows result), (suc cell, Away) ∷ seat.old.me.1) }
+        ensures was { WasShown T.meaning seat.old.me.0.seen.base (cell, T.meaning.shows result) }
     {
         let word = cell + 1;
         for _ in rt.forever() {

@@ -1,6 +1,7 @@
 //! Visits begin and end.
 ghost use Rattle.std.specs.Prelude.{◌≡◌, ◌<◌, ◌≤◌, [], length, IfOk, IfErr, IsOk, vec_capacity};
-ghost use Rattle.hall_core.specs.History.{Every};
+ghost use Rattle.histories.specs.History.{Every};
+ghost use Rattle.hall_locks.specs.Hall.{WasShown};
 ghost use Rattle.hall_locks.specs.Hands.{Carries, Rises, in_visit, Rests, AsTaken};
 
 use crate::hall::{Hall, Token};
@@ -43,6 +44,7 @@ impl<T: Law> Hall<T> {
         ensures values { AsTaken T.meaning seat.new.me.0 cells.new.items }
         ensures many { length cells.new.items ≡ length footprint.now }
         ensures same { seat.new.me.0 ≡ in_visit seat.old.me.0 seat.new.me.0.bound seat.new.me.0.cells }
+        ensures was { Every (WasShown T.meaning seat.old.me.0.seen.base) seat.new.me.0.cells }
     {
         for i in 0..footprint.len() {
             let x = self.take::<B, R>(rt, seat, footprint[i] as usize);
@@ -92,6 +94,7 @@ impl<T: Law> Hall<T> {
         ensures taken { IfOk result (λ v. AsTaken T.meaning v.seat.me.0 v.cells.items) }
         ensures same { IfOk result (λ v. v.seat.me.0
             ≡ in_visit pass.seat.me.0 v.seat.me.0.bound v.seat.me.0.cells) }
+        ensures was { IfOk result (λ v. Every (WasShown T.meaning pass.seat.me.0.seen.base) v.seat.me.0.cells) }
         ensures back { IfErr result (λ e. e.0 ≡ pass) }
         ensures empty { footprint.items ≡ [] → IsOk result }
     {

@@ -1,5 +1,5 @@
 use Rattle.std.proofs.Common.{◌≡◌, ◌↔◌, Some, slice_get, drop}
-use Rattle.hall_core.specs.History.{Every}
+use Rattle.histories.specs.History.{Every}
 use Rattle.hall_core.proofs.floor.holds_all.Given as goal
 
 abbrev pub invariant-loop-write : goal.invariant-loop-write

@@ -1,5 +1,5 @@
 use Rattle.std.proofs.Common.{◌<◌, ◌∙◌, ap, sym, subst, arith, length, length-set}
-use Rattle.hall_core.specs.History.{Every}
+use Rattle.histories.specs.History.{Every}
 use Rattle.hall_core.specs.Floor.{written}
 use Rattle.hall_core.proofs.floor.write_all.Goals as goal
 

@@ -1,5 +1,5 @@
 use Rattle.std.proofs.Common.{rules, ◌≡◌, ℕ, List, Option, Some, None, true, false, ◌∙◌, refl, sym, subst, ap, length, slice_get}
-use Rattle.hall_core.specs.History.{Every}
+use Rattle.histories.specs.History.{Every}
 use Rattle.hall_core.specs.Floor.{FloorState, written}
 use Rattle.hall_core.proofs.Floors.{disabled_commit, enabled_commit, held_inside, length_written}
 use Rattle.hall_core.proofs.floor.Floor.commit.Goals as goal

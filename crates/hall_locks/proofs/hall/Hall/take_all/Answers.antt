@@ -1,6 +1,8 @@
 use Rattle.std.proofs.Common.{rules, ◌≡◌, ◌+◌, refl, sym, ap, ◌∙◌, subst, arith, get_or, length, [], ◌∷◌, length-append, map}
 use mathlib.Core.List.{map-append}
-use Rattle.hall_core.specs.History.{Among}
+use Rattle.hall_core.specs.Meanings.{Among}
+use Rattle.histories.specs.History.{Every}
+use Rattle.hall_locks.specs.Hall.{WasShown}
 use Rattle.hall_locks.specs.Hands.{Taking}
 use Rattle.hall_locks.proofs.CellByCell.{takes_one, all_below, carries_all}
 use Rattle.hall_locks.proofs.hall.Hall.take_all.Goals as goal
@@ -32,6 +34,8 @@ loop-i-preserved g c = (
       c.loop-i-test.true refl (omega arith) (subst (λ l. Among (get_or c.args.footprint.now c.loop-i.i 0) l) c.requires.bound (c.loop-i.i, c.loop-i-test.true, refl)) c.take-x.ensures.taken c.loop-i.invariant.2),
   ap length c.push_reserved.ensures.items ∙ (length-append c.loop-i.cells.items (c.take-x.result ∷ []) ∙ ap (λ n. n + 1) c.loop-i.invariant.3),
   c.push_reserved.ensures.capacity ∙ c.loop-i.invariant.4,
+  subst (λ l. Every (WasShown g.T.Law.meaning c.args.seat.now.me.0.seen.base) l) (sym (ap (λ m. m.0.cells) c.take-x.ensures.taken))
+      (subst (λ h. WasShown g.T.Law.meaning h.base (get_or c.args.footprint.now c.loop-i.i 0, g.T.Law.meaning.shows c.take-x.result)) (ap (λ v. v.seen) c.loop-i.invariant.2.same) c.take-x.ensures.was, c.loop-i.invariant.5),
 )
 
 pub returns-clause-own : goal.returns-clause-own
@@ -51,3 +55,6 @@ returns-clause-same g c = c.loop-i.invariant.2.same
 
 pub take-x-requires-clause-live : goal.take-x-requires-clause-live
 take-x-requires-clause-live g c = ap (λ v. v.live) c.loop-i.invariant.2.same ∙ c.requires.rests.live
+
+pub returns-clause-was : goal.returns-clause-was
+returns-clause-was g c = c.loop-i.invariant.5
