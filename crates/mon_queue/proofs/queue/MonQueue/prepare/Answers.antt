@@ -1,0 +1,11 @@
+use Rattle.std.proofs.Common.{refl, subst, sym}
+use Rattle.std.specs.Prelude.{IsNone}
+use Rattle.mon_queue.proofs.Rings.{first_is}
+use Rattle.mon_queue.proofs.queue.MonQueue.prepare.Goals as goal
+
+pub returns-in_default-clause-ready : goal.returns-in_default-clause-ready
+returns-in_default-clause-ready c = record {
+  room = c.newest_of_full.ensures.room (subst IsNone (sym c.in_default.is) refl);
+  alone = c.first_update.ensures.overrun;
+  is_update = first_is c.args.self.now.ty c.args.post c.first_update.result c.requires.post c.first_update.ensures.changed c.first_update.ensures.overrun c.first_update.ensures.value;
+}

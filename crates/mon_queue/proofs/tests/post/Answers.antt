@@ -1,0 +1,19 @@
+use Rattle.std.proofs.Common.{◌≡◌, ◌∙◌, true, sym, ap, rules, refl}
+use Rattle.std.specs.Ordering.{nat_cmp}
+use Rattle.std.specs.FinSet.{FinSet, intersection}
+use Rattle.pvd_type.specs.Numbers.{leaves}
+use Rattle.mon_queue.specs.Told.{are_leaves}
+use Rattle.mon_queue.proofs.Rings.{both_leaves, all_leaves}
+use Rattle.mon_queue.proofs.tests.post.Goals as goal
+
+pub returns : goal.returns
+returns c =
+    let t = c.args.ty.now in
+    let others = c.in_ok-bits.field-0 in
+    let yes : c.fits.result ≡ true = search rules in
+    record {
+      fits = sym c.fits.ensures ∙ yes;
+      mask =
+          ap (are_leaves t) (c.meet.ensures ∙ ap (λ (s : FinSet nat_cmp). intersection s others) (c.in_ok-mask.ensures {u = tt}))
+          ∙ both_leaves t (leaves t) others (all_leaves t);
+    }

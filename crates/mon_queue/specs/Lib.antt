@@ -1,0 +1,6 @@
+pub mod Runs
+pub mod Merged
+pub mod Told
+pub mod Unread
+pub mod Shown
+pub mod Course

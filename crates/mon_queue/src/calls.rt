@@ -1,0 +1,167 @@
+ghost use Rattle.std.specs.Prelude.{◌≡◌, ◌≤◌, ◌<◌, ◌-◌, ◌∷◌, ◌++◌, ◌↔◌, [], List, Some, true, length, take, drop, map, IfOk, IfSome, IsNone, slice_get, option_map};
+ghost use Rattle.std.specs.FinSet as set;
+ghost use Rattle.circular_buffer.specs.Buffer.{buffer, last_item};
+ghost use Rattle.pvd_value.specs.View.{view};
+ghost use Rattle.pvd_value.specs.Fits.{fits_of};
+ghost use Rattle.pvd_value.specs.LeafValues.{leaf_values};
+ghost use Rattle.mon_queue.specs.Runs.{posted, Run, fresh, with_post, without_oldest, oldest_of, Event, post as posting, pop as popping, unread_runs};
+ghost use Rattle.mon_queue.specs.Merged.{told_with, told_more};
+ghost use Rattle.mon_queue.specs.Told.{posted_by, told_by, are_leaves, IsPostOf, is_update_of, are_updates_of, IsUpdateOf};
+ghost use Rattle.mon_queue.specs.Unread.{type_of, size_of, unread, Holds, StandsFor, prepared_post, IsReadyFor};
+
+use crate::joining::{first_update, joined, sets_with};
+use crate::queue::MonQueue;
+use crate::update::{Post, Prepared, Update};
+use circular_buffer::HeapCircularBuffer;
+use pvd_type::{BitSet, NoMemory, PvType};
+use pvd_value::PvValue;
+use std::alloc::Global;
+
+impl MonQueue {
+    /// A queue in which one post is unread: the first value of a monitor, with the leaves that it asked for. All memory that the
+    /// queue needs for its updates is taken here.
+    pub fn start(
+        alloc: Global,
+        ty: PvType,
+        mask: BitSet,
+        first: PvValue,
+        size: u32,
+    ) -> Result<MonQueue, NoMemory>
+        requires size { (1 ≤ size) × (size ≤ 64) }
+        requires fits { fits_of 16 (view first) ty ≡ true }
+        requires mask { are_leaves ty mask ≡ true }
+        ensures ty { IfOk result (λ q. type_of q ≡ ty) }
+        ensures size { IfOk result (λ q. size_of q ≡ size) }
+        ensures runs { IfOk result (λ q. Holds q (fresh (posted mask (leaf_values ty (view first))) ∷ [])) }
+        ensures stands { IfOk result (λ q. StandsFor q (posting (posted mask (leaf_values ty (view first))) ∷ [])) }
+    {
+        let mut ring = HeapCircularBuffer::with_capacity(alloc, size as usize)?;
+        let first = Post { mask, value: first };
+        append(&mut ring, first_update(alloc, first));
+        Ok(MonQueue { ty, ring })
+    }
+
+    /// The type of the monitor's values.
+    pub fn ty(&self) -> &PvType
+        ensures { result.now ≡ type_of self.now }
+    {
+        &self.ty
+    }
+
+    /// Takes the memory that a post needs: none is left for [`MonQueue::apply`] to take. The queue stays as it is.
+    pub fn prepare(&self, alloc: Global, post: Post) -> Result<Prepared, NoMemory>
+        requires post { IsPostOf (type_of self.now) post }
+        ensures post { IfOk result (λ p. prepared_post (type_of self.now) p ≡ posted_by (type_of self.now) post) }
+        ensures ready { IfOk result (IsReadyFor self.now) }
+    {
+        let Some(newest) = self.newest_of_full() else {
+            return Ok(Prepared::Begins(first_update(alloc, post)));
+        };
+        match sets_with(alloc, newest, &post.mask) {
+            Ok((changed, overrun)) => Ok(Prepared::Joins {
+                post,
+                changed,
+                overrun,
+            }),
+            Err(no_memory) => {
+                discard_post(post);
+                Err(no_memory)
+            }
+        }
+    }
+
+    /// The newest update, where as many are unread as may be.
+    fn newest_of_full(&self) -> Option<&Update>
+        ensures full { IfSome result (λ u. length (unread self.now) ≡ size_of self.now) }
+        ensures newest { IfSome result (λ u. last_item self.now.ring.items ≡ Some u.now) }
+        ensures room { IsNone result → length (unread self.now) < size_of self.now }
+    {
+        if self.ring.len() < self.ring.capacity() {
+            return None;
+        }
+        self.ring.back()
+    }
+
+    /// Adds a post that this queue prepared, and that nothing came after. It takes no memory.
+    pub fn apply(&mut self, prepared: Prepared)
+        requires { IsReadyFor self.old prepared }
+        ensures ty { type_of self.new ≡ type_of self.old }
+        ensures size { size_of self.new ≡ size_of self.old }
+        ensures few { length (unread self.new) ≤ size_of self.new }
+        ensures unread { unread self.new ≡ told_with (size_of self.old) (unread self.old) (prepared_post (type_of self.old) prepared) }
+        ensures runs { (runs : List Run) → Holds self.old runs → Holds self.new (with_post (size_of self.old) runs (prepared_post (type_of self.old) prepared)) }
+        ensures stands { (events : List Event) → StandsFor self.old events → StandsFor self.new (events ++ posting (prepared_post (type_of self.old) prepared) ∷ []) }
+    {
+        match prepared {
+            Prepared::Begins(update) => append(&mut self.ring, update),
+            Prepared::Joins {
+                post,
+                changed,
+                overrun,
+            } => join_newest(&self.ty, &mut self.ring, post, changed, overrun),
+        }
+    }
+
+    /// The oldest unread update, or none where none is unread. It takes no memory.
+    pub fn pop(&mut self) -> Option<Update>
+        ensures none { IsNone result ↔ (unread self.old ≡ []) }
+        ensures first { option_map (told_by (type_of self.old)) result ≡ slice_get (unread self.old) 0 }
+        ensures update { IfSome result (IsUpdateOf (type_of self.old)) }
+        ensures ty { type_of self.new ≡ type_of self.old }
+        ensures size { size_of self.new ≡ size_of self.old }
+        ensures few { length (unread self.new) ≤ size_of self.new }
+        ensures unread { unread self.new ≡ drop 1 (unread self.old) }
+        ensures oldest { (runs : List Run) → Holds self.old runs → option_map (told_by (type_of self.old)) result ≡ oldest_of runs }
+        ensures runs { (runs : List Run) → Holds self.old runs → Holds self.new (without_oldest runs) }
+        ensures stands { (events : List Event) → StandsFor self.old events → StandsFor self.new (events ++ popping ∷ []) }
+    {
+        take_oldest(&mut self.ring)
+    }
+}
+
+/// The first update leaves the ring.
+fn take_oldest(ring: &mut HeapCircularBuffer<Update>) -> Option<Update>
+    ensures first { result ≡ slice_get ring.old.items 0 }
+    ensures rest { ring.new ≡ buffer (drop 1 ring.old.items) ring.old.capacity }
+{
+    ring.pop_front()
+}
+
+/// One more update, for which there is room.
+fn append(ring: &mut HeapCircularBuffer<Update>, update: Update)
+    requires { length ring.old.items < ring.old.capacity }
+    ensures { ring.new ≡ buffer (ring.old.items ++ update ∷ []) ring.old.capacity }
+{
+    discard(ring.push_back(update));
+}
+
+/// The newest update takes a post.
+fn join_newest(
+    ty: &PvType,
+    ring: &mut HeapCircularBuffer<Update>,
+    post: Post,
+    changed: BitSet,
+    overrun: BitSet,
+)
+    requires some { 1 ≤ length ring.old.items }
+    requires few { length ring.old.items ≤ ring.old.capacity }
+    requires updates { are_updates_of ty.now ring.old.items ≡ true }
+    requires post { IsPostOf ty.now post }
+    requires changed { (newest : Update) → last_item ring.old.items ≡ Some newest → changed ≡ set.union newest.changed post.mask }
+    requires overrun { (newest : Update) → last_item ring.old.items ≡ Some newest → overrun ≡ set.union (set.intersection post.mask newest.changed) newest.overrun }
+    ensures capacity { ring.new.capacity ≡ ring.old.capacity }
+    ensures len { length ring.new.items ≡ length ring.old.items }
+    ensures updates { are_updates_of ty.now ring.new.items ≡ true }
+    ensures told { (newest : Update) → last_item ring.old.items ≡ Some newest → map (told_by ty.now) ring.new.items ≡ map (told_by ty.now) (take (length ring.old.items - 1) ring.old.items) ++ told_more (told_by ty.now newest) (posted_by ty.now post) ∷ [] }
+{
+    let Some(newest) = ring.pop_back() else {
+        return;
+    };
+    append(ring, joined(ty, newest, post, changed, overrun));
+}
+
+/// Lets a post go.
+fn discard_post(_post: Post) {}
+
+/// Lets an update go.
+fn discard(_update: Option<Update>) {}
