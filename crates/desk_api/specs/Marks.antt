@@ -22,8 +22,8 @@ use Rattle.desk_api.specs.declared.mark.Seat.{Seat}
 use Rattle.desk_api.specs.declared.put.Done.{Done}
 use Rattle.desk_api.specs.declared.put.PutAnswer.{PutAnswer}
 use Rattle.desk_api.specs.declared.put.PutAnswer.TheVariants as answers
-use Rattle.pva_messages.specs.declared.no_memory.NoMemory.{NoMemory}
-use Rattle.pva_messages.specs.declared.value.PvValue.{PvValue}
+use Rattle.first_messages.specs.declared.no_memory.NoMemory.{NoMemory}
+use Rattle.first_messages.specs.declared.value.PvValue.{PvValue}
 
 -- how many entries stand before the step
 abbrev pub place : Mark → ℕ

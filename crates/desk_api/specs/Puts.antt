@@ -2,7 +2,7 @@
 use Rattle.std.specs.Prelude.{ℕ, List, [], ◌∷◌, map, Option, None, Some, Result, Ok, Err, slice_get, if◌then◌else◌}
 use Rattle.std.specs.FinSet.{FinSet, contains}
 use Rattle.std.specs.Ordering.{nat_cmp}
-use Rattle.pva_messages.specs.declared.value.PvValue.{PvValue}
+use Rattle.first_messages.specs.declared.value.PvValue.{PvValue}
 use Rattle.rec_kinds.specs.Validity.{refusal}
 use Rattle.rec_kinds.specs.declared.config.RecConfig.{RecConfig}
 use Rattle.rec_kinds.specs.declared.datum.Datum.{Datum}

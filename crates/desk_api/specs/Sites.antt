@@ -1,8 +1,8 @@
 -- The names of a site and the channels that they stand for.
 use Rattle.std.specs.Prelude.{ℕ, ℤ, ◌+◌, Bool, false, ◌&&◌, ◌||◌, ◌==◌, not, nat_lt, nat_le, List, [], ◌∷◌, length, Option, None, Some, if◌then◌else◌, bytes_eq}
 use Rattle.std.specs.List.{list_all}
-use Rattle.pva_messages.specs.declared.value.PvType.{PvType}
-use Rattle.pva_messages.specs.declared.value.PvType.TheVariants.{NtScalarInt}
+use Rattle.first_messages.specs.declared.value.PvType.{PvType}
+use Rattle.first_messages.specs.declared.value.PvType.TheVariants.{NtScalarInt}
 use Rattle.rec_kinds.specs.Processing.{opening}
 use Rattle.rec_kinds.specs.declared.config.Kind.TheVariants.{Longout}
 use Rattle.desk_api.specs.declared.channel.Channel.{Channel}

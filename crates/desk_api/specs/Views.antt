@@ -1,6 +1,6 @@
 -- What a channel shows of the states of its records (Normative Types, NTScalar).
 use Rattle.std.specs.Prelude.{◌≡◌, List, [], ◌∷◌, pos}
-use Rattle.pva_messages.specs.declared.value.PvValue.{PvValue}
+use Rattle.first_messages.specs.declared.value.PvValue.{PvValue}
 use Rattle.rec_kinds.specs.declared.datum.Datum.TheVariants.{Num}
 use Rattle.rec_kinds.specs.declared.state.RecState.{RecState}
 use Rattle.desk_api.specs.declared.channel.Channel.{Channel}

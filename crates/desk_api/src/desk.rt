@@ -6,7 +6,7 @@ ghost use Rattle.desk_api.specs.Marks.{Calls, AreGet, ArePut, OnMarked, EndsAtLa
 
 use crate::channel::Channel;
 use crate::put::{Done, PutAnswer};
-use pva_messages::{NoMemory, PvType, PvValue};
+use first_messages::{NoMemory, PvType, PvValue};
 use pvd_type::BitSet;
 use rec_kinds::Moment;
 use std::alloc::Global;

@@ -3,7 +3,7 @@ ghost use Rattle.std.specs.Prelude.{◌≡◌, IfOk};
 ghost use Rattle.desk_api.specs.Puts as puts;
 ghost use Rattle.rec_kinds.specs.Validity.{MayBeDone};
 
-use pva_messages::PvValue;
+use first_messages::PvValue;
 use pvd_type::BitSet;
 use rec_kinds::{Action, Datum, Kind, PutRefusal, RecConfig, check_put};
 

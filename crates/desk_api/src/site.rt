@@ -4,7 +4,7 @@ ghost use Rattle.journal_core.specs.Legality.{AreValid};
 ghost use Rattle.desk_api.specs.Sites as sites;
 
 use crate::channel::{Channel, ChannelKind};
-use pva_messages::{NoMemory, PvType};
+use first_messages::{NoMemory, PvType};
 use pvd_type::Name;
 use rec_kinds::{Kind, RecConfig, RecState};
 use std::alloc::Global;

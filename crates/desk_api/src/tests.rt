@@ -1,7 +1,7 @@
 ghost use Rattle.std.specs.Prelude.{◌<◌};
 
 use crate::{Channel, ChannelKind, Site, action_of, is_record_name, value_of};
-use pva_messages::{Alarm, PvType, PvValue, TimeStamp};
+use first_messages::{Alarm, PvType, PvValue, TimeStamp};
 use pvd_type::{BitSet, Name};
 use rec_kinds::{Action, Datum, Kind, Moment, PutRefusal, RecConfig, RecState, process};
 use std::alloc::Global;

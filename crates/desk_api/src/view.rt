@@ -4,7 +4,7 @@ ghost use Rattle.desk_api.specs.Views.{IsShown};
 ghost use Rattle.rec_kinds.specs.Validity.{IsValid, IsOfSort};
 ghost use Rattle.rec_kinds.specs.declared.datum.Datum.TheVariants.{Num};
 
-use pva_messages::{Alarm, NoMemory, PvValue, TimeStamp};
+use first_messages::{Alarm, NoMemory, PvValue, TimeStamp};
 use rec_kinds::{Datum, Kind, RecConfig, RecState};
 use std::alloc::Global;
 

@@ -9,7 +9,7 @@ use Rattle.std.proofs.Math.Seq.{take-length}
 use Rattle.std.specs.FinSet.{FinSet}
 use Rattle.std.specs.Ordering.{nat_cmp}
 use Rattle.std.specs.Prelude.{ℤ, ◌^◌, Result, Contains}
-use Rattle.pva_messages.specs.declared.value.PvValue.{PvValue}
+use Rattle.first_messages.specs.declared.value.PvValue.{PvValue}
 use Rattle.rec_kinds.specs.Processing.{processed}
 use Rattle.rec_kinds.specs.Validity.{SuitsKind, MayBeDone}
 use Rattle.rec_kinds.specs.declared.config.Kind.{Kind}

@@ -3,7 +3,7 @@ ghost use Rattle.desk_api.specs.Sites.{is_channel};
 
 use crate::{Channel, Desk, Done, Moment, PutAnswer, PvType, PvValue, Site, SoloDesk};
 use desk_api::{ChannelKind, PutRefusal};
-use pva_messages::{Alarm, TimeStamp};
+use first_messages::{Alarm, TimeStamp};
 use pvd_type::{BitSet, Name};
 use std::alloc::Global;
 use std::test::Fail;

@@ -1,5 +1,10 @@
-pub mod Numbers
-pub mod Fronts
-pub mod Appends
-pub mod Leaves
-pub mod Exact
+pub mod Again
+pub mod Calls
+pub mod Found
+pub mod Messages
+pub mod Monitors
+pub mod Spelled
+pub mod Steps
+pub mod ReadBack
+pub mod PartBack
+pub mod RepliesBack

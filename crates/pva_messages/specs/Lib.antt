@@ -1,5 +1,13 @@
-pub mod Values
-pub mod Frames
-pub mod Cutting
-pub mod Replies
+pub mod Items
+pub mod Fields
+pub mod Subcommands
 pub mod Requests
+pub mod Replies
+pub mod Rows
+pub mod Grammar
+pub mod Reading
+pub mod Written
+pub mod Payloads
+pub mod Views
+pub mod Faults
+pub mod Laws

@@ -1,67 +1,154 @@
--- What the server says, as bytes
--- (pvAccess Protocol Specification, "Connection validation", "Create channel", "Channel get" and "Channel put").
-use Rattle.std.specs.Prelude.{ℕ, List, [], ◌∷◌, ◌++◌, codes}
-use Rattle.std.specs.Int.{w16, to_le_bytes, to_be_bytes}
-use Rattle.pva_wire.specs.declared.order.Order.{Order}
-use Rattle.pva_wire.specs.declared.order.Order.TheVariants.{Little, Big}
-use Rattle.pva_wire.specs.Spelling.{word, canonical_size, canonical_text}
-use Rattle.pva_messages.specs.Frames.{server_frame}
-use Rattle.pva_messages.specs.Values.{description, whole_part}
-use Rattle.pva_messages.specs.declared.to_client.ToClient.{ToClient}
-use Rattle.pva_messages.specs.declared.to_client.ToClient.TheVariants.{Validated, Created, NotFound, GetBegun, Got, PutBegun, PutDone, PutFailed}
-use Rattle.pva_messages.specs.declared.to_client.PutError.{PutError}
-use Rattle.pva_messages.specs.declared.to_client.PutError.TheVariants.{Disabled, NothingWritable, JournalFull}
+-- What a server says, as plain data, and the fields of each message (pvAccess Protocol Specification, "Application Messages").
+use Rattle.std.specs.Prelude.{◌≡◌, ℕ, Bool, true, false, ◌&&◌, not, List, [], ◌∷◌, ◌++◌, Option, Some, None}
+use Rattle.std.specs.Ordering.{nat_cmp}
+use Rattle.std.specs.FinSet.{FinSet}
+use Rattle.pva_wire.specs.declared.status.Status.{Status}
+use Rattle.pvd_type.specs.Tree.{Tree}
+use Rattle.pva_messages.specs.declared.command.Command.{Command}
+use Rattle.pva_messages.specs.declared.command.Command.TheVariants as command
+use Rattle.pva_messages.specs.Subcommands.{begins, ends, asks_back, carries, OnlyWhere, ExactlyWhere}
+use Rattle.pva_messages.specs.Fields.{Field, Valued, PartData, byte, short, word, text, texts, status, description, valued, part, bits, rest}
 
--- a status: OK without texts, or ERROR with a message and no call tree
-abbrev pub good : List ℕ
-good = 0xFF ∷ []
+pub data Reply : Type 0 where
+  -- buffer size, registry size, methods
+  validation : ℕ → ℕ → List (List ℕ) → Reply
+  echo : List ℕ → Reply
+  -- the client's id of the channel, the server's
+  created : ℕ → ℕ → Status → Reply
+  -- the server's id of the channel, the client's
+  channel_destroyed : ℕ → ℕ → Reply
+  validated : Status → Reply
+  -- the id of the request, the subcommand, the status; the type, where it is begun; the part
+  get : ℕ → ℕ → Status → Option Tree → Option PartData → Reply
+  put : ℕ → ℕ → Status → Option Tree → Option PartData → Reply
+  -- the type that is put, and the one that is got
+  put_get : ℕ → ℕ → Status → Option Tree → Option Tree → Option PartData → Reply
+  monitor_begun : ℕ → ℕ → Status → Option Tree → Reply
+  -- what changed, and what did so more than once
+  monitor_update : ℕ → ℕ → Option (PartData × FinSet nat_cmp) → Reply
+  monitor_end : ℕ → ℕ → Status → Reply
+  get_field : ℕ → Status → Option Tree → Reply
+  -- the id of the request, the kind of the message, its text
+  message : ℕ → ℕ → List ℕ → Reply
+  rpc : ℕ → ℕ → Status → Valued → Reply
+  -- a message of another command
+  skipped : ℕ → Reply
 
-abbrev pub error : Order → List ℕ → List ℕ
-error order message = 2 ∷ canonical_text order message ++ canonical_text order []
+-- an item that wasn't read is none
+abbrev pub type_in : List Field → Option Tree
+type_in (description t ∷ fields) = t
+type_in fields = None
 
--- what a put that failed says
-abbrev pub text_of : PutError → List ℕ
-text_of Disabled = codes "puts are disabled"
-text_of NothingWritable = codes "nothing writable"
-text_of JournalFull = codes "journal full"
+abbrev pub second_type_in : List Field → Option Tree
+second_type_in (description t ∷ description u ∷ fields) = u
+second_type_in fields = None
 
--- the command of a message
-abbrev pub command_of : ToClient → ℕ
-command_of Validated = 9
-command_of (Created cid sid) = 7
-command_of (NotFound cid) = 7
-command_of (GetBegun req type) = 10
-command_of (Got req value) = 10
-command_of (PutBegun req type) = 11
-command_of (PutDone req) = 11
-command_of (PutFailed req why) = 11
+abbrev pub part_in : List Field → Option PartData
+part_in (part p ∷ fields) = Some p
+part_in fields = None
 
--- its payload
-abbrev pub payload_of : Order → ToClient → List ℕ
-payload_of order Validated = good
-payload_of order (Created cid sid) = word order cid ++ (word order sid ++ good)
-payload_of order (NotFound cid) = word order cid ++ (word order 0xFFFF_FFFF ++ error order (codes "channel not found"))
-payload_of order (GetBegun req type) = word order req ++ (8 ∷ good ++ description order type)
-payload_of order (Got req value) = word order req ++ (0 ∷ good ++ whole_part order value)
-payload_of order (PutBegun req type) = word order req ++ (8 ∷ good ++ description order type)
-payload_of order (PutDone req) = word order req ++ (0 ∷ good)
-payload_of order (PutFailed req why) = word order req ++ (0 ∷ error order (text_of why))
+abbrev pub valued_in : List Field → Valued
+valued_in (valued v ∷ fields) = v
+valued_in fields = None
 
-abbrev pub spelled : Order → ToClient → List ℕ
-spelled order message = server_frame order (command_of message) (payload_of order message)
+abbrev pub update_in : List Field → Option (PartData × FinSet nat_cmp)
+update_in (part p ∷ bits overrun ∷ fields) = Some (p, overrun)
+update_in fields = None
 
--- a number of 16 bits
-abbrev pub short : Order → ℕ → List ℕ
-short Little n = to_le_bytes w16 n
-short Big n = to_be_bytes w16 n
+-- what the fields behind the status of a reply say
+abbrev pub get_in : List Field → Option Tree × Option PartData
+get_in fields = (type_in fields, part_in fields)
 
--- The greeting: the byte order to use, as a control message, and a validation with buffer size 65,536, registry size 32,767 and two methods.
-abbrev pub byte_order_message : Order → List ℕ
-byte_order_message Little = 0xCA ∷ 2 ∷ 0x41 ∷ 2 ∷ 0 ∷ 0 ∷ 0 ∷ 0 ∷ []
-byte_order_message Big = 0xCA ∷ 2 ∷ 0xC1 ∷ 2 ∷ 0 ∷ 0 ∷ 0 ∷ 0 ∷ []
+abbrev pub put_get_in : List Field → Option Tree × Option Tree × Option PartData
+put_get_in fields = (type_in fields, second_type_in fields, part_in fields)
 
-abbrev pub offer : Order → List ℕ
-offer order = word order 65536 ++ (short order 32767 ++ (canonical_size order 2 ++ (canonical_text order (codes "anonymous") ++ canonical_text order (codes "ca"))))
+-- a monitor's reply begins it, ends it, or is an update
+abbrev pub monitor_of : Bool → Bool → ℕ → ℕ → List Field → Reply
+monitor_of true ended req sub (status s ∷ fields) = monitor_begun req sub s (type_in fields)
+monitor_of true ended req sub fields = skipped 0
+monitor_of false true req sub (status s ∷ fields) = monitor_end req sub s
+monitor_of false true req sub fields = skipped 0
+monitor_of false false req sub fields = monitor_update req sub (update_in fields)
 
-unfoldable pub greeting : Order → List ℕ
-greeting order = byte_order_message order ++ server_frame order 1 (offer order)
+-- the message that these fields are
+abbrev pub reply_of : Command → List Field → Reply
+reply_of command.Validation (word buffer ∷ short registry ∷ texts methods ∷ fields) = validation buffer registry methods
+reply_of command.Echo (rest xs ∷ fields) = echo xs
+reply_of command.CreateChannel (word cid ∷ word sid ∷ status s ∷ fields) = created cid sid s
+reply_of command.DestroyChannel (word sid ∷ word cid ∷ fields) = channel_destroyed sid cid
+reply_of command.Validated (status s ∷ fields) = validated s
+reply_of command.Get (word req ∷ byte sub ∷ status s ∷ fields) = get req sub s (type_in fields) (part_in fields)
+reply_of command.Put (word req ∷ byte sub ∷ status s ∷ fields) = put req sub s (type_in fields) (part_in fields)
+reply_of command.PutGet (word req ∷ byte sub ∷ status s ∷ fields) = put_get req sub s (type_in fields) (second_type_in fields) (part_in fields)
+reply_of command.Monitor (word req ∷ byte sub ∷ fields) = monitor_of (begins sub) (ends sub) req sub fields
+reply_of command.GetField (word req ∷ status s ∷ fields) = get_field req s (type_in fields)
+reply_of command.Message (word req ∷ byte kind ∷ text t ∷ fields) = message req kind t
+reply_of command.Rpc (word req ∷ byte sub ∷ status s ∷ fields) = rpc req sub s (valued_in fields)
+reply_of c fields = skipped 0
+
+-- a description, where the message has one
+abbrev pub type_field : Bool → Option Tree → List Field
+type_field true t = description t ∷ []
+type_field false t = []
+
+abbrev pub part_field : Option PartData → List Field
+part_field None = []
+part_field (Some p) = part p ∷ []
+
+abbrev pub update_field : Option (PartData × FinSet nat_cmp) → List Field
+update_field None = []
+update_field (Some u) = part u.0 ∷ bits u.1 ∷ []
+
+abbrev pub valued_field : Bool → Valued → List Field
+valued_field true v = valued v ∷ []
+valued_field false v = []
+
+-- the fields of a message
+abbrev pub reply_fields : Reply → List Field
+reply_fields (validation buffer registry methods) = word buffer ∷ short registry ∷ texts methods ∷ []
+reply_fields (echo xs) = rest xs ∷ []
+reply_fields (created cid sid s) = word cid ∷ word sid ∷ status s ∷ []
+reply_fields (channel_destroyed sid cid) = word sid ∷ word cid ∷ []
+reply_fields (validated s) = status s ∷ []
+reply_fields (get req sub s t p) = word req ∷ byte sub ∷ status s ∷ (type_field (carries s && begins sub) t ++ part_field p)
+reply_fields (put req sub s t p) = word req ∷ byte sub ∷ status s ∷ (type_field (carries s && begins sub) t ++ part_field p)
+reply_fields (put_get req sub s t u p) = word req ∷ byte sub ∷ status s ∷ (type_field (carries s && begins sub) t ++ type_field (carries s && begins sub) u ++ part_field p)
+reply_fields (monitor_begun req sub s t) = word req ∷ byte sub ∷ status s ∷ type_field (carries s) t
+reply_fields (monitor_update req sub u) = word req ∷ byte sub ∷ update_field u
+reply_fields (monitor_end req sub s) = word req ∷ byte sub ∷ status s ∷ []
+reply_fields (get_field req s t) = word req ∷ status s ∷ type_field (carries s) t
+reply_fields (message req kind t) = word req ∷ byte kind ∷ text t ∷ []
+reply_fields (rpc req sub s v) = word req ∷ byte sub ∷ status s ∷ valued_field (carries s && not (begins sub)) v
+reply_fields (skipped c) = []
+
+-- its command
+abbrev pub reply_command : Reply → ℕ
+reply_command (validation buffer registry methods) = 0x01
+reply_command (echo xs) = 0x02
+reply_command (created cid sid s) = 0x07
+reply_command (channel_destroyed sid cid) = 0x08
+reply_command (validated s) = 0x09
+reply_command (get req sub s t p) = 0x0A
+reply_command (put req sub s t p) = 0x0B
+reply_command (put_get req sub s t u p) = 0x0C
+reply_command (monitor_begun req sub s t) = 0x0D
+reply_command (monitor_update req sub u) = 0x0D
+reply_command (monitor_end req sub s) = 0x0D
+reply_command (get_field req s t) = 0x11
+reply_command (message req kind t) = 0x12
+reply_command (rpc req sub s v) = 0x14
+reply_command (skipped c) = c
+
+-- The message says what its row has, and no more.
+abbrev pub CanReply : Reply → Type 0
+CanReply (get req sub s t p) = OnlyWhere (carries s && begins sub) t × ExactlyWhere (carries s && not (begins sub)) p
+CanReply (put req sub s t p) = OnlyWhere (carries s && begins sub) t × ExactlyWhere (carries s && (not (begins sub) && asks_back sub)) p
+CanReply (put_get req sub s t u p) =
+    OnlyWhere (carries s && begins sub) t × OnlyWhere (carries s && begins sub) u × ExactlyWhere (carries s && not (begins sub)) p
+CanReply (monitor_begun req sub s t) = (begins sub ≡ true) × OnlyWhere (carries s) t
+CanReply (monitor_update req sub u) = (begins sub ≡ false) × (ends sub ≡ false) × ExactlyWhere true u
+CanReply (monitor_end req sub s) = (begins sub ≡ false) × (ends sub ≡ true)
+CanReply (get_field req s t) = OnlyWhere (carries s) t
+CanReply (rpc req sub s v) = OnlyWhere (carries s && not (begins sub)) v
+CanReply (skipped c) = ⊥
+CanReply m = Unit {0}

@@ -1,77 +1,142 @@
--- What a client says, as it stands in the payload of a little endian frame
--- (pvAccess Protocol Specification, "Connection validation", "Create channel", "Channel get" and "Channel put").
-use Rattle.std.specs.Prelude.{ℕ, ℤ, Bool, false, ◌&&◌, ◌==◌, nat_lt, List, [], ◌∷◌, length, take, drop, Option, None, Some, Ok, Err, if◌then◌else◌, codes, bytes_eq}
-use Rattle.std.specs.Int.{w16, w32, from_le_bytes, cast_signed}
-use Rattle.pva_wire.specs.Reading.{Read, text_at}
-use Rattle.pva_wire.specs.declared.order.Order.TheVariants.{Little}
-use Rattle.pva_messages.specs.declared.to_server.ToServer.{ToServer}
-use Rattle.pva_messages.specs.declared.to_server.ToServer.TheVariants.{Validation, Create, BeginGet, Get, BeginPut, Put}
+-- What a client says, as plain data, and the items of each message (pvAccess Protocol Specification, "Application Messages").
+use Rattle.std.specs.Prelude.{◌≡◌, ℕ, ◌+◌, ◌≤◌, Bool, true, false, List, [], ◌∷◌, ◌++◌, length, Option, Some, None, if◌then◌else◌}
+use Rattle.pva_messages.specs.declared.command.Command.{Command}
+use Rattle.pva_messages.specs.declared.command.Command.TheVariants as command
+use Rattle.pva_messages.specs.Subcommands.{begins, asks_back, counts, has_part, OnlyWhere, ExactlyWhere}
+use Rattle.pva_messages.specs.Fields.{Field, Valued, PartData, byte, short, word, text, channels, valued, last_valued, part, rest}
 
--- the number in the first two or four bytes
-abbrev pub short_at : List ℕ → ℕ
-short_at bytes = from_le_bytes w16 (take 2 bytes)
+-- The part of a put: there is none; it was left unread and begins at this place of the payload; or this.
+pub data PutPart : Type 0 where
+  absent : PutPart
+  unread : ℕ → PutPart
+  given : PartData → PutPart
 
-abbrev pub word_at : List ℕ → ℕ
-word_at bytes = from_le_bytes w32 (take 4 bytes)
+pub data Request : Type 0 where
+  -- buffer size, registry size, quality of service, method, argument
+  validation : ℕ → ℕ → ℕ → List ℕ → Valued → Request
+  echo : List ℕ → Request
+  -- ids of the client, and names
+  create : List (ℕ × List ℕ) → Request
+  -- the server's id of the channel, and the client's
+  destroy_channel : ℕ → ℕ → Request
+  -- the server's id of the channel, the id of the request, the subcommand; then the request structure
+  get : ℕ → ℕ → ℕ → Valued → Request
+  put : ℕ → ℕ → ℕ → Valued → PutPart → Request
+  put_get : ℕ → ℕ → ℕ → Valued → PutPart → Request
+  -- the count of updates: free ones at a beginning, else acknowledged ones
+  monitor : ℕ → ℕ → ℕ → Valued → Option ℕ → Request
+  destroy_request : ℕ → ℕ → Request
+  cancel : ℕ → ℕ → Request
+  get_field : ℕ → ℕ → List ℕ → Request
+  -- the id of the request, the kind of the message, its text
+  message : ℕ → ℕ → List ℕ → Request
+  rpc : ℕ → ℕ → ℕ → Valued → Request
+  -- a message of another command
+  skipped : ℕ → Request
 
--- the signed number in the first four
-abbrev pub int_at : List ℕ → ℤ
-int_at bytes = cast_signed w32 (word_at bytes)
+-- where the part of a put begins: behind two ids and the subcommand
+abbrev pub part_place : ℕ
+part_place = 4 + 4 + 1
 
--- what was read, where nothing was wrong
-abbrev pub ok_of : {A : Type 0} → Read A → Option (A × List ℕ)
-ok_of (Ok found) = Some found
-ok_of (Err fault) = None
+-- a message without a request structure, where none was read
+abbrev pub valued_in : List Field → Valued
+valued_in (valued v ∷ fields) = v
+valued_in fields = None
 
--- the text at the front and the bytes behind it, if a text stands there
-abbrev pub text_and_rest : List ℕ → Option (List ℕ × List ℕ)
-text_and_rest bytes = ok_of (text_at Little bytes)
+abbrev pub part_in : ℕ → List Field → PutPart
+part_in sub (valued v ∷ fields) = absent
+part_in sub (part p ∷ fields) = given p
+part_in sub fields = if asks_back sub then absent else unread part_place
 
--- the method `anonymous` with a null argument
-abbrev pub is_anonymous : Option (List ℕ × List ℕ) → Bool
-is_anonymous (Some method) = bytes_eq method.0 (codes "anonymous") && bytes_eq method.1 (0xFF ∷ [])
-is_anonymous None = false
+abbrev pub count_in : List Field → Option ℕ
+count_in (valued v ∷ word n ∷ fields) = Some n
+count_in (word n ∷ fields) = Some n
+count_in fields = None
 
--- buffer size, registry size, quality of service, and the method
-unfoldable pub validation_at : List ℕ → Option ToServer
-validation_at bytes =
-    if nat_lt (length bytes) 8 then None
-    else if is_anonymous (text_and_rest (drop 8 bytes)) then Some (Validation (word_at bytes) (short_at (drop 4 bytes)) (short_at (drop 6 bytes)))
-    else None
+-- what the fields behind the subcommand of a put and of a monitor say
+abbrev pub put_in : ℕ → List Field → Valued × PutPart
+put_in sub fields = (valued_in fields, part_in sub fields)
 
-abbrev pub create_named : ℕ → Option (List ℕ × List ℕ) → Option ToServer
-create_named cid (Some name) = if length name.1 == 0 then Some (Create cid name.0) else None
-create_named cid None = None
+abbrev pub monitor_in : List Field → Valued × Option ℕ
+monitor_in fields = (valued_in fields, count_in fields)
 
--- the count 1, the client's id for the channel, and its name
-unfoldable pub create_at : List ℕ → Option ToServer
-create_at bytes =
-    if nat_lt (length bytes) 6 then None
-    else if short_at bytes == 1 then create_named (word_at (drop 2 bytes)) (text_and_rest (drop 6 bytes))
-    else None
+-- the message that these fields are
+abbrev pub request_of : Command → List Field → Request
+request_of command.Validation (word buffer ∷ short registry ∷ short qos ∷ text method ∷ last_valued v ∷ fields) = validation buffer registry qos method v
+request_of command.Echo (rest xs ∷ fields) = echo xs
+request_of command.CreateChannel (channels cs ∷ fields) = create cs
+request_of command.DestroyChannel (word sid ∷ word cid ∷ fields) = destroy_channel sid cid
+request_of command.Get (word sid ∷ word req ∷ byte sub ∷ fields) = get sid req sub (valued_in fields)
+request_of command.Put (word sid ∷ word req ∷ byte sub ∷ fields) = put sid req sub (valued_in fields) (part_in sub fields)
+request_of command.PutGet (word sid ∷ word req ∷ byte sub ∷ fields) = put_get sid req sub (valued_in fields) (part_in sub fields)
+request_of command.Monitor (word sid ∷ word req ∷ byte sub ∷ fields) = monitor sid req sub (valued_in fields) (count_in fields)
+request_of command.DestroyRequest (word sid ∷ word req ∷ fields) = destroy_request sid req
+request_of command.Cancel (word sid ∷ word req ∷ fields) = cancel sid req
+request_of command.GetField (word sid ∷ word req ∷ text path ∷ fields) = get_field sid req path
+request_of command.Message (word req ∷ byte kind ∷ text t ∷ fields) = message req kind t
+request_of command.Rpc (word sid ∷ word req ∷ byte sub ∷ valued v ∷ fields) = rpc sid req sub v
+request_of c fields = skipped 0
 
--- the channel's id, the request's id, and either the subcommand 8 with an empty structure, which begins, or 0, which gets
-unfoldable pub get_at : List ℕ → Option ToServer
-get_at bytes =
-    if nat_lt (length bytes) 8 then None
-    else if bytes_eq (drop 8 bytes) (0 ∷ []) then Some (Get (word_at bytes) (word_at (drop 4 bytes)))
-    else if bytes_eq (drop 8 bytes) (8 ∷ 0x80 ∷ 0 ∷ 0 ∷ []) then Some (BeginGet (word_at bytes) (word_at (drop 4 bytes)))
-    else None
+-- the request structure, where the message begins a request
+abbrev pub begun : ℕ → Valued → List Field
+begun sub v = if begins sub then valued v ∷ [] else []
 
--- The channel's id, the request's id, and either the subcommand 8 with an empty structure, which begins, or 0, which puts. A put has the set of the
--- leaf `value` alone, which has the number 1, and its number.
-unfoldable pub put_at : List ℕ → Option ToServer
-put_at bytes =
-    if nat_lt (length bytes) 8 then None
-    else if bytes_eq (drop 8 bytes) (8 ∷ 0x80 ∷ 0 ∷ 0 ∷ []) then Some (BeginPut (word_at bytes) (word_at (drop 4 bytes)))
-    else if bytes_eq (take 3 (drop 8 bytes)) (0 ∷ 1 ∷ 2 ∷ []) && length bytes == 15 then Some (Put (word_at bytes) (word_at (drop 4 bytes)) (int_at (drop 11 bytes)))
-    else None
+abbrev pub part_field : PutPart → List Field
+part_field absent = []
+part_field (unread place) = []
+part_field (given p) = part p ∷ []
 
--- The message of a frame with this command; none where it isn't taken so far.
-abbrev pub message_at : ℕ → List ℕ → Option ToServer
-message_at command bytes =
-    if command == 1 then validation_at bytes
-    else if command == 7 then create_at bytes
-    else if command == 10 then get_at bytes
-    else if command == 11 then put_at bytes
-    else None
+abbrev pub count_field : Option ℕ → List Field
+count_field None = []
+count_field (Some n) = word n ∷ []
+
+-- the fields of a message
+abbrev pub request_fields : Request → List Field
+request_fields (validation buffer registry qos method v) = word buffer ∷ short registry ∷ short qos ∷ text method ∷ last_valued v ∷ []
+request_fields (echo xs) = rest xs ∷ []
+request_fields (create cs) = channels cs ∷ []
+request_fields (destroy_channel sid cid) = word sid ∷ word cid ∷ []
+request_fields (get sid req sub v) = word sid ∷ word req ∷ byte sub ∷ begun sub v
+request_fields (put sid req sub v p) = word sid ∷ word req ∷ byte sub ∷ (begun sub v ++ part_field p)
+request_fields (put_get sid req sub v p) = word sid ∷ word req ∷ byte sub ∷ (begun sub v ++ part_field p)
+request_fields (monitor sid req sub v n) = word sid ∷ word req ∷ byte sub ∷ (begun sub v ++ count_field n)
+request_fields (destroy_request sid req) = word sid ∷ word req ∷ []
+request_fields (cancel sid req) = word sid ∷ word req ∷ []
+request_fields (get_field sid req path) = word sid ∷ word req ∷ text path ∷ []
+request_fields (message req kind t) = word req ∷ byte kind ∷ text t ∷ []
+request_fields (rpc sid req sub v) = word sid ∷ word req ∷ byte sub ∷ valued v ∷ []
+request_fields (skipped c) = []
+
+-- its command
+abbrev pub request_command : Request → ℕ
+request_command (validation buffer registry qos method v) = 0x01
+request_command (echo xs) = 0x02
+request_command (create cs) = 0x07
+request_command (destroy_channel sid cid) = 0x08
+request_command (get sid req sub v) = 0x0A
+request_command (put sid req sub v p) = 0x0B
+request_command (put_get sid req sub v p) = 0x0C
+request_command (monitor sid req sub v n) = 0x0D
+request_command (destroy_request sid req) = 0x0F
+request_command (cancel sid req) = 0x15
+request_command (get_field sid req path) = 0x11
+request_command (message req kind t) = 0x12
+request_command (rpc sid req sub v) = 0x14
+request_command (skipped c) = c
+
+-- a part of a put is given exactly where the message has one
+abbrev pub PartWhere : Bool → PutPart → Type 0
+PartWhere true absent = ⊥
+PartWhere true (unread place) = ⊥
+PartWhere true (given p) = Unit {0}
+PartWhere false p = p ≡ absent
+
+-- The message says what its row has, and no more.
+abbrev pub CanSend : Request → Type 0
+CanSend (create cs) = length cs ≤ 65535
+CanSend (get sid req sub v) = OnlyWhere (begins sub) v
+CanSend (put sid req sub v p) = OnlyWhere (begins sub) v × PartWhere (has_part sub) p
+CanSend (put_get sid req sub v p) = OnlyWhere (begins sub) v × PartWhere (has_part sub) p
+CanSend (monitor sid req sub v n) = OnlyWhere (begins sub) v × ExactlyWhere (counts sub) n
+CanSend (skipped c) = ⊥
+CanSend m = Unit {0}

@@ -1,19 +1,33 @@
-//! The messages of one connection: frames, the values that are served, and what each end says.
+//! The messages of a pvAccess connection, both ways: which items each has, and how it is read from a
+//! payload and written as frames (pvAccess Protocol Specification, "Application Messages").
 #![tactic(auto)]
 
-mod encode;
-mod frame;
+mod command;
+mod fault;
+mod items;
 mod laws;
-mod no_memory;
+mod part;
+mod reading;
+mod replies;
+mod replies_writing;
+mod requests;
+mod requests_writing;
+mod subcommand;
 #[cfg(test)]
 mod tests;
 mod to_client;
 mod to_server;
-mod value;
+mod writing;
 
-pub use frame::{FrameFault, Front, Refusal, missing, read_front, write_frame};
-pub use laws::{cuts_are_exact, cuts_join, leaves_are_spelled};
-pub use no_memory::NoMemory;
-pub use to_client::{PutError, ToClient, greeting, write_to_client};
-pub use to_server::{ToServer, read_to_server};
-pub use value::{Alarm, PvType, PvValue, TimeStamp};
+pub use command::Command;
+pub use fault::MessageFault;
+pub use laws::{one_message, written_is_read};
+pub use part::{Part, PutPart};
+pub use reading::{
+    read_put_part, read_reply, read_request, read_request_part, read_to_client, read_to_server,
+    request_in, request_of,
+};
+pub use replies_writing::write_to_client;
+pub use requests_writing::write_to_server;
+pub use to_client::ToClient;
+pub use to_server::ToServer;

@@ -1,290 +1,703 @@
 use super::*;
-use pva_wire::Order;
-use pvd_type::Name;
+use pva_frames::{Payload, Whole};
+use pva_wire::{Name, Order, Status, StatusKind, WireFault};
+use pvd_codec::ValueFault;
+use pvd_desc::{DescFault, Registry};
+use pvd_type::{PvType, Scalar, Shape};
+use pvd_value::PvValue;
 use std::alloc::Global;
 use std::test::Fail;
 
-/// The description of the type of an int channel: NTScalar with an alarm and a time stamp.
-const SCALAR_INT: &[u8] =
-    b"\x80\x15epics:nt/NTScalar:1.0\x03\x05value\x22\x05alarm\x80\x07alarm_t\x03\x08severity\x22\x06status\x22\x07message\x60\x09timeStamp\x80\x06time_t\x03\x10secondsPastEpoch\x23\x0Bnanoseconds\x22\x07userTag\x22";
+/// 1 where something is there.
+fn there<T>(item: &Option<T>) -> u64 {
+    if item.is_some() { 1 } else { 0 }
+}
 
-/// A value with this number and this alarm, set at a moment.
-fn value_of(
+/// The place of a part that was left unread; 0 where there is none.
+fn place_of(part: &PutPart) -> u64 {
+    match part {
+        PutPart::Unread(place) => *place as u64,
+        _ => 0,
+    }
+}
+
+/// The numbers of a message to the server, and the lengths of its texts and lists.
+fn request_numbers(message: &ToServer) -> [u64; 5] {
+    match message {
+        ToServer::Validation {
+            buffer,
+            registry,
+            qos,
+            method,
+            argument,
+        } => [
+            *buffer as u64,
+            *registry as u64,
+            *qos as u64,
+            method.as_str().len() as u64,
+            there(argument),
+        ],
+        ToServer::Echo { bytes } => [bytes.len() as u64, 0, 0, 0, 0],
+        ToServer::Create { channels } => [channels.len() as u64, 0, 0, 0, 0],
+        ToServer::DestroyChannel { sid, cid } => [*sid as u64, *cid as u64, 0, 0, 0],
+        ToServer::Get {
+            sid,
+            req,
+            sub,
+            request,
+        } => [*sid as u64, *req as u64, *sub as u64, there(request), 0],
+        ToServer::Put {
+            sid,
+            req,
+            sub,
+            request,
+            part,
+        } => [
+            *sid as u64,
+            *req as u64,
+            *sub as u64,
+            there(request),
+            place_of(part),
+        ],
+        ToServer::PutGet {
+            sid,
+            req,
+            sub,
+            request,
+            part,
+        } => [
+            *sid as u64,
+            *req as u64,
+            *sub as u64,
+            there(request),
+            place_of(part),
+        ],
+        ToServer::Monitor {
+            sid,
+            req,
+            sub,
+            request,
+            count,
+        } => [
+            *sid as u64,
+            *req as u64,
+            *sub as u64,
+            there(request),
+            count.unwrap_or(0) as u64,
+        ],
+        ToServer::DestroyRequest { sid, req } => [*sid as u64, *req as u64, 0, 0, 0],
+        ToServer::Cancel { sid, req } => [*sid as u64, *req as u64, 0, 0, 0],
+        ToServer::GetField { sid, req, path } => {
+            [*sid as u64, *req as u64, path.as_str().len() as u64, 0, 0]
+        }
+        ToServer::Message { req, kind, text } => {
+            [*req as u64, *kind as u64, text.as_str().len() as u64, 0, 0]
+        }
+        ToServer::Rpc {
+            sid,
+            req,
+            sub,
+            argument,
+        } => [*sid as u64, *req as u64, *sub as u64, there(argument), 0],
+        ToServer::Skipped(command) => [*command as u64, 0, 0, 0, 1],
+    }
+}
+
+/// Reads a message to the server, after no definitions.
+fn request(
     alloc: Global,
-    value: i32,
-    (severity, status, message): (i32, i32, &str),
-    time_stamp: TimeStamp,
-) -> Result<PvValue, Fail> {
-    Ok(PvValue {
-        value,
-        alarm: Alarm {
-            severity,
-            status,
-            message: Name::of(alloc, message)?,
-        },
-        time_stamp,
-    })
-}
-
-/// The bytes of one message.
-fn written(alloc: Global, order: Order, message: ToClient) -> Result<Vec<u8>, Fail> {
-    let mut out = Vec::new(alloc);
-    write_to_client(alloc, &mut out, order, &message)?;
-    Ok(out)
-}
-
-#[test]
-fn the_greeting_in_both_orders(rt: HostRuntime) -> Result<(), Fail> {
-    for (order, bytes) in [
-        (
-            Order::Little,
-            &b"\xCA\x02\x41\x02\x00\x00\x00\x00\xCA\x02\x40\x01\x14\x00\x00\x00\x00\x00\x01\x00\xFF\x7F\x02\x09anonymous\x02ca"[..],
-        ),
-        (
-            Order::Big,
-            &b"\xCA\x02\xC1\x02\x00\x00\x00\x00\xCA\x02\xC0\x01\x00\x00\x00\x14\x00\x01\x00\x00\x7F\xFF\x02\x09anonymous\x02ca"[..],
-        ),
-    ] {
-        assert_eq!(rt; greeting(rt.alloc(), order)?.as_slice(), bytes);
-    }
-    Ok(())
-}
-
-#[test]
-fn what_some_bytes_begin_with(rt: HostRuntime) {
-    for (bytes, front) in [
-        (&b""[..], Front::Unfinished),
-        (&b"\xCA\x02\x00\x01\x13\x00\x00"[..], Front::Unfinished),
-        (
-            &b"\xCB"[..],
-            Front::Refused(Refusal::Frame(FrameFault::BadMagic(0xCB))),
-        ),
-        (
-            &b"\xCA\x02\x00\x0A\x01\x04\x00\x00"[..],
-            Front::Refused(Refusal::NotBuilt(10)),
-        ),
-        (&b"\xCA\x02\x00\x0A\x00\x04\x00\x00"[..], Front::Unfinished),
-        (
-            &b"\xCA\x02\x80\x07\x00\x00\x00\x08"[..],
-            Front::Refused(Refusal::NotBuilt(7)),
-        ),
-        (
-            &b"\xCA\x02\x00\x02\x01\x00\x00\x00"[..],
-            Front::Refused(Refusal::NotBuilt(2)),
-        ),
-    ] {
-        assert_eq!(rt; read_front(bytes), front);
-    }
-}
-
-#[test]
-#[tactic(auto, unfolding(crate::specs::Frames::front_of))]
-fn how_much_an_unfinished_frame_lacks(rt: HostRuntime) {
-    assert_eq!(rt; missing(b""), 8);
-    assert_eq!(rt; missing(b"\xCA\x02\x00\x01\x13\x00\x00"), 1);
-    assert_eq!(rt; missing(b"\xCA\x02\x00\x07\x08\x00\x00\x00\x01"), 7);
-}
-
-#[test]
-fn the_messages_of_a_first_dialogue(rt: HostRuntime) -> Result<(), Fail> {
-    let validation =
-        b"\xCA\x02\x00\x01\x13\x00\x00\x00\x00\x00\x01\x00\x00\x00\x00\x00\x09anonymous\xFF";
-    assert_eq!(rt; read_front(validation), Front::Whole(1, 19));
-    assert!(rt;
-        matches!(
-            read_to_server(rt.alloc(), 1, &validation[8..])?,
-            Some(ToServer::Validation(65536, 0, 0))
-        )
-    );
-    let create = b"\xCA\x02\x00\x07\x08\x00\x00\x00\x01\x00\x07\x00\x00\x00\x01X";
-    assert_eq!(rt; read_front(create), Front::Whole(7, 8));
-    let Some(ToServer::Create(cid, name)) = read_to_server(rt.alloc(), 7, &create[8..])? else {
-        return Err(Fail::from("no create channel"));
+    order: Order,
+    command: u8,
+    payload: &[u8],
+) -> Result<ToServer, MessageFault> {
+    let mut registry = Registry::new(alloc);
+    let message = Whole {
+        order,
+        command,
+        payload: Payload::of(match Vec::from_slice(alloc, payload) {
+            Ok(bytes) => bytes,
+            Err(_) => {
+                return Err(MessageFault {
+                    command,
+                    cause: ValueFault::NoMemory,
+                });
+            }
+        }),
+        place: 0,
     };
-    assert_eq!(rt; cid, 7);
-    assert_eq!(rt; name.as_str(), "X");
-    let begin = b"\xCA\x02\x00\x0A\x0C\x00\x00\x00\x00\x00\x00\x00\x01\x00\x00\x00\x08\x80\x00\x00";
-    assert_eq!(rt; read_front(begin), Front::Whole(10, 12));
-    assert!(rt;
-        matches!(
-            read_to_server(rt.alloc(), 10, &begin[8..])?,
-            Some(ToServer::BeginGet(0, 1))
-        )
-    );
-    let get = b"\xCA\x02\x00\x0A\x09\x00\x00\x00\x00\x00\x00\x00\x01\x00\x00\x00\x00";
-    assert_eq!(rt; read_front(get), Front::Whole(10, 9));
-    assert!(rt;
-        matches!(
-            read_to_server(rt.alloc(), 10, &get[8..])?,
-            Some(ToServer::Get(0, 1))
-        )
-    );
-    Ok(())
+    read_to_server(alloc, &message, &mut registry)
 }
 
 #[test]
-fn the_messages_of_a_put(rt: HostRuntime) -> Result<(), Fail> {
-    let begin = b"\xCA\x02\x00\x0B\x0C\x00\x00\x00\x00\x00\x00\x00\x02\x00\x00\x00\x08\x80\x00\x00";
-    assert_eq!(rt; read_front(begin), Front::Whole(11, 12));
-    assert!(rt;
-        matches!(
-            read_to_server(rt.alloc(), 11, &begin[8..])?,
-            Some(ToServer::BeginPut(0, 2))
-        )
-    );
-    let put =
-        b"\xCA\x02\x00\x0B\x0F\x00\x00\x00\x00\x00\x00\x00\x02\x00\x00\x00\x00\x01\x02\x07\x00\x00\x00";
-    assert_eq!(rt; read_front(put), Front::Whole(11, 15));
-    assert!(rt;
-        matches!(
-            read_to_server(rt.alloc(), 11, &put[8..])?,
-            Some(ToServer::Put(0, 2, 7))
-        )
-    );
-    let below = b"\x00\x00\x00\x00\x02\x00\x00\x00\x00\x01\x02\xFB\xFF\xFF\xFF";
-    assert!(rt;
-        matches!(
-            read_to_server(rt.alloc(), 11, below)?,
-            Some(ToServer::Put(0, 2, -5))
-        )
-    );
-    Ok(())
-}
-
-#[test]
-fn messages_that_are_not_served(rt: HostRuntime) -> Result<(), Fail> {
-    for (command, payload) in [
-        (1, &b"\x00\x00\x01\x00\x00\x00\x00\x00\x02ca\xFF"[..]),
-        (1, &b"\x00\x00\x01\x00\x00\x00\x00\x00\x09anonymous"[..]),
+fn every_row_to_the_server_is_read_in_both_orders(rt: HostRuntime) -> Result<(), Fail> {
+    for (command, little, big, expected) in [
+        (
+            1,
+            &[0, 0, 1, 0, 0xFF, 0x7F, 3, 0, 2, 0x63, 0x61, 0xFF][..],
+            &[0, 1, 0, 0, 0x7F, 0xFF, 0, 3, 2, 0x63, 0x61, 0xFF][..],
+            [65536, 32767, 3, 2, 0],
+        ),
+        (
+            1,
+            &[0, 0, 1, 0, 0xFF, 0x7F, 3, 0, 2, 0x63, 0x61][..],
+            &[0, 1, 0, 0, 0x7F, 0xFF, 0, 3, 2, 0x63, 0x61][..],
+            [65536, 32767, 3, 2, 0],
+        ),
+        (
+            1,
+            &[
+                0, 0, 1, 0, 0xFF, 0x7F, 3, 0, 2, 0x63, 0x61, 0x22, 1, 0, 0, 0,
+            ][..],
+            &[
+                0, 1, 0, 0, 0x7F, 0xFF, 0, 3, 2, 0x63, 0x61, 0x22, 0, 0, 0, 1,
+            ][..],
+            [65536, 32767, 3, 2, 1],
+        ),
+        (2, &[1, 2, 3][..], &[1, 2, 3][..], [3, 0, 0, 0, 0]),
         (
             7,
-            &b"\x02\x00\x07\x00\x00\x00\x01X\x08\x00\x00\x00\x01Y"[..],
-        ),
-        (7, &b"\x01\x00\x07\x00\x00\x00\x02X"[..]),
-        (10, &b"\x00\x00\x00\x00\x01\x00\x00\x00\x00\x00"[..]),
-        (10, &b"\x00\x00\x00\x00\x01\x00\x00\x00\x08\xFF"[..]),
-        (
-            11,
-            &b"\x00\x00\x00\x00\x02\x00\x00\x00\x08\x80\x00\x00\x00"[..],
-        ),
-        (11, &b"\x00\x00\x00\x00\x02\x00\x00\x00\x08\x80\x00"[..]),
-        (
-            11,
-            &b"\x00\x00\x00\x00\x02\x00\x00\x00\x00\x01\x02\x07\x00\x00\x00\x00"[..],
+            &[2, 0, 7, 0, 0, 0, 1, 0x58, 8, 0, 0, 0, 0xFF][..],
+            &[0, 2, 0, 0, 0, 7, 1, 0x58, 0, 0, 0, 8, 0xFF][..],
+            [2, 0, 0, 0, 0],
         ),
         (
-            11,
-            &b"\x00\x00\x00\x00\x02\x00\x00\x00\x00\x01\x02\x07\x00\x00"[..],
+            8,
+            &[1, 0, 0, 0, 7, 0, 0, 0, 9][..],
+            &[0, 0, 0, 1, 0, 0, 0, 7, 9][..],
+            [1, 7, 0, 0, 0],
         ),
         (
-            11,
-            &b"\x00\x00\x00\x00\x02\x00\x00\x00\x00\x01\x04\x07\x00\x00\x00"[..],
+            0x0A,
+            &[3, 0, 0, 0, 1, 0, 0, 0, 8, 0x80, 0, 0][..],
+            &[0, 0, 0, 3, 0, 0, 0, 1, 8, 0x80, 0, 0][..],
+            [3, 1, 8, 1, 0],
         ),
         (
-            11,
-            &b"\x00\x00\x00\x00\x02\x00\x00\x00\x00\x02\x02\x00\x07\x00\x00\x00"[..],
+            0x0A,
+            &[3, 0, 0, 0, 1, 0, 0, 0, 0x10][..],
+            &[0, 0, 0, 3, 0, 0, 0, 1, 0x10][..],
+            [3, 1, 0x10, 0, 0],
         ),
-        (15, &b"\x00\x00\x00\x00\x01\x00\x00\x00"[..]),
+        (
+            0x0B,
+            &[3, 0, 0, 0, 1, 0, 0, 0, 8, 0xFF][..],
+            &[0, 0, 0, 3, 0, 0, 0, 1, 8, 0xFF][..],
+            [3, 1, 8, 0, 0],
+        ),
+        (
+            0x0B,
+            &[3, 0, 0, 0, 1, 0, 0, 0, 0x40][..],
+            &[0, 0, 0, 3, 0, 0, 0, 1, 0x40][..],
+            [3, 1, 0x40, 0, 0],
+        ),
+        (
+            0x0B,
+            &[3, 0, 0, 0, 2, 0, 0, 0, 0, 1, 1, 7, 0, 0, 0][..],
+            &[0, 0, 0, 3, 0, 0, 0, 2, 0, 1, 1, 0, 0, 0, 7][..],
+            [3, 2, 0, 0, 9],
+        ),
+        (
+            0x0C,
+            &[3, 0, 0, 0, 1, 0, 0, 0, 8, 0x80, 0, 0][..],
+            &[0, 0, 0, 3, 0, 0, 0, 1, 8, 0x80, 0, 0][..],
+            [3, 1, 8, 1, 0],
+        ),
+        (
+            0x0C,
+            &[3, 0, 0, 0, 1, 0, 0, 0, 0][..],
+            &[0, 0, 0, 3, 0, 0, 0, 1, 0][..],
+            [3, 1, 0, 0, 9],
+        ),
+        (
+            0x0D,
+            &[3, 0, 0, 0, 1, 0, 0, 0, 0x88, 0x80, 0, 0, 4, 0, 0, 0][..],
+            &[0, 0, 0, 3, 0, 0, 0, 1, 0x88, 0x80, 0, 0, 0, 0, 0, 4][..],
+            [3, 1, 0x88, 1, 4],
+        ),
+        (
+            0x0D,
+            &[3, 0, 0, 0, 1, 0, 0, 0, 0x80, 5, 0, 0, 0][..],
+            &[0, 0, 0, 3, 0, 0, 0, 1, 0x80, 0, 0, 0, 5][..],
+            [3, 1, 0x80, 0, 5],
+        ),
+        (
+            0x0D,
+            &[3, 0, 0, 0, 1, 0, 0, 0, 0x44, 5][..],
+            &[0, 0, 0, 3, 0, 0, 0, 1, 0x44, 5][..],
+            [3, 1, 0x44, 0, 0],
+        ),
+        (
+            0x0F,
+            &[3, 0, 0, 0, 1, 0, 0, 0][..],
+            &[0, 0, 0, 3, 0, 0, 0, 1][..],
+            [3, 1, 0, 0, 0],
+        ),
+        (
+            0x11,
+            &[0, 0, 0, 0, 4, 0, 0, 0, 5, 0x76, 0x61, 0x6C, 0x75, 0x65][..],
+            &[0, 0, 0, 0, 0, 0, 0, 4, 5, 0x76, 0x61, 0x6C, 0x75, 0x65][..],
+            [0, 4, 5, 0, 0],
+        ),
+        (
+            0x12,
+            &[4, 0, 0, 0, 2, 2, 0x68, 0x69][..],
+            &[0, 0, 0, 4, 2, 2, 0x68, 0x69][..],
+            [4, 2, 2, 0, 0],
+        ),
+        (
+            0x14,
+            &[3, 0, 0, 0, 1, 0, 0, 0, 0, 0x22, 7, 0, 0, 0][..],
+            &[0, 0, 0, 3, 0, 0, 0, 1, 0, 0x22, 0, 0, 0, 7][..],
+            [3, 1, 0, 1, 0],
+        ),
+        (
+            0x15,
+            &[3, 0, 0, 0, 1, 0, 0, 0][..],
+            &[0, 0, 0, 3, 0, 0, 0, 1][..],
+            [3, 1, 0, 0, 0],
+        ),
+        (5, &[][..], &[][..], [5, 0, 0, 0, 1]),
+        (9, &[0xFF][..], &[0xFF][..], [9, 0, 0, 0, 1]),
     ] {
-        assert!(rt; read_to_server(rt.alloc(), command, payload)?.is_none());
+        let message = request(rt.alloc(), Order::Little, command, little)?;
+        assert_eq!(rt; request_numbers(&message), expected);
+        let message = request(rt.alloc(), Order::Big, command, big)?;
+        assert_eq!(rt; request_numbers(&message), expected);
+    }
+    Ok(())
+}
+
+/// The numbers of a message to the client, and what is there.
+fn reply_numbers(message: &ToClient) -> [u64; 5] {
+    match message {
+        ToClient::Validation {
+            buffer,
+            registry,
+            methods,
+        } => [*buffer as u64, *registry as u64, methods.len() as u64, 0, 0],
+        ToClient::Echo { bytes } => [bytes.len() as u64, 0, 0, 0, 0],
+        ToClient::Created { cid, sid, status } => {
+            [*cid as u64, *sid as u64, kind_of(status), 0, 0]
+        }
+        ToClient::ChannelDestroyed { sid, cid } => [*sid as u64, *cid as u64, 0, 0, 0],
+        ToClient::Validated { status } => [kind_of(status), 0, 0, 0, 0],
+        ToClient::Get {
+            req,
+            sub,
+            status,
+            ty,
+            part,
+        } => [
+            *req as u64,
+            *sub as u64,
+            kind_of(status),
+            there(ty),
+            there(part),
+        ],
+        ToClient::Put {
+            req,
+            sub,
+            status,
+            ty,
+            part,
+        } => [
+            *req as u64,
+            *sub as u64,
+            kind_of(status),
+            there(ty),
+            there(part),
+        ],
+        ToClient::PutGet {
+            req,
+            sub,
+            status,
+            put_ty,
+            get_ty,
+            part,
+        } => [
+            *req as u64,
+            *sub as u64,
+            kind_of(status),
+            there(put_ty) + there(get_ty),
+            there(part),
+        ],
+        ToClient::MonitorBegun {
+            req,
+            sub,
+            status,
+            ty,
+        } => [*req as u64, *sub as u64, kind_of(status), there(ty), 0],
+        ToClient::MonitorUpdate { req, sub, update } => {
+            [*req as u64, *sub as u64, 0, 0, there(update)]
+        }
+        ToClient::MonitorEnd { req, sub, status } => {
+            [*req as u64, *sub as u64, kind_of(status), 0, 0]
+        }
+        ToClient::GetField { req, status, ty } => {
+            [*req as u64, kind_of(status), there(ty), 0, 0]
+        }
+        ToClient::Message { req, kind, text } => {
+            [*req as u64, *kind as u64, text.as_str().len() as u64, 0, 0]
+        }
+        ToClient::Rpc {
+            req,
+            sub,
+            status,
+            result,
+        } => [*req as u64, *sub as u64, kind_of(status), there(result), 0],
+        ToClient::Skipped(command) => [*command as u64, 0, 0, 0, 1],
+    }
+}
+
+/// The first byte of a status that is written with its texts.
+fn kind_of(status: &Status) -> u64 {
+    match status.kind {
+        StatusKind::Good => 0,
+        StatusKind::Warning => 1,
+        StatusKind::Error => 2,
+        StatusKind::Fatal => 3,
+    }
+}
+
+/// Reads a message to the client that knows the type `int`, after no definitions.
+fn reply(
+    alloc: Global,
+    order: Order,
+    command: u8,
+    payload: &[u8],
+) -> Result<ToClient, MessageFault> {
+    let mut registry = Registry::new(alloc);
+    let Ok(int) = PvType::check(alloc, Shape::Plain(Scalar::I32)) else {
+        return Err(MessageFault {
+            command,
+            cause: ValueFault::NoMemory,
+        });
+    };
+    let message = Whole {
+        order,
+        command,
+        payload: Payload::of(match Vec::from_slice(alloc, payload) {
+            Ok(bytes) => bytes,
+            Err(_) => {
+                return Err(MessageFault {
+                    command,
+                    cause: ValueFault::NoMemory,
+                });
+            }
+        }),
+        place: 0,
+    };
+    read_to_client(alloc, &message, &mut registry, Some(&int))
+}
+
+#[test]
+fn every_row_to_the_client_is_read_in_both_orders(rt: HostRuntime) -> Result<(), Fail> {
+    for (command, little, big, expected) in [
+        (
+            1,
+            &[0, 0, 1, 0, 0xFF, 0x7F, 2, 1, 0x61, 2, 0x63, 0x61][..],
+            &[0, 1, 0, 0, 0x7F, 0xFF, 2, 1, 0x61, 2, 0x63, 0x61][..],
+            [65536, 32767, 2, 0, 0],
+        ),
+        (2, &[1, 2, 3][..], &[1, 2, 3][..], [3, 0, 0, 0, 0]),
+        (
+            7,
+            &[7, 0, 0, 0, 1, 0, 0, 0, 0xFF][..],
+            &[0, 0, 0, 7, 0, 0, 0, 1, 0xFF][..],
+            [7, 1, 0, 0, 0],
+        ),
+        (
+            8,
+            &[1, 0, 0, 0, 7, 0, 0, 0, 9][..],
+            &[0, 0, 0, 1, 0, 0, 0, 7, 9][..],
+            [1, 7, 0, 0, 0],
+        ),
+        (
+            9,
+            &[2, 1, 0x61, 0xFF][..],
+            &[2, 1, 0x61, 0xFF][..],
+            [2, 0, 0, 0, 0],
+        ),
+        (
+            0x0A,
+            &[1, 0, 0, 0, 8, 0xFF, 0x22][..],
+            &[0, 0, 0, 1, 8, 0xFF, 0x22][..],
+            [1, 8, 0, 1, 0],
+        ),
+        (
+            0x0A,
+            &[1, 0, 0, 0, 0, 1, 1, 0x61, 0, 1, 1, 0x2A, 0, 0, 0][..],
+            &[0, 0, 0, 1, 0, 1, 1, 0x61, 0, 1, 1, 0, 0, 0, 0x2A][..],
+            [1, 0, 1, 0, 1],
+        ),
+        (
+            0x0A,
+            &[1, 0, 0, 0, 8, 2, 1, 0x61, 0, 0x22][..],
+            &[0, 0, 0, 1, 8, 2, 1, 0x61, 0, 0x22][..],
+            [1, 8, 2, 0, 0],
+        ),
+        (
+            0x0B,
+            &[2, 0, 0, 0, 0, 0xFF][..],
+            &[0, 0, 0, 2, 0, 0xFF][..],
+            [2, 0, 0, 0, 0],
+        ),
+        (
+            0x0B,
+            &[2, 0, 0, 0, 0x40, 0xFF, 1, 1, 0x2A, 0, 0, 0][..],
+            &[0, 0, 0, 2, 0x40, 0xFF, 1, 1, 0, 0, 0, 0x2A][..],
+            [2, 0x40, 0, 0, 1],
+        ),
+        (
+            0x0C,
+            &[3, 0, 0, 0, 8, 0xFF, 0x22, 0x22][..],
+            &[0, 0, 0, 3, 8, 0xFF, 0x22, 0x22][..],
+            [3, 8, 0, 2, 0],
+        ),
+        (
+            0x0C,
+            &[3, 0, 0, 0, 0, 0xFF, 1, 1, 9, 0, 0, 0][..],
+            &[0, 0, 0, 3, 0, 0xFF, 1, 1, 0, 0, 0, 9][..],
+            [3, 0, 0, 0, 1],
+        ),
+        (
+            0x0D,
+            &[4, 0, 0, 0, 0x88, 1, 0xFF, 0xFF, 0x22][..],
+            &[0, 0, 0, 4, 0x88, 1, 0xFF, 0xFF, 0x22][..],
+            [4, 0x88, 1, 1, 0],
+        ),
+        (
+            0x0D,
+            &[4, 0, 0, 0, 0, 1, 1, 5, 0, 0, 0, 0][..],
+            &[0, 0, 0, 4, 0, 1, 1, 0, 0, 0, 5, 0][..],
+            [4, 0, 0, 0, 1],
+        ),
+        (
+            0x0D,
+            &[4, 0, 0, 0, 0x10, 0xFF][..],
+            &[0, 0, 0, 4, 0x10, 0xFF][..],
+            [4, 0x10, 0, 0, 0],
+        ),
+        (
+            0x11,
+            &[4, 0, 0, 0, 0xFF, 0x22][..],
+            &[0, 0, 0, 4, 0xFF, 0x22][..],
+            [4, 0, 1, 0, 0],
+        ),
+        (
+            0x12,
+            &[4, 0, 0, 0, 2, 2, 0x68, 0x69][..],
+            &[0, 0, 0, 4, 2, 2, 0x68, 0x69][..],
+            [4, 2, 2, 0, 0],
+        ),
+        (
+            0x14,
+            &[5, 0, 0, 0, 8, 0xFF, 0x22][..],
+            &[0, 0, 0, 5, 8, 0xFF, 0x22][..],
+            [5, 8, 0, 0, 0],
+        ),
+        (
+            0x14,
+            &[5, 0, 0, 0, 0, 0xFF, 0x22, 7, 0, 0, 0][..],
+            &[0, 0, 0, 5, 0, 0xFF, 0x22, 0, 0, 0, 7][..],
+            [5, 0, 0, 1, 0],
+        ),
+        (0x0F, &[][..], &[][..], [0x0F, 0, 0, 0, 1]),
+        (0x15, &[][..], &[][..], [0x15, 0, 0, 0, 1]),
+    ] {
+        let message = reply(rt.alloc(), Order::Little, command, little)?;
+        assert_eq!(rt; reply_numbers(&message), expected);
+        let message = reply(rt.alloc(), Order::Big, command, big)?;
+        assert_eq!(rt; reply_numbers(&message), expected);
     }
     Ok(())
 }
 
 #[test]
-fn the_replies_of_a_first_dialogue(rt: HostRuntime) -> Result<(), Fail> {
-    let time_stamp = TimeStamp {
-        seconds_past_epoch: 0,
-        nanoseconds: 0,
-        user_tag: 0,
-    };
-    let value = value_of(rt.alloc(), 42, (0, 0, ""), time_stamp)?;
-    let mut out = Vec::new(rt.alloc());
-    for message in &[
-        ToClient::Validated,
-        ToClient::Created(7, 0),
-        ToClient::GetBegun(1, PvType::NtScalarInt),
-        ToClient::Got(1, value),
-        ToClient::NotFound(8),
+fn the_first_item_that_cannot_be_read_is_told(rt: HostRuntime) -> Result<(), Fail> {
+    for (command, payload, cause) in [
+        (
+            8,
+            &[1, 0, 0, 0, 7, 0][..],
+            ValueFault::Wire(WireFault::Short(4)),
+        ),
+        (
+            7,
+            &[1, 0, 0, 0, 0, 0, 1, 0xFF][..],
+            ValueFault::Wire(WireFault::NotUtf8(7)),
+        ),
+        (
+            0x11,
+            &[1, 0, 0, 0, 7, 0, 0, 0, 0xFE, 0xFF, 0xFF, 0xFF, 0x7F][..],
+            ValueFault::Wire(WireFault::Range(8)),
+        ),
+        (
+            0x0A,
+            &[0, 0, 0, 0, 1, 0, 0, 0, 8, 0x90][..],
+            ValueFault::Desc(DescFault::UnknownCode(0x90, 9)),
+        ),
+        (
+            0x14,
+            &[0, 0, 0, 0, 1, 0, 0, 0, 0, 0xFE, 2, 0][..],
+            ValueFault::Desc(DescFault::UnknownId(2, 10)),
+        ),
+        (
+            0x14,
+            &[0, 0, 0, 0, 1, 0, 0, 0, 0, 0, 2][..],
+            ValueFault::BadBool(2, 10),
+        ),
+        (
+            0x14,
+            &[0, 0, 0, 0, 1, 0, 0, 0, 0, 0x83, 1, 2, 0x61, 0x62][..],
+            ValueFault::OverBound(2, 11),
+        ),
     ] {
-        write_to_client(rt.alloc(), &mut out, Order::Little, message)?;
+        let fault = request(rt.alloc(), Order::Little, command, payload).err();
+        assert_eq!(rt; fault, Some(MessageFault { command, cause }));
     }
-    let mut bytes = Vec::new(rt.alloc());
-    bytes.extend_from_slice(b"\xCA\x02\x40\x09\x01\x00\x00\x00\xFF")?;
-    bytes.extend_from_slice(
-        b"\xCA\x02\x40\x07\x09\x00\x00\x00\x07\x00\x00\x00\x00\x00\x00\x00\xFF",
-    )?;
-    bytes.extend_from_slice(b"\xCA\x02\x40\x0A\x8B\x00\x00\x00\x01\x00\x00\x00\x08\xFF")?;
-    bytes.extend_from_slice(SCALAR_INT)?;
-    bytes.extend_from_slice(
-        b"\xCA\x02\x40\x0A\x26\x00\x00\x00\x01\x00\x00\x00\x00\xFF\x02\xBA\x03\x2A\x00\x00\x00",
-    )?;
-    bytes.extend_from_slice(&[0; 25])?;
-    bytes.extend_from_slice(
-        b"\xCA\x02\x40\x07\x1C\x00\x00\x00\x08\x00\x00\x00\xFF\xFF\xFF\xFF\x02\x11channel not found\x00",
-    )?;
-    assert_eq!(rt; out.as_slice(), bytes.as_slice());
-    Ok(())
-}
-
-#[test]
-fn a_value_in_big_endian(rt: HostRuntime) -> Result<(), Fail> {
-    let time_stamp = TimeStamp {
-        seconds_past_epoch: 100,
-        nanoseconds: 5,
-        user_tag: -1,
-    };
-    let value = value_of(rt.alloc(), 7, (3, 2, "HIHI"), time_stamp)?;
-    let out = written(rt.alloc(), Order::Big, ToClient::Got(1, value))?;
-    let bytes =
-        b"\xCA\x02\xC0\x0A\x00\x00\x00\x2A\x00\x00\x00\x01\x00\xFF\x02\xBA\x03\x00\x00\x00\x07\x00\x00\x00\x03\x00\x00\x00\x02\x04HIHI\x00\x00\x00\x00\x00\x00\x00\x64\x00\x00\x00\x05\xFF\xFF\xFF\xFF";
-    assert_eq!(rt; out.as_slice(), &bytes[..]);
-    Ok(())
-}
-
-#[test]
-fn the_replies_to_puts(rt: HostRuntime) -> Result<(), Fail> {
-    let mut begun = Vec::new(rt.alloc());
-    begun.extend_from_slice(b"\xCA\x02\x40\x0B\x8B\x00\x00\x00\x02\x00\x00\x00\x08\xFF")?;
-    begun.extend_from_slice(SCALAR_INT)?;
-    let out = written(
+    let fault = reply(rt.alloc(), Order::Little, 1, &[0, 0, 1, 0, 0, 0, 0xFF]).err();
+    let cause = ValueFault::Wire(WireFault::NullSize(6));
+    assert_eq!(rt; fault, Some(MessageFault { command: 1, cause }));
+    let fault = reply(
         rt.alloc(),
         Order::Little,
-        ToClient::PutBegun(2, PvType::NtScalarInt),
-    )?;
-    assert_eq!(rt; out.as_slice(), begun.as_slice());
-    let out = written(rt.alloc(), Order::Little, ToClient::PutDone(2))?;
+        0x0A,
+        &[1, 0, 0, 0, 0, 0xFF, 1, 2],
+    )
+    .err();
+    let cause = ValueFault::BitOutside(1, 6);
     assert_eq!(rt;
-        out.as_slice(),
-        &b"\xCA\x02\x40\x0B\x06\x00\x00\x00\x02\x00\x00\x00\x00\xFF"[..]
+        fault,
+        Some(MessageFault {
+            command: 0x0A,
+            cause
+        })
     );
-    for (why, bytes) in [
-        (
-            PutError::Disabled,
-            &b"\xCA\x02\x40\x0B\x19\x00\x00\x00\x02\x00\x00\x00\x00\x02\x11puts are disabled\x00"[..],
-        ),
-        (
-            PutError::NothingWritable,
-            &b"\xCA\x02\x40\x0B\x18\x00\x00\x00\x02\x00\x00\x00\x00\x02\x10nothing writable\x00"[..],
-        ),
-        (
-            PutError::JournalFull,
-            &b"\xCA\x02\x40\x0B\x14\x00\x00\x00\x02\x00\x00\x00\x00\x02\x0Cjournal full\x00"[..],
-        ),
-    ] {
-        let out = written(rt.alloc(), Order::Little, ToClient::PutFailed(2, why))?;
-        assert_eq!(rt; out.as_slice(), bytes);
-    }
     Ok(())
 }
 
 #[test]
-fn a_frame_of_this_server(rt: HostRuntime) -> Result<(), Fail> {
-    let mut out = Vec::new(rt.alloc());
-    write_frame(&mut out, Order::Big, 2, b"echo")?;
+fn both_types_of_a_put_get_are_defined_or_none(rt: HostRuntime) -> Result<(), Fail> {
+    let alloc = rt.alloc();
+    let mut registry = Registry::new(alloc);
+    let refused = &[3, 0, 0, 0, 8, 0xFF, 0xFD, 1, 0, 0x22, 0xFE, 2, 0];
+    let fault = read_reply(alloc, Order::Little, 0x0C, refused, &mut registry, None).err();
+    let cause = ValueFault::Desc(DescFault::UnknownId(2, 11));
     assert_eq!(rt;
-        out.as_slice(),
-        &b"\xCA\x02\xC0\x02\x00\x00\x00\x04echo"[..]
+        fault,
+        Some(MessageFault {
+            command: 0x0C,
+            cause
+        })
     );
+    assert!(rt; registry.get(1).is_none());
+    let twice = &[3, 0, 0, 0, 8, 0xFF, 0xFD, 1, 0, 0x22, 0xFE, 1, 0];
+    let message = read_reply(alloc, Order::Little, 0x0C, twice, &mut registry, None)?;
+    assert_eq!(rt; reply_numbers(&message), [3, 8, 0, 2, 0]);
+    assert!(rt; registry.get(1).is_some());
+    Ok(())
+}
+
+#[test]
+fn the_part_of_a_put_is_read_under_the_type_of_its_request(rt: HostRuntime) -> Result<(), Fail> {
+    let alloc = rt.alloc();
+    let mut registry = Registry::new(alloc);
+    let int = PvType::check(alloc, Shape::Plain(Scalar::I32))?;
+    let payload = &[3, 0, 0, 0, 2, 0, 0, 0, 0, 1, 1, 7, 0, 0, 0];
+    let (mask, value) = read_request_part(
+        alloc,
+        Order::Little,
+        0x0B,
+        payload,
+        9,
+        &mut registry,
+        &int,
+    )?;
+    assert!(rt; mask.contains(0));
+    assert!(rt; matches!(value, PvValue::I32(7)));
+    Ok(())
+}
+
+#[test]
+fn the_request_of_a_reply_is_its_first_number(rt: HostRuntime) -> Result<(), Fail> {
+    for (command, payload, id) in [
+        (0x0A, &[1, 0, 0, 0, 8, 0xFF][..], Some(1)),
+        (0x11, &[4, 0, 0, 0][..], Some(4)),
+        (0x14, &[4, 0, 0][..], None),
+        (7, &[7, 0, 0, 0, 1, 0, 0, 0, 0xFF][..], None),
+    ] {
+        assert_eq!(rt; request_in(Order::Little, command, payload), id);
+    }
+    Ok(())
+}
+
+const GREETING: [u8; 28] = [
+    0xCA, 2, 0x40, 1, 0x14, 0, 0, 0, 0, 0, 1, 0, 0xFF, 0x7F, 2, 9, 0x61, 0x6E, 0x6F, 0x6E, 0x79,
+    0x6D, 0x6F, 0x75, 0x73, 2, 0x63, 0x61,
+];
+
+const GREETING_BIG: [u8; 28] = [
+    0xCA, 2, 0xC0, 1, 0, 0, 0, 0x14, 0, 1, 0, 0, 0x7F, 0xFF, 2, 9, 0x61, 0x6E, 0x6F, 0x6E, 0x79,
+    0x6D, 0x6F, 0x75, 0x73, 2, 0x63, 0x61,
+];
+
+const REFUSAL: [u8; 28] = [
+    0xCA, 2, 0x40, 0x11, 0x14, 0, 0, 0, 4, 0, 0, 0, 2, 0x0D, 0x6E, 0x6F, 0x20, 0x73, 0x75, 0x63,
+    0x68, 0x20, 0x66, 0x69, 0x65, 0x6C, 0x64, 0,
+];
+
+const ASK: [u8; 22] = [
+    0xCA, 2, 0, 0x11, 0x0E, 0, 0, 0, 0, 0, 0, 0, 4, 0, 0, 0, 5, 0x76, 0x61, 0x6C, 0x75, 0x65,
+];
+
+#[test]
+fn a_server_greets_and_answers(rt: HostRuntime) -> Result<(), Fail> {
+    let alloc = rt.alloc();
+    let mut methods = Vec::new(alloc);
+    methods.push(Name::of(alloc, "anonymous")?)?;
+    methods.push(Name::of(alloc, "ca")?)?;
+    let greeting = ToClient::Validation {
+        buffer: 65_536,
+        registry: 32_767,
+        methods,
+    };
+    let mut out = Vec::new(alloc);
+    write_to_client(&mut out, Order::Little, 65_528, &greeting)?;
+    assert_eq!(rt; out.as_slice(), &GREETING[..]);
+    let mut out = Vec::new(alloc);
+    write_to_client(&mut out, Order::Big, 65_528, &greeting)?;
+    assert_eq!(rt; out.as_slice(), &GREETING_BIG[..]);
+    Ok(())
+}
+
+#[test]
+fn an_error_brings_no_type(rt: HostRuntime) -> Result<(), Fail> {
+    let alloc = rt.alloc();
+    let refusal = ToClient::GetField {
+        req: 4,
+        status: Status {
+            kind: StatusKind::Error,
+            message: Name::of(alloc, "no such field")?,
+            tree: Name::of(alloc, "")?,
+        },
+        ty: None,
+    };
+    let mut out = Vec::new(alloc);
+    write_to_client(&mut out, Order::Little, 65_528, &refusal)?;
+    assert_eq!(rt; out.as_slice(), &REFUSAL[..]);
+    Ok(())
+}
+
+#[test]
+fn a_client_asks_for_a_field(rt: HostRuntime) -> Result<(), Fail> {
+    let alloc = rt.alloc();
+    let ask = ToServer::GetField {
+        sid: 0,
+        req: 4,
+        path: Name::of(alloc, "value")?,
+    };
+    let mut out = Vec::new(alloc);
+    write_to_server(&mut out, Order::Little, 65_528, &ask)?;
+    assert_eq!(rt; out.as_slice(), &ASK[..]);
     Ok(())
 }

@@ -4,10 +4,10 @@ use Rattle.std.proofs.lemmas.List.{append-nil}
 use Rattle.std.proofs.lemmas.Option.{none-some}
 use Rattle.pva_outside.specs.Wire.{Wire}
 use Rattle.pva_wire.specs.declared.order.Order.{Order}
-use Rattle.pva_messages.specs.Frames.{unfinished, rest_from, place_from}
-use Rattle.pva_messages.specs.Replies.{greeting}
-use Rattle.pva_messages.specs.declared.frame.Refusal.{Refusal}
-use Rattle.pva_messages.specs.declared.frame.Refusal.TheVariants as refusals
+use Rattle.first_messages.specs.Frames.{unfinished, rest_from, place_from}
+use Rattle.first_messages.specs.Replies.{greeting}
+use Rattle.first_messages.specs.declared.frame.Refusal.{Refusal}
+use Rattle.first_messages.specs.declared.frame.Refusal.TheVariants as refusals
 use Rattle.desk_api.specs.declared.mark.Seat.{Seat}
 use Rattle.srv_stream.specs.Talk.{opening, events_of, marks_of, out_of}
 use Rattle.srv_stream.specs.Streams.{View, Trouble, rest_of}

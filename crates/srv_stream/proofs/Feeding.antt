@@ -3,11 +3,11 @@ use Rattle.std.proofs.Common.{◌≡◌, ℕ, ℤ, true, List, [], ◌∷◌, �
 use Rattle.std.specs.Prelude.{IfSome}
 use Rattle.std.proofs.lemmas.List.{append-nil}
 use Rattle.std.proofs.lemmas.Option.{none-some}
-use Rattle.pva_messages.specs.Frames.{Frame, Cut, cut, front_of, refused, frames_from, place_from, held_of, refusal_from}
-use Rattle.pva_messages.specs.Cutting.{none_cut, cut_append, frames_append, place_append, held_append, cut_refused, refused_stays}
-use Rattle.pva_messages.specs.declared.frame.Front.{Front}
-use Rattle.pva_messages.specs.declared.frame.Front.TheVariants.{Unfinished, Whole, Refused}
-use Rattle.pva_messages.specs.declared.frame.Refusal.{Refusal}
+use Rattle.first_messages.specs.Frames.{Frame, Cut, cut, front_of, refused, frames_from, place_from, held_of, refusal_from}
+use Rattle.first_messages.specs.Cutting.{none_cut, cut_append, frames_append, place_append, held_append, cut_refused, refused_stays}
+use Rattle.first_messages.specs.declared.frame.Front.{Front}
+use Rattle.first_messages.specs.declared.frame.Front.TheVariants.{Unfinished, Whole, Refused}
+use Rattle.first_messages.specs.declared.frame.Refusal.{Refusal}
 use Rattle.desk_api.specs.Marks.{Adds, HasMoment, HaveMoment}
 use Rattle.desk_api.specs.Adding.{adds_nothing, adds_more, moments_append}
 use Rattle.desk_api.specs.declared.history.Base.{Base}

@@ -6,9 +6,9 @@ use Rattle.std.proofs.lemmas.List.{append-nil}
 use Rattle.pva_outside.specs.Count.{Rose}
 use Rattle.pva_outside.specs.Wire.{Wire, Gave, Taken, Idled, CameToEnd, Failed, Unchanged}
 use Rattle.pva_wire.specs.declared.order.Order.{Order}
-use Rattle.pva_messages.specs.Frames.{Frame, Cut, frames_from, place_from, held_of}
-use Rattle.pva_messages.specs.Replies.{greeting}
-use Rattle.pva_messages.specs.Cutting.{cut_none, frames_append, place_append, held_append}
+use Rattle.first_messages.specs.Frames.{Frame, Cut, frames_from, place_from, held_of}
+use Rattle.first_messages.specs.Replies.{greeting}
+use Rattle.first_messages.specs.Cutting.{cut_none, frames_append, place_append, held_append}
 use Rattle.desk_api.specs.Marks.{Adds, HaveMoment}
 use Rattle.desk_api.specs.Adding.{adds_nothing, adds_more, moments_append}
 use Rattle.desk_api.specs.declared.history.Base.{Base}

@@ -1,16 +1,16 @@
 -- One frame, or bytes that make none.
 use Rattle.std.proofs.Common.{◌≡◌, ℕ, ℤ, ◌+◌, true, List, [], ◌∷◌, ◌++◌, length, take, drop, Option, None, Some, Err, refl, sym, ◌∙◌, ap, subst, arith, length-drop, get_or, take-append-drop}
 use Rattle.std.proofs.lemmas.List.{append-nil, take_all, drop_all, length-take-le}
-use Rattle.pva_messages.specs.Frames.{command, number, Frame, Cut, cut, with_frame, front_of, refused, frames_from, refusal_from}
-use Rattle.pva_messages.specs.Cutting.{takes, front_is, front_from, same_header, cut_whole, cut_unfinished, cut_refused, cut_none}
-use Rattle.pva_messages.specs.declared.frame.Front.{Front}
-use Rattle.pva_messages.specs.declared.frame.Front.TheVariants.{Unfinished, Whole, Refused}
-use Rattle.pva_messages.specs.declared.frame.Refusal.{Refusal}
+use Rattle.first_messages.specs.Frames.{command, number, Frame, Cut, cut, with_frame, front_of, refused, frames_from, refusal_from}
+use Rattle.first_messages.specs.Cutting.{takes, front_is, front_from, same_header, cut_whole, cut_unfinished, cut_refused, cut_none}
+use Rattle.first_messages.specs.declared.frame.Front.{Front}
+use Rattle.first_messages.specs.declared.frame.Front.TheVariants.{Unfinished, Whole, Refused}
+use Rattle.first_messages.specs.declared.frame.Refusal.{Refusal}
 use Rattle.desk_api.specs.Marks.{Adds, HaveMoment}
 use Rattle.desk_api.specs.Adding.{adds_nothing}
 use Rattle.desk_api.specs.declared.mark.Mark.{Mark}
 use Rattle.desk_api.specs.declared.mark.Seat.{Seat}
-use Rattle.pva_messages.specs.Requests.{message_at}
+use Rattle.first_messages.specs.Requests.{message_at}
 use Rattle.srv_stream.specs.Talk.{State, IsStep, unreadable, Part, RowPart}
 use Rattle.srv_stream.specs.Calls.{GaveUp}
 use Rattle.srv_stream.specs.Streams.{View, Fed, FedOn, FedPart, Feeds, Passed, NotPassed, Passes}

@@ -2,13 +2,13 @@
 use Rattle.std.proofs.Common.{◌≡◌, ℕ, ℤ, inr, List, [], ◌++◌, Option, None, Some, Result, Ok, Err, refl, sym, subst}
 use Rattle.std.specs.Prelude.{OnOk, OnErr, IsErr, IsErrAnd}
 use Rattle.std.proofs.lemmas.Bool.{false≢true}
-use Rattle.pva_messages.specs.Replies.{spelled}
-use Rattle.pva_messages.specs.Requests.{message_at}
-use Rattle.pva_messages.specs.declared.to_server.ToServer.{ToServer}
-use Rattle.pva_messages.specs.declared.no_memory.NoMemory.{NoMemory}
-use Rattle.pva_messages.specs.declared.value.PvValue.{PvValue}
-use Rattle.pva_messages.specs.declared.to_client.ToClient.{ToClient}
-use Rattle.pva_messages.specs.declared.to_client.ToClient.TheVariants.{Created, NotFound, Got}
+use Rattle.first_messages.specs.Replies.{spelled}
+use Rattle.first_messages.specs.Requests.{message_at}
+use Rattle.first_messages.specs.declared.to_server.ToServer.{ToServer}
+use Rattle.first_messages.specs.declared.no_memory.NoMemory.{NoMemory}
+use Rattle.first_messages.specs.declared.value.PvValue.{PvValue}
+use Rattle.first_messages.specs.declared.to_client.ToClient.{ToClient}
+use Rattle.first_messages.specs.declared.to_client.ToClient.TheVariants.{Created, NotFound, Got}
 use Rattle.desk_api.specs.Adding.{adds_nothing}
 use Rattle.desk_api.specs.Marks.{Calls, IsGet, Asked, ArePut, HaveMoment}
 use Rattle.desk_api.specs.declared.channel.Channel.{Channel}

@@ -1,9 +1,9 @@
 -- Steps, and then more steps.
 use Rattle.std.proofs.Common.{◌≡◌, ℕ, ℤ, List, [], ◌∷◌, ◌++◌, Option, None, Some, refl, sym, ◌∙◌, ap, subst, append_assoc}
-use Rattle.pva_messages.specs.Frames.{Frame}
-use Rattle.pva_messages.specs.Requests.{message_at}
-use Rattle.pva_messages.specs.declared.to_server.ToServer.{ToServer}
-use Rattle.pva_messages.specs.declared.to_server.ToServer.TheVariants.{Validation, Create, BeginGet, Get, BeginPut, Put}
+use Rattle.first_messages.specs.Frames.{Frame}
+use Rattle.first_messages.specs.Requests.{message_at}
+use Rattle.first_messages.specs.declared.to_server.ToServer.{ToServer}
+use Rattle.first_messages.specs.declared.to_server.ToServer.TheVariants.{Validation, Create, BeginGet, Get, BeginPut, Put}
 use Rattle.desk_api.specs.Naming.{found_is_channel}
 use Rattle.desk_api.specs.Sites.{channel_named}
 use Rattle.desk_api.specs.declared.channel.Channel.{Channel}

@@ -1,8 +1,8 @@
 -- What the calls of a session do.
 use Rattle.std.specs.Prelude.{◌≡◌, ℕ, ℤ, true, false, List, ◌++◌, Option, Some, Result, Ok, Err}
-use Rattle.pva_messages.specs.Requests.{message_at}
-use Rattle.pva_messages.specs.declared.to_server.ToServer.{ToServer}
-use Rattle.pva_messages.specs.declared.no_memory.NoMemory.{NoMemory}
+use Rattle.first_messages.specs.Requests.{message_at}
+use Rattle.first_messages.specs.declared.to_server.ToServer.{ToServer}
+use Rattle.first_messages.specs.declared.no_memory.NoMemory.{NoMemory}
 use Rattle.desk_api.specs.Marks.{Adds, HaveMoment}
 use Rattle.desk_api.specs.declared.mark.Mark.{Mark}
 use Rattle.desk_api.specs.declared.mark.Seat.{Seat}

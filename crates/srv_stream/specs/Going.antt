@@ -3,10 +3,10 @@ use Rattle.std.specs.Prelude.{◌≡◌, ℕ, ℤ, ◌+◌, ◌<◌, ◌≤◌, 
 use Rattle.pva_outside.specs.Count.{Rose}
 use Rattle.pva_outside.specs.Wire.{Wire}
 use Rattle.pva_wire.specs.declared.order.Order.{Order}
-use Rattle.pva_messages.specs.Frames.{frames_from, place_from, held_of}
-use Rattle.pva_messages.specs.Replies.{greeting}
-use Rattle.pva_messages.specs.declared.frame.Refusal.{Refusal}
-use Rattle.pva_messages.specs.declared.frame.Refusal.TheVariants as refusals
+use Rattle.first_messages.specs.Frames.{frames_from, place_from, held_of}
+use Rattle.first_messages.specs.Replies.{greeting}
+use Rattle.first_messages.specs.declared.frame.Refusal.{Refusal}
+use Rattle.first_messages.specs.declared.frame.Refusal.TheVariants as refusals
 use Rattle.desk_api.specs.History.{IsPrefixOf}
 use Rattle.desk_api.specs.Marks.{Adds, HaveMoment}
 use Rattle.desk_api.specs.declared.mark.Mark.{Mark}

@@ -1,7 +1,7 @@
 -- What contracts see of a serving.
 use Rattle.std.specs.Prelude.{[]}
 use Rattle.pva_wire.specs.declared.order.Order.{Order}
-use Rattle.pva_messages.specs.Replies.{greeting}
+use Rattle.first_messages.specs.Replies.{greeting}
 use Rattle.srv_stream.specs.Talk.{opening}
 use Rattle.srv_stream.specs.Streams.{View}
 use Rattle.srv_stream.specs.Views.{state_of, output_of}

@@ -1,9 +1,9 @@
 -- What pieces of a stream make a session say.
 use Rattle.std.specs.Prelude.{◌≡◌, ℕ, ℤ, ◌+◌, ◌<◌, ◌≤◌, true, List, [], ◌∷◌, ◌++◌, length, take, Option, None, Some, Result, Ok, Err}
-use Rattle.pva_messages.specs.Frames.{Frame, frames_from, place_from, held_of, refusal_from, unfinished}
-use Rattle.pva_messages.specs.Requests.{message_at}
-use Rattle.pva_messages.specs.declared.frame.Refusal.{Refusal}
-use Rattle.pva_messages.specs.declared.frame.Refusal.TheVariants as refusals
+use Rattle.first_messages.specs.Frames.{Frame, frames_from, place_from, held_of, refusal_from, unfinished}
+use Rattle.first_messages.specs.Requests.{message_at}
+use Rattle.first_messages.specs.declared.frame.Refusal.{Refusal}
+use Rattle.first_messages.specs.declared.frame.Refusal.TheVariants as refusals
 use Rattle.desk_api.specs.History.{IsPrefixOf}
 use Rattle.desk_api.specs.Marks.{Adds, HaveMoment}
 use Rattle.desk_api.specs.declared.history.Base.{Base}

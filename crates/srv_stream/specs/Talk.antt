@@ -2,17 +2,17 @@
 -- (pvAccess Protocol Specification, "Protocol messages").
 use Rattle.std.specs.Prelude.{◌≡◌, ◌⊎◌, ℕ, ℤ, pos, Bool, true, false, not, ◌&&◌, ◌==◌, List, [], ◌∷◌, ◌++◌, Option, None, Some, is_some, is_none, Result, Ok, Err, IsTrue, ⊤}
 use Rattle.pva_wire.specs.declared.order.Order.{Order}
-use Rattle.pva_messages.specs.Frames.{Frame}
-use Rattle.pva_messages.specs.Requests.{message_at}
-use Rattle.pva_messages.specs.Replies.{spelled}
-use Rattle.pva_messages.specs.Values.{value_leaf}
-use Rattle.pva_messages.specs.declared.value.PvValue.{PvValue}
-use Rattle.pva_messages.specs.declared.to_server.ToServer.{ToServer}
-use Rattle.pva_messages.specs.declared.to_server.ToServer.TheVariants.{Validation, Create, BeginGet, Get, BeginPut, Put}
-use Rattle.pva_messages.specs.declared.to_client.ToClient.{ToClient}
-use Rattle.pva_messages.specs.declared.to_client.ToClient.TheVariants.{Validated, Created, NotFound, GetBegun, Got, PutBegun, PutDone, PutFailed}
-use Rattle.pva_messages.specs.declared.to_client.PutError.{PutError}
-use Rattle.pva_messages.specs.declared.to_client.PutError.TheVariants as errors
+use Rattle.first_messages.specs.Frames.{Frame}
+use Rattle.first_messages.specs.Requests.{message_at}
+use Rattle.first_messages.specs.Replies.{spelled}
+use Rattle.first_messages.specs.Values.{value_leaf}
+use Rattle.first_messages.specs.declared.value.PvValue.{PvValue}
+use Rattle.first_messages.specs.declared.to_server.ToServer.{ToServer}
+use Rattle.first_messages.specs.declared.to_server.ToServer.TheVariants.{Validation, Create, BeginGet, Get, BeginPut, Put}
+use Rattle.first_messages.specs.declared.to_client.ToClient.{ToClient}
+use Rattle.first_messages.specs.declared.to_client.ToClient.TheVariants.{Validated, Created, NotFound, GetBegun, Got, PutBegun, PutDone, PutFailed}
+use Rattle.first_messages.specs.declared.to_client.PutError.{PutError}
+use Rattle.first_messages.specs.declared.to_client.PutError.TheVariants as errors
 use Rattle.rec_kinds.specs.declared.put.PutRefusal.{PutRefusal}
 use Rattle.rec_kinds.specs.declared.put.PutRefusal.TheVariants as refusals
 use Rattle.desk_api.specs.Sites.{channel_named, is_channel, type_of}

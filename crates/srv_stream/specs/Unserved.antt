@@ -5,11 +5,11 @@ use Rattle.std.proofs.lemmas.List.{append-nil}
 use Rattle.std.specs.Io.KnownBytes.{Appends, Consumes}
 use Rattle.pva_outside.specs.Wire.{Wire}
 use Rattle.pva_wire.specs.declared.order.Order.{Order}
-use Rattle.pva_messages.specs.Frames.{Frame, frames_from}
-use Rattle.pva_messages.specs.Replies.{greeting}
-use Rattle.pva_messages.specs.Requests.{message_at}
-use Rattle.pva_messages.specs.declared.to_server.ToServer.{ToServer}
-use Rattle.pva_messages.specs.declared.to_server.ToServer.TheVariants.{Validation, Create, BeginGet, Get, BeginPut, Put}
+use Rattle.first_messages.specs.Frames.{Frame, frames_from}
+use Rattle.first_messages.specs.Replies.{greeting}
+use Rattle.first_messages.specs.Requests.{message_at}
+use Rattle.first_messages.specs.declared.to_server.ToServer.{ToServer}
+use Rattle.first_messages.specs.declared.to_server.ToServer.TheVariants.{Validation, Create, BeginGet, Get, BeginPut, Put}
 use Rattle.desk_api.specs.Adding.{adds_nothing}
 use Rattle.desk_api.specs.declared.channel.Channel.{Channel}
 use Rattle.desk_api.specs.declared.history.Base.{Base}

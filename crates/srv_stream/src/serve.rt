@@ -9,7 +9,7 @@ ghost use Rattle.srv_stream.specs.Served.{Served};
 
 use crate::serving::{FeedStop, Serving};
 use desk_api::{Desk, Moment};
-use pva_messages::{FrameFault, Refusal};
+use first_messages::{FrameFault, Refusal};
 use pva_outside::{Clock, Link, ReadStep, WriteStep};
 use pva_wire::Order;
 use std::alloc::Global;

@@ -1,11 +1,11 @@
 // A session behind the bytes of a stream.
 ghost use Rattle.std.specs.Prelude.{◌≡◌, ◌<◌, ◌≤◌, [], drop, length, Some, IfOk};
-ghost use Rattle.pva_messages.specs.Frames.{front_of};
-ghost use Rattle.pva_messages.specs.declared.frame.Front.TheVariants.{Unfinished};
+ghost use Rattle.first_messages.specs.Frames.{front_of};
+ghost use Rattle.first_messages.specs.declared.frame.Front.TheVariants.{Unfinished};
 
 use crate::session::{Session, SessionStop};
 use desk_api::{Desk, Moment, NoMemory};
-use pva_messages::{Front, Refusal, missing, read_front};
+use first_messages::{Front, Refusal, missing, read_front};
 use pva_wire::Order;
 use std::alloc::Global;
 use std::mem::replace;

@@ -1,12 +1,12 @@
 // One session: messages in, replies out.
 ghost use Rattle.std.specs.Prelude.{◌≡◌, ◌≤◌, ◌++◌, ℕ, ℤ, true, Some, drop, length, IfOk, OnOk, OnErr, IsTrue};
-ghost use Rattle.pva_messages.specs.Replies.{spelled, greeting};
-ghost use Rattle.pva_messages.specs.Requests.{message_at};
-ghost use Rattle.pva_messages.specs.Values.{value_leaf};
+ghost use Rattle.first_messages.specs.Replies.{spelled, greeting};
+ghost use Rattle.first_messages.specs.Requests.{message_at};
+ghost use Rattle.first_messages.specs.Values.{value_leaf};
 ghost use Rattle.srv_stream.specs.Talk.{opening, is_next, with_number, error_of, put_reply};
 
 use desk_api::{Channel, Desk, Done, Moment, NoMemory, PutAnswer, PutRefusal};
-use pva_messages::{
+use first_messages::{
     Alarm, PutError, PvValue, TimeStamp, ToClient, ToServer, greeting, read_to_server,
     write_to_client,
 };

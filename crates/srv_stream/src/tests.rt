@@ -1,7 +1,7 @@
 use super::*;
 use desk_api::Site;
 use desk_core::SoloDesk;
-use pva_messages::FrameFault;
+use first_messages::FrameFault;
 use pva_outside::{FixedClock, MemoryLink, PlainLink, Turn};
 use pva_wire::Order;
 use std::alloc::Global;

@@ -1,7 +1,7 @@
 use Rattle.std.proofs.Common.{◌≡◌, ◌+◌, ◌-◌, ℕ, List, Some, take, drop, length, refl, ap, subst, arith, length-drop}
 use Rattle.std.proofs.lemmas.List.{take_all}
-use Rattle.pva_messages.specs.Frames.{Frame}
-use Rattle.pva_messages.specs.Requests.{message_at}
+use Rattle.first_messages.specs.Frames.{Frame}
+use Rattle.first_messages.specs.Requests.{message_at}
 use Rattle.srv_stream.specs.Calls.{Handled}
 use Rattle.srv_stream.specs.Talk.{Part}
 use Rattle.srv_stream.specs.Unserved.{no_part}

@@ -1,7 +1,7 @@
 use Rattle.std.proofs.Common.{◌≡◌, ◌-◌, ℕ, List, Some, Err, take, drop, length, sym, subst, arith, take-append-drop, length-drop}
 use Rattle.std.proofs.lemmas.List.{take_all}
 use Rattle.std.proofs.Math.Seq.{take-add}
-use Rattle.pva_messages.specs.Cutting.{cut_unfinished}
+use Rattle.first_messages.specs.Cutting.{cut_unfinished}
 use Rattle.desk_api.specs.declared.history.Base.{Base}
 use Rattle.srv_stream.specs.Talk.{State, IsOf}
 use Rattle.srv_stream.specs.Streams.{FedOn, Feeds, Took}

@@ -1,5 +1,5 @@
 use Rattle.std.proofs.Common.{ap}
-use Rattle.pva_messages.specs.Frames.{front_of}
+use Rattle.first_messages.specs.Frames.{front_of}
 use Rattle.srv_stream.proofs.serving.Serving.start.Goals as goal
 
 pub invariant_of-result : goal.invariant_of-result

@@ -1,9 +1,9 @@
 use Rattle.std.proofs.Common.{◌≡◌, ◌+◌, ◌≤◌, ℕ, List, Some, Err, ◌++◌, take, drop, rules, refl, sym, ◌∙◌, ap, subst, arith, take-append-drop}
 use Rattle.std.proofs.lemmas.List.{length-take-le}
 use Rattle.std.proofs.Math.Seq.{take-length}
-use Rattle.pva_messages.specs.declared.frame.Front.TheVariants.{Unfinished}
-use Rattle.pva_messages.specs.Frames.{front_of}
-use Rattle.pva_messages.specs.Cutting.{front_is}
+use Rattle.first_messages.specs.declared.frame.Front.TheVariants.{Unfinished}
+use Rattle.first_messages.specs.Frames.{front_of}
+use Rattle.first_messages.specs.Cutting.{front_is}
 use Rattle.srv_stream.specs.Streams.{FedOn, Feeds}
 use Rattle.srv_stream.specs.ServingView.{view_of}
 use Rattle.srv_stream.specs.Unserved.{no_row_part}

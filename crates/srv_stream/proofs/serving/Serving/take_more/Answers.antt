@@ -1,7 +1,7 @@
 use Rattle.std.proofs.Common.{◌≡◌, ◌+◌, ◌≤◌, ℕ, List, Some, Err, ◌++◌, take, drop, length, refl, sym, ◌∙◌, ap, subst, arith, take-append-drop}
 use Rattle.std.proofs.lemmas.List.{length-take-le}
-use Rattle.pva_messages.specs.Frames.{front_of}
-use Rattle.pva_messages.specs.declared.frame.Front.TheVariants.{Unfinished, Whole, Refused}
+use Rattle.first_messages.specs.Frames.{front_of}
+use Rattle.first_messages.specs.declared.frame.Front.TheVariants.{Unfinished, Whole, Refused}
 use Rattle.srv_stream.specs.Streams.{View, Fed, Feeds}
 use Rattle.srv_stream.specs.ServingView.{view_of}
 use Rattle.srv_stream.specs.Unserved.{no_row_part}

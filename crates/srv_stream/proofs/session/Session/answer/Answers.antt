@@ -1,5 +1,5 @@
 use Rattle.std.proofs.Common.{Option, sym, subst}
-use Rattle.pva_messages.specs.declared.to_server.ToServer.TheVariants.{Validation, Create, BeginGet, Get, BeginPut}
+use Rattle.first_messages.specs.declared.to_server.ToServer.TheVariants.{Validation, Create, BeginGet, Get, BeginPut}
 use Rattle.desk_api.specs.declared.channel.Channel.{Channel}
 use Rattle.srv_stream.specs.Talk.{BeginRow, GetRow, BeginPutRow, NoPart, GetPart}
 use Rattle.srv_stream.specs.Calls.{AnswersRow}

@@ -1,7 +1,7 @@
 use Rattle.std.proofs.Common.{Some, sym, ◌∙◌, ap, subst, to_z-of_z}
 use Rattle.std.specs.FinSet.{FinSet}
 use Rattle.std.specs.Ordering.{nat_cmp}
-use Rattle.pva_messages.specs.declared.value.PvValue.{PvValue}
+use Rattle.first_messages.specs.declared.value.PvValue.{PvValue}
 use Rattle.desk_api.specs.Marks.{Asked, Calls, ArePut}
 use Rattle.srv_stream.specs.Talk.{with_number}
 use Rattle.srv_stream.specs.Unserved.{no_put}

@@ -1,4 +1,4 @@
-use Rattle.pva_messages.specs.Requests.{message_at}
+use Rattle.first_messages.specs.Requests.{message_at}
 use Rattle.srv_stream.specs.Talk.{Part}
 use Rattle.srv_stream.specs.Unserved.{no_part}
 use Rattle.srv_stream.specs.Views.{state_of, output_of}

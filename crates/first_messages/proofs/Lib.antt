@@ -1,0 +1,5 @@
+pub mod Numbers
+pub mod Fronts
+pub mod Appends
+pub mod Leaves
+pub mod Exact

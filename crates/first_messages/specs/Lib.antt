@@ -1,0 +1,5 @@
+pub mod Values
+pub mod Frames
+pub mod Cutting
+pub mod Replies
+pub mod Requests

@@ -1,0 +1,17 @@
+use Rattle.std.proofs.lemmas.Result.{err_from_is_err_and}
+use Rattle.pvd_codec.specs.Reading.{items_at}
+use Rattle.pvd_codec.proofs.Loop.{goes_on, ends, is_done}
+use Rattle.pva_messages.specs.Reading.{channel_at}
+use Rattle.pva_messages.proofs.items.times_channel.Goals as goal
+
+pub returns-in_err-channel : goal.returns-in_err-channel
+returns-in_err-channel c =
+    let p = err_from_is_err_and c.from_residual.result c.from_residual.ensures.1 in
+    rw (p.1, p.2) (ends (channel_at c.args.order) c.in_err-channel.field-0.0 c.loop.channels.items c.args.count c.loop.counter c.loop.rest.now (items_at (channel_at c.args.order) c.args.count c.args.bytes.now) c.loop-test.true c.in_err-channel.ensures c.loop.invariant)
+
+pub loop-preserved : goal.loop-preserved
+loop-preserved c =
+    rw c.in_ok-push.ensures.items (goes_on (channel_at c.args.order) c.loop.channels.items c.args.count c.loop.counter c.loop.rest.now c.in_ok-channel.channel c.in_ok-channel.after.now (items_at (channel_at c.args.order) c.args.count c.args.bytes.now) c.loop-test.true c.in_ok-channel.ensures c.loop.invariant)
+
+pub returns : goal.returns
+returns c = is_done (channel_at c.args.order) c.loop.channels.items c.args.count c.loop.counter c.loop.rest.now (items_at (channel_at c.args.order) c.args.count c.args.bytes.now) c.loop-test.false c.loop.invariant

@@ -1,0 +1,4 @@
+use Rattle.pva_messages.proofs.reading.read_put_part.Goals as goal
+
+pub returns-clause-found : goal.returns-clause-found
+returns-clause-found c = rw c.as_slice.ensures at c.read_request_part.ensures.found

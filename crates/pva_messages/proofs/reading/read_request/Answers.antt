@@ -1,0 +1,49 @@
+use Rattle.std.proofs.Common.{◌∙◌, ℕ, List, length, None, refl, ap, rules}
+use Rattle.pva_wire.specs.Spelling.{IsBytes}
+use Rattle.pvd_codec.proofs.Calls.{read_gave, read_failed}
+use Rattle.pva_messages.specs.Payloads.{IsRequest}
+use Rattle.pva_messages.specs.Reading.{request_at}
+use Rattle.pva_messages.specs.Views.{request_view}
+use Rattle.pva_messages.proofs.Messages.{request_again, request_takes}
+use Rattle.pva_messages.proofs.Calls.{answers, cause_is, settled_gives, spelled_message, message_within}
+use Rattle.pva_messages.proofs.reading.read_request.Goals as goal
+
+pub returns-in-Ok-clause-exact : goal.returns-in-Ok-clause-exact
+returns-in-Ok-clause-exact c =
+    let read = request_at c.args.order None c.args.command in
+    let base = c.args.registry.now in
+    let bytes = c.args.payload.now in
+    let gave = rw c.new-defined.ensures at c.in-Ok.ensures in
+    settled_gives c.args.command (length bytes) base c.settled.new.registry c.request_at.new.changed request_view c.in-Ok.message c.settled.result (read (bytes, base)) c.in-Ok._rest.now c.settled.ensures.ok c.settled.ensures.err
+    (λ done. read_gave read base bytes c.in-Ok._rest.now c.request_at.new.changed c.settled.new.registry (request_view c.in-Ok.message) gave done)
+
+pub returns-in-Ok-clause-found : goal.returns-in-Ok-clause-found
+returns-in-Ok-clause-found c = λ front follow m after is parts.
+    let read = request_at c.args.order None c.args.command in
+    let base = c.args.registry.now in
+    let again = ap (λ (bytes : List ℕ). request_at c.args.order None c.args.command (bytes, base)) parts ∙ request_again c.args.order None c.args.command base front follow m after is in
+    answers c.args.command (length c.args.payload.now) base c.settled.new.registry request_view c.settled.result (read (c.args.payload.now, base)) m (follow, after) again (returns-in-Ok-clause-exact c)
+
+pub returns-in-Ok-clause-spelled : goal.returns-in-Ok-clause-spelled
+returns-in-Ok-clause-spelled c =
+    let o = c.args.order in
+    let base = c.args.registry.now in
+    let bytes = c.args.payload.now in
+    let fits : IsBytes bytes = λ i. search (rules, c.type_inv.payload i) in
+    spelled_message (λ front follow m after. IsRequest o None c.args.command base front follow m after) c.args.command (length bytes) base c.settled.new.registry request_view c.settled.result (request_at o None c.args.command (bytes, base)) bytes
+    (λ x e. request_takes o None c.args.command base bytes x fits e) (returns-in-Ok-clause-exact c)
+
+pub returns-in-Ok-clause-part : goal.returns-in-Ok-clause-part
+returns-in-Ok-clause-part c =
+    message_within c.args.order c.args.command c.args.registry.now c.settled.new.registry request_view c.settled.result c.args.payload.now (returns-in-Ok-clause-spelled c)
+
+pub returns-in-Err-clause-exact : goal.returns-in-Err-clause-exact
+returns-in-Err-clause-exact c =
+    let failed = rw c.new-defined.ensures at c.in-Err.ensures in
+    (refl, rw c.placed.ensures (read_failed (request_at c.args.order None c.args.command) c.args.registry.now c.args.payload.now (length c.args.payload.now) c.in-Err.stop failed), refl)
+
+pub returns-in-Err-clause-found : goal.returns-in-Err-clause-found
+returns-in-Err-clause-found c = λ front follow m after is parts.
+    let base = c.args.registry.now in
+    let again = ap (λ (bytes : List ℕ). request_at c.args.order None c.args.command (bytes, base)) parts ∙ request_again c.args.order None c.args.command base front follow m after is in
+    cause_is (length c.args.payload.now) (request_at c.args.order None c.args.command (c.args.payload.now, base)) (m, (follow, after)) c.placed.result again (returns-in-Err-clause-exact c).1

@@ -1,0 +1,216 @@
+ghost use Rattle.std.specs.Prelude.{false, ◌≡◌, ◌<◌, ◌++◌, ◌∷◌, [], OnOk, OnErr};
+ghost use Rattle.pvd_codec.specs.Written.{CanEach};
+ghost use Rattle.pva_frames.specs.Spelling.{message_bytes};
+ghost use Rattle.pva_messages.specs.Fields as field;
+ghost use Rattle.pva_messages.specs.Requests.{CanSend, begun, part_field, count_field, request_fields, request_command};
+ghost use Rattle.pva_messages.specs.Written.{canonical, CanField, FitsField};
+ghost use Rattle.pva_messages.specs.Laws.{IsWritable, request_payload};
+ghost use Rattle.pva_messages.specs.Views.{valued_view, put_part_view, request_view};
+
+use crate::part::PutPart;
+use crate::subcommand::begins;
+use crate::to_server::ToServer;
+use crate::writing::{
+    put_channels, put_ids, put_part, put_request_head, put_text_message, put_valued,
+};
+use pva_frames::write_message;
+use pva_wire::{Order, write_text, write_u16, write_u32};
+use pvd_type::{Name, NoMemory, PvType};
+use pvd_value::PvValue;
+
+/// Appends the one spelling of a message of a client, as one frame or as segments of `segment` bytes
+/// (pvAccess Protocol Specification, "Application Messages"). A null description stands where a
+/// validation has no argument.
+///
+/// `segment` is at least 1. The message isn't Skipped, and no part is Unread. It has a part and a count
+/// where its row has them, and no item that its row doesn't have; a Create has at most 65,535 channels.
+/// Each value fits its type, and the mask of a part holds leaves alone. A size or a text without a
+/// spelling, above 2^31-2, is NoMemory. After a refusal `out` is as before.
+pub fn write_to_server(
+    out: &mut Vec<u8>,
+    order: Order,
+    segment: u32,
+    message: &ToServer,
+) -> Result<(), NoMemory>
+    requires segment { 0 < segment }
+    requires message { CanSend (request_view message.now) }
+    requires fits { CanEach FitsField (request_fields (request_view message.now)) }
+    ensures ok { OnOk result (out.new.items ≡ out.old.items ++ message_bytes order false (request_command (request_view message.now)) (request_payload order (request_view message.now)) segment) }
+    ensures spelled { OnOk result (IsWritable (request_view message.now)) }
+    ensures err { OnErr result (out.new.items ≡ out.old.items) }
+{
+    let mut payload = Vec::new(*out.allocator());
+    put_request(&mut payload, order, message)?;
+    write_message(out, order, false, command_of(message), &payload, segment)
+}
+
+/// The command of a message.
+fn command_of(message: &ToServer) -> u8
+    ensures { result ≡ request_command (request_view message.now) }
+{
+    match message {
+        ToServer::Validation { .. } => 0x01,
+        ToServer::Echo { .. } => 0x02,
+        ToServer::Create { .. } => 0x07,
+        ToServer::DestroyChannel { .. } => 0x08,
+        ToServer::Get { .. } => 0x0A,
+        ToServer::Put { .. } => 0x0B,
+        ToServer::PutGet { .. } => 0x0C,
+        ToServer::Monitor { .. } => 0x0D,
+        ToServer::DestroyRequest { .. } => 0x0F,
+        ToServer::Cancel { .. } => 0x15,
+        ToServer::GetField { .. } => 0x11,
+        ToServer::Message { .. } => 0x12,
+        ToServer::Rpc { .. } => 0x14,
+        ToServer::Skipped(command) => *command,
+    }
+}
+
+/// Appends the items of a message, or a part of them.
+fn put_request(out: &mut Vec<u8>, order: Order, message: &ToServer) -> Result<(), NoMemory>
+    requires message { CanSend (request_view message.now) }
+    requires fits { CanEach FitsField (request_fields (request_view message.now)) }
+    ensures written { OnOk result (out.new.items ≡ out.old.items ++ canonical order (request_fields (request_view message.now))) }
+    ensures can { OnOk result (CanEach CanField (request_fields (request_view message.now))) }
+{
+    match message {
+        ToServer::Validation {
+            buffer,
+            registry,
+            qos,
+            method,
+            argument,
+        } => put_validation(out, order, (*buffer, *registry, *qos), method, argument),
+        ToServer::Echo { bytes } => {
+            out.extend_from_slice(bytes)?;
+            Ok(())
+        }
+        ToServer::Create { channels } => put_channels(out, order, channels),
+        ToServer::DestroyChannel { sid, cid } => put_ids(out, order, *sid, *cid),
+        ToServer::Get {
+            sid,
+            req,
+            sub,
+            request,
+        } => {
+            put_request_head(out, order, *sid, *req, *sub)?;
+            put_begun(out, order, *sub, request)
+        }
+        ToServer::Put {
+            sid,
+            req,
+            sub,
+            request,
+            part,
+        } => {
+            put_request_head(out, order, *sid, *req, *sub)?;
+            put_put(out, order, *sub, request, part)
+        }
+        ToServer::PutGet {
+            sid,
+            req,
+            sub,
+            request,
+            part,
+        } => {
+            put_request_head(out, order, *sid, *req, *sub)?;
+            put_put(out, order, *sub, request, part)
+        }
+        ToServer::Monitor {
+            sid,
+            req,
+            sub,
+            request,
+            count,
+        } => {
+            put_request_head(out, order, *sid, *req, *sub)?;
+            put_begun(out, order, *sub, request)?;
+            put_count(out, order, *count)
+        }
+        ToServer::DestroyRequest { sid, req } => put_ids(out, order, *sid, *req),
+        ToServer::Cancel { sid, req } => put_ids(out, order, *sid, *req),
+        ToServer::GetField { sid, req, path } => {
+            put_ids(out, order, *sid, *req)?;
+            write_text(out, order, path)
+        }
+        ToServer::Message { req, kind, text } => put_text_message(out, order, *req, *kind, text),
+        ToServer::Rpc {
+            sid,
+            req,
+            sub,
+            argument,
+        } => {
+            put_request_head(out, order, *sid, *req, *sub)?;
+            put_valued(out, order, argument)
+        }
+        ToServer::Skipped(_) => Ok(()),
+    }
+}
+
+/// Appends the sizes, the quality of service, the method and its argument.
+fn put_validation(
+    out: &mut Vec<u8>,
+    order: Order,
+    sizes: (u32, u16, u16),
+    method: &Name,
+    argument: &Option<(PvType, PvValue)>,
+) -> Result<(), NoMemory>
+    requires { FitsField (field.last_valued (valued_view argument.now)) }
+    ensures written { OnOk result (out.new.items ≡ out.old.items ++ canonical order (field.word sizes.0 ∷ field.short sizes.1 ∷ field.short sizes.2 ∷ field.text method.now ∷ field.last_valued (valued_view argument.now) ∷ [])) }
+    ensures can { OnOk result (CanEach CanField (field.word sizes.0 ∷ field.short sizes.1 ∷ field.short sizes.2 ∷ field.text method.now ∷ field.last_valued (valued_view argument.now) ∷ [])) }
+{
+    write_u32(out, order, sizes.0)?;
+    write_u16(out, order, sizes.1)?;
+    write_u16(out, order, sizes.2)?;
+    write_text(out, order, method)?;
+    put_valued(out, order, argument)
+}
+
+/// Appends the request structure, where the subcommand begins a request.
+fn put_begun(
+    out: &mut Vec<u8>,
+    order: Order,
+    sub: u8,
+    request: &Option<(PvType, PvValue)>,
+) -> Result<(), NoMemory>
+    requires { CanEach FitsField (begun sub (valued_view request.now)) }
+    ensures written { OnOk result (out.new.items ≡ out.old.items ++ canonical order (begun sub (valued_view request.now))) }
+    ensures can { OnOk result (CanEach CanField (begun sub (valued_view request.now))) }
+{
+    if !begins(sub) {
+        return Ok(());
+    }
+    put_valued(out, order, request)
+}
+
+/// Appends the request structure and the part of a put, where they are there.
+fn put_put(
+    out: &mut Vec<u8>,
+    order: Order,
+    sub: u8,
+    request: &Option<(PvType, PvValue)>,
+    part: &PutPart,
+) -> Result<(), NoMemory>
+    requires request { CanEach FitsField (begun sub (valued_view request.now)) }
+    requires part { CanEach FitsField (part_field (put_part_view part.now)) }
+    ensures written { OnOk result (out.new.items ≡ out.old.items ++ canonical order (begun sub (valued_view request.now) ++ part_field (put_part_view part.now))) }
+    ensures can { OnOk result (CanEach CanField (begun sub (valued_view request.now) ++ part_field (put_part_view part.now))) }
+{
+    put_begun(out, order, sub, request)?;
+    let PutPart::Given(part) = part else {
+        return Ok(());
+    };
+    put_part(out, order, part)
+}
+
+/// Appends a count of updates, where there is one.
+fn put_count(out: &mut Vec<u8>, order: Order, count: Option<u32>) -> Result<(), NoMemory>
+    ensures written { OnOk result (out.new.items ≡ out.old.items ++ canonical order (count_field count)) }
+    ensures can { OnOk result (CanEach CanField (count_field count)) }
+{
+    let Some(count) = count else {
+        return Ok(());
+    };
+    write_u32(out, order, count)?;
+    Ok(())
+}
