@@ -8,9 +8,10 @@ top=$(cd "$(dirname "$0")/.." && pwd)
 work=$(mktemp -d)
 trap 'rm -rf "$work"' EXIT
 bench=$work/crates/queue_bench
-mkdir -p "$bench/src" "$bench/proofs/post" "$bench/proofs/squash_all"
+mkdir -p "$bench/src" "$bench/proofs/post" "$bench/proofs/squash_all" "$bench/proofs/filled"
 for name in pvd_type pvd_value mon_queue; do
-    cp -r "$top/crates/$name" "$work/crates/"
+    mkdir "$work/crates/$name"
+    cp -r "$top/crates/$name/src" "$top/crates/$name/specs" "$top/crates/$name/proofs" "$work/crates/$name/"
 done
 grep -E '^(pvd_type|pvd_value|mon_queue):' "$top/crates.txt" > "$work/crates.txt"
 echo 'queue_bench: mon_queue pvd_value pvd_type' >> "$work/crates.txt"
@@ -19,7 +20,7 @@ cat > "$bench/src/main.rt" <<'RT'
 //! How fast a queue takes posts and gives updates.
 #![tactic(auto)]
 
-ghost use Rattle.std.specs.Prelude.{◌≡◌, IfOk};
+ghost use Rattle.std.specs.Prelude.{◌≡◌, ◌≤◌, IfOk};
 ghost use Rattle.mon_queue.specs.Told.{IsPostOf};
 ghost use Rattle.mon_queue.specs.Unread.{type_of};
 
@@ -244,6 +245,14 @@ use Rattle.queue_bench.proofs.squash_all.Given as goal
 
 abbrev pub invariant-loop : goal.invariant-loop
 invariant-loop l = type_of l.from ≡ type_of l.into
+ANTT
+cat > "$bench/proofs/filled/Invariants.antt" <<'ANTT'
+use Rattle.std.proofs.Common.{◌≡◌}
+use Rattle.mon_queue.specs.Unread.{type_of}
+use Rattle.queue_bench.proofs.filled.Given as goal
+
+abbrev pub invariant-loop : goal.invariant-loop
+invariant-loop l = type_of l.queue ≡ l.ty
 ANTT
 cd "$bench"
 rt run 2>"$work/log" || { cat "$work/log"; exit 1; }
