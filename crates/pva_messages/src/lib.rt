@@ -13,8 +13,6 @@ mod replies_writing;
 mod requests;
 mod requests_writing;
 mod subcommand;
-#[cfg(test)]
-mod tests;
 mod to_client;
 mod to_server;
 mod writing;
