@@ -21,6 +21,6 @@ pub use laws::{canonical_is_read, one_reading, read_is_spelled, spelled_is_read}
 pub use number::{u8_at, u16_at, u32_at, u64_at, write_u16, write_u32, write_u64};
 pub use order::Order;
 pub use pvd_type::{BitSet, Name, NoMemory};
-pub use reading::{count_at, counted_at, size_at, text_at};
+pub use reading::{count_at, counted_at, size_at, str_at, text_at};
 pub use status::{Status, StatusKind, status_at, write_status};
 pub use writing::{write_size, write_text};

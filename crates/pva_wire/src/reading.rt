@@ -67,31 +67,40 @@ pub fn counted_at(order: Order, width: u32, bytes: &[u8]) -> Result<(u32, &[u8])
 
 /// The `size` bytes of a text, and what follows them.
 #[tactic(auto, unfolding(crate::specs::Reading::letters_at))]
-fn letters_at(alloc: Global, size: usize, bytes: &[u8]) -> Result<(Name, &[u8]), Stop>
-    ensures value { Gives (λ x. (x.0, x.1.now)) result (letters_at size bytes.now) }
-    ensures memory { TakesLast result (letters_at size bytes.now) }
+fn letters_at(size: usize, bytes: &[u8]) -> Result<(&str, &[u8]), Stop>
+    ensures value { Gives (λ x. (x.0.now, x.1.now)) result (letters_at size bytes.now) }
+    ensures memory { TakesNone result }
 {
     if bytes.len() < size {
         return Err(Stop::Fault(Cause::Short, bytes.len()));
     }
     let (front, rest) = bytes.split_at(size);
     match str::from_utf8(front) {
-        Ok(text) => Ok((Name::of(alloc, text)?, rest)),
+        Ok(text) => Ok((text, rest)),
         Err(_) => Err(Stop::Fault(Cause::NotUtf8, bytes.len())),
     }
 }
 
-/// A text and what follows it; null is the empty text (pvAccess Protocol Specification, "Strings").
+/// A text where it stands, and what follows it; null is the empty text (pvAccess Protocol Specification, "Strings").
 /// The faults of its size stand at the size. Short where the bytes end inside its letters, NotUtf8
 /// where those aren't UTF-8; both stand at the first letter.
 #[tactic(auto, unfolding(crate::specs::Reading::text_at))]
+pub fn str_at(order: Order, bytes: &[u8]) -> Result<(&str, &[u8]), Stop>
+    ensures value { Gives (λ x. (x.0.now, x.1.now)) result (text_at order bytes.now) }
+    ensures memory { TakesNone result }
+{
+    let (size, rest) = size_at(order, bytes)?;
+    match size {
+        None => Ok(("", rest)),
+        Some(size) => letters_at(size as usize, rest),
+    }
+}
+
+/// A copy of the text that [`str_at`] reads, and what follows it.
 pub fn text_at(alloc: Global, order: Order, bytes: &[u8]) -> Result<(Name, &[u8]), Stop>
     ensures value { Gives (λ x. (x.0, x.1.now)) result (text_at order bytes.now) }
     ensures memory { TakesLast result (text_at order bytes.now) }
 {
-    let (size, rest) = size_at(order, bytes)?;
-    match size {
-        None => Ok((Name::of(alloc, "")?, rest)),
-        Some(size) => letters_at(alloc, size as usize, rest),
-    }
+    let (text, rest) = str_at(order, bytes)?;
+    Ok((Name::of(alloc, text)?, rest))
 }

@@ -32,7 +32,15 @@ pub fn member_count_at(order: Order, bytes: &[u8]) -> Result<(u32, &[u8]), DescS
     Ok((count, rest))
 }
 
-/// An id or a member's name.
+/// A member's name, where it stands.
+pub fn str_at(order: Order, bytes: &[u8]) -> Result<(&str, &[u8]), DescStop>
+    ensures { Gives (λ x. (x.0.now, x.1.now)) result (lifted (text_at order bytes.now)) }
+{
+    let (text, rest) = pva_wire::str_at(order, bytes)?;
+    Ok((text, rest))
+}
+
+/// A node's id.
 pub fn name_at(alloc: Global, order: Order, bytes: &[u8]) -> Result<(Name, &[u8]), DescStop>
     ensures { Gives (λ x. (x.0, x.1.now)) result (lifted (text_at order bytes.now)) }
 {

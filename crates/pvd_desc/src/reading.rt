@@ -1,8 +1,9 @@
-ghost use Rattle.std.specs.Prelude.{◌≡◌, ◌∷◌, ◌≤◌, ◌<◌, ◌+◌, ◌-◌, [], IfOk, OnOk, Some};
+ghost use Rattle.std.specs.Prelude.{◌≡◌, ◌∷◌, ◌≤◌, ◌<◌, ◌+◌, ◌-◌, ◌++◌, [], IfOk, OnOk, Some};
 ghost use Rattle.std.specs.Arc.{arc_value};
 ghost use Rattle.pvd_type.specs.View.{shape_view, member_view, node_view, members_view, names_of};
 ghost use Rattle.pvd_type.specs.Check.{below, first_fault, label_fault};
 ghost use Rattle.pvd_type.specs.Numbers.{nodes};
+ghost use Rattle.pvd_type.specs.Siblings.{knows};
 ghost use Rattle.pvd_desc.specs.declared.fault.DescCause.TheVariants.{UnknownCode};
 ghost use Rattle.pvd_desc.specs.Types.{laid};
 ghost use Rattle.pvd_desc.specs.Reading.{Gives, here_at, unless, wants, cached_at, inside_at, element_of, element_at, parts_at, member_with, fields_with, fields_below, node_at, desc_at};
@@ -10,10 +11,12 @@ ghost use Rattle.pvd_desc.specs.Reading.{Gives, here_at, unless, wants, cached_a
 use crate::chain::{chain_at, define_all, known};
 use crate::code::{Code, Element, is_element, list_tree, takes};
 use crate::fault::{DescCause, DescStop};
-use crate::items::{bound_at, cached, code_at, first_byte, id_at, member_count_at, name_at, null};
+use crate::items::{
+    bound_at, cached, code_at, first_byte, id_at, member_count_at, name_at, null, str_at,
+};
 use crate::registry::{Definitions, Registry};
 use pva_wire::Order;
-use pvd_type::{Extent, Member, Name, Node, PvType, Shape, TypeFault, check_below, is_among};
+use pvd_type::{Extent, Member, Name, Node, PvType, Shape, Siblings, TypeFault, check_below};
 use std::alloc::Global;
 use std::sync::Arc;
 
@@ -35,14 +38,17 @@ fn check_here(level: u32, seen: u32, named: Option<TypeFault>, left: usize) -> R
     }
 }
 
-/// The fault of a member's name.
-fn named(name: &Name, before: &[Member]) -> Option<TypeFault>
-    ensures { result ≡ label_fault (Some (record { name = name.now; before = names_of before.now })) }
+/// The fault of a member's name, which goes to the names of the siblings before it.
+fn named<'a>(name: &'a str, before: &[Member], siblings: &mut Siblings<'a>) -> Option<TypeFault>
+    requires { knows siblings.old (names_of before.now) }
+    ensures fault { result ≡ label_fault (Some (record { name = name.now; before = names_of before.now })) }
+    ensures known { knows siblings.new (names_of before.now ++ name.now ∷ []) }
 {
-    if name.as_str().is_empty() {
+    let twice = siblings.add(name.as_bytes(), before);
+    if name.is_empty() {
         return Some(TypeFault::EmptyName);
     }
-    if is_among(name, before) {
+    if twice {
         return Some(TypeFault::SameName);
     }
     None
@@ -159,11 +165,20 @@ fn fields_at<'a>(
     ensures few { IfOk result (λ x. x.1 ≤ 4096) }
 {
     let mut members: Vec<Member> = Vec::new(alloc);
+    let mut siblings = Siblings::new(alloc);
     let mut seen = seen;
     let mut rest = bytes;
     for _ in 0..count {
         let (member, more, after) = member_at(
-            alloc, order, base, changed, room, seen, &members, rest,
+            alloc,
+            order,
+            base,
+            changed,
+            room,
+            seen,
+            &members,
+            &mut siblings,
+            rest,
         )?;
         members.push(member)?;
         seen = more;
@@ -172,7 +187,7 @@ fn fields_at<'a>(
     Ok((members, seen, rest))
 }
 
-/// A member that stands after the members `before` of its node.
+/// A member that stands after the members `before` of its node, whose names are the siblings'.
 #[cycle(node)]
 #[tactic(auto, unfolding(crate::specs::Reading::member_with))]
 fn member_at<'a>(
@@ -183,16 +198,20 @@ fn member_at<'a>(
     room: u32,
     seen: u32,
     before: &[Member],
+    siblings: &mut Siblings<'a>,
     bytes: &'a [u8],
 ) -> Result<(Member, u32, &'a [u8]), DescStop>
     requires room { room < 33 }
     requires seen { seen ≤ 4096 }
+    requires known { knows siblings.old (names_of before.now) }
     ensures value { Gives (λ x. (member_view x.0, x.1, x.2.now, laid base.now changed.new)) result (member_with order (node_at order room) seen (names_of before.now) (laid base.now changed.old) bytes.now) }
     ensures few { IfOk result (λ x. x.1 ≤ 4096) }
+    ensures known { IfOk result (λ x. knows siblings.new (names_of before.now ++ x.0.name ∷ [])) }
 {
-    let (name, rest) = name_at(alloc, order, bytes)?;
-    let fault = named(&name, before);
+    let (text, rest) = str_at(order, bytes)?;
+    let fault = named(text, before, siblings);
     let (shape, seen, rest) = node_at(alloc, order, base, changed, room, seen, fault, rest)?;
+    let name = Name::of(alloc, text)?;
     Ok((Member { name, shape }, seen, rest))
 }
 
@@ -415,7 +434,7 @@ fn alone_at<'a>(
 }
 
 /// How many bytes a node of a type counts for, in memory and in the time to test it.
-const NODE: u64 = 16;
+const NODE: u64 = 64;
 
 /// A description and what follows it; None is the null description. What it defines goes into
 /// `changed`, which hides the types of `base`. After a refusal `changed` may hold a part of that.

@@ -10,6 +10,7 @@ use crate::code::scalar_code;
 use pva_wire::{Order, write_size, write_text};
 use pvd_type::{Extent, Member, NoMemory, Node, PvType, Shape};
 
+/// Appends a code and the bound of a list or a text, which takes at most 2^31-2.
 fn put_sized(out: &mut Vec<u8>, order: Order, code: u8, size: u32) -> Result<(), NoMemory>
     ensures written { OnOk result (out.new.items ≡ out.old.items ++ (code ∷ canonical_size order size)) }
     ensures spelled { OnOk result (IsSize size) }
@@ -19,6 +20,7 @@ fn put_sized(out: &mut Vec<u8>, order: Order, code: u8, size: u32) -> Result<(),
     Ok(())
 }
 
+/// Appends how many members a node has.
 fn put_count(out: &mut Vec<u8>, order: Order, count: usize) -> Result<(), NoMemory>
     ensures written { OnOk result (out.new.items ≡ out.old.items ++ canonical_size order count) }
     ensures spelled { OnOk result (IsSize count) }
@@ -29,6 +31,7 @@ fn put_count(out: &mut Vec<u8>, order: Order, count: usize) -> Result<(), NoMemo
     write_size(out, order, size)
 }
 
+/// Appends the description of a node and of all below it. After a refusal a part of it may stand.
 #[cycle(put)]
 fn put(out: &mut Vec<u8>, order: Order, shape: &Shape) -> Result<(), NoMemory>
     ensures written { OnOk result (out.new.items ≡ out.old.items ++ written order (shape_view shape.now)) }
@@ -72,6 +75,7 @@ fn put(out: &mut Vec<u8>, order: Order, shape: &Shape) -> Result<(), NoMemory>
     Ok(())
 }
 
+/// Appends what stands in a node after its code: the id, the count of the members and each of them.
 #[cycle(put)]
 fn put_node(out: &mut Vec<u8>, order: Order, node: &Node) -> Result<(), NoMemory>
     ensures written { OnOk result (out.new.items ≡ out.old.items ++ (canonical_text order (node_view node.now).0 ++ (canonical_size order (count_fields (node_view node.now).1) ++ written_fields order (node_view node.now).1))) }
@@ -83,6 +87,7 @@ fn put_node(out: &mut Vec<u8>, order: Order, node: &Node) -> Result<(), NoMemory
     Ok(())
 }
 
+/// Appends the names and the descriptions of members, one after another.
 #[cycle(put)]
 fn put_members(out: &mut Vec<u8>, order: Order, members: &[Member]) -> Result<(), NoMemory>
     ensures written { OnOk result (out.new.items ≡ out.old.items ++ written_fields order (members_view members.now)) }

@@ -1,6 +1,8 @@
 use Rattle.std.proofs.Common.{◌≡◌, ◌∙◌, ◌<◌, ◌-◌, ◌+◌, ap, sym, rules, arith, List, ℕ, Ok}
 use Rattle.pvd_type.specs.Tree.{Fields}
 use Rattle.std.proofs.lemmas.Result.{err_from_is_err_and}
+use Rattle.std.proofs.lemmas.List.{map_push}
+use Rattle.pvd_type.specs.declared.shape.Member.{Member}
 use Rattle.pvd_type.specs.View.{shape_view}
 use Rattle.pvd_desc.specs.Types.{laid}
 use Rattle.pvd_desc.specs.Reading.{fields_below, node_at}
@@ -31,6 +33,7 @@ fields_at-loop-preserved t c =
     let next : c.args.count - c.loop.counter - 1 ≡ c.args.count - (c.loop.counter + 1) = omega arith in
     record {
       few = c.in_ok-member.ensures.few;
+      known = rw (c.in_ok-push.ensures.items, map_push (λ (x : Member). x.name) c.loop.members.items c.in_ok-member.member) (rw before at c.in_ok-member.ensures.known);
       same = rw (c.in_ok-push.ensures.items, ← next) (fields_goes c.args.order (node_at c.args.order c.args.room) c.loop.members.items c.loop.seen (laid c.args.base.now c.loop.changed) c.loop.rest.now (c.args.count - c.loop.counter) _
           c.in_ok-member.member c.in_ok-member.more c.in_ok-member.after.now (laid c.args.base.now c.member_at.new.changed) left member c.loop.invariant.same);
     }

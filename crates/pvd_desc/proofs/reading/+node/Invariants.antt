@@ -1,5 +1,6 @@
 use Rattle.std.proofs.Common.{◌≡◌, ◌-◌, ◌+◌, ◌*◌, ◌≤◌, []}
 use Rattle.pvd_type.specs.View.{names_of}
+use Rattle.pvd_type.specs.Siblings.{knows}
 use Rattle.pvd_desc.specs.Types.{laid}
 use Rattle.pvd_desc.specs.Reading.{fields_with, node_at}
 use Rattle.pvd_desc.proofs.Chains.{behind}
@@ -29,6 +30,7 @@ decreases-element_of f = 8 * f.room + 1
 abbrev pub invariant-fields_at-loop : goal.invariant-fields_at-loop
 invariant-fields_at-loop l = record {
   few : l.seen ≤ 4096;
+  known : knows l.siblings (names_of l.members.items);
   same :
       behind l.members.items (fields_with l.order (node_at l.order l.room) (names_of l.members.items) (l.count - l.counter) l.seen (laid l.base l.changed) l.rest)
       ≡ fields_with l.order (node_at l.order l.room) [] l.count l.fn.seen (laid l.base l.fn.changed) l.bytes;
