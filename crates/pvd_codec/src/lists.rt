@@ -62,6 +62,20 @@ fn extent_at(
     }
 }
 
+/// How many bytes of memory a text counts for in a list.
+const TEXT: u64 = 56;
+
+/// How many bytes of memory the texts of a list count for, its letters left out. Numbers take no more than their bytes.
+pub fn texts_room(order: Order, scalar: Scalar, extent: Extent, bytes: &[u8]) -> u64 {
+    match scalar {
+        Scalar::Text => match extent_at(order, extent, 1, bytes) {
+            Ok((count, _)) => TEXT * count as u64,
+            Err(_) => 0,
+        },
+        _ => 0,
+    }
+}
+
 /// So many booleans.
 fn bools_at(alloc: Global, count: u32, bytes: &[u8]) -> Result<(Vec<bool>, &[u8]), ValueStop>
     ensures { Gives (λ x. (x.0.items, x.1.now)) result (items_at bool_at count bytes.now) }
@@ -85,7 +99,7 @@ fn texts_at(
 ) -> Result<(Vec<Name>, &[u8]), ValueStop>
     ensures { Gives (λ x. (x.0.items, x.1.now)) result (items_at (λ b. lifted (text_at order b)) count bytes.now) }
 {
-    let mut items = Vec::new(alloc);
+    let mut items = Vec::with_capacity(alloc, count as usize)?;
     let mut rest = bytes;
     for _ in 0..count {
         let (item, after) = name_at(alloc, order, rest)?;

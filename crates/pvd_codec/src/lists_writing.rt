@@ -13,6 +13,7 @@ use pvd_type::NoMemory;
 trait Signed {
     ghost single: { Self → Single };
 
+    /// Reads the number, which tells its range.
     fn read(&self)
         ensures { CanSingle (single self.now) };
 }

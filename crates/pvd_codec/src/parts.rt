@@ -155,6 +155,7 @@ fn marked_at<'a>(
     }
 }
 
+/// The marked leaves of members, the first of which has this number, and the number that follows the last one.
 #[cycle(marked)]
 fn marked_row_at<'a>(
     alloc: Global,

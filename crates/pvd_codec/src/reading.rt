@@ -6,7 +6,7 @@ ghost use Rattle.pvd_desc.specs.Types.{laid};
 ghost use Rattle.pvd_codec.specs.Reading.{Gives, items_at, flagged, listed, value_at, row_at, union_at, element_with, element_at, variant_with, pair_view, parcel_at};
 
 use crate::fault::{ValueCause, ValueStop};
-use crate::lists::list_at;
+use crate::lists::{list_at, texts_room};
 use crate::scalars::{bool_at, bound_text_at, scalar_at};
 use pva_wire::{Order, counted_at, size_at};
 use pvd_desc::{Definitions, Registry, desc_at};
@@ -29,6 +29,9 @@ pub enum Element {
 
 /// How many bytes of memory a value counts for.
 const VALUE: u64 = 64;
+
+/// How many bytes of memory an element that may be null takes in its list.
+const SLOT: u64 = 8;
 
 /// A value of a shape. What its variants define goes into `changed`, which hides the types of `base`.
 /// After a refusal `changed` may hold a part of that. The value counts against the memory that the read
@@ -75,6 +78,7 @@ fn shaped_at<'a>(
             Ok((value, rest))
         }
         Shape::List(scalar, extent) => {
+            changed.spend(texts_room(order, *scalar, *extent, bytes))?;
             let (value, rest) = list_at(alloc, order, *scalar, *extent, bytes)?;
             Ok((value, rest))
         }
@@ -193,6 +197,7 @@ fn listed_at<'a>(
     ensures { Gives (λ x. (map (option_map boxed_view) x.0.items, (x.1.now, laid base.now changed.new))) result (listed order (element_with order (parcel_at left order) element (members_view members.now)) (bytes.now, laid base.now changed.old)) }
 {
     let (count, rest) = counted_at(order, 1, bytes)?;
+    changed.spend(SLOT * count as u64)?;
     let (values, rest) = elements_at(
         alloc, order, base, changed, element, members, left, count, rest,
     )?;
@@ -317,6 +322,7 @@ fn variants_at<'a>(
     ensures { Gives (λ x. (map (option_map parcel_view) x.0.items, (x.1.now, laid base.now changed.new))) result (listed order (parcel_at left order) (bytes.now, laid base.now changed.old)) }
 {
     let (count, rest) = counted_at(order, 1, bytes)?;
+    changed.spend(SLOT * count as u64)?;
     let (values, rest) = parcels_at(alloc, order, base, changed, left, count, rest)?;
     Ok((values, rest))
 }

@@ -5,3 +5,4 @@ pub mod Blanks
 pub mod SetItems
 pub mod Unmarked
 pub mod Differences
+pub mod Placing

@@ -15,7 +15,7 @@ use Rattle.pvd_value.proofs.Slots.{row_of_struct}
 abbrev pub Misses : (ℕ → Bool) → ℕ → ℕ → Type 0
 Misses mask n count = (k : ℕ) → n ≤ k → k < n + count → mask k ≡ false
 
-struct_whole : (left : ℕ) (v : Data) (id : List ℕ) (fs : Fields) → fits_of left v (node struct id fs) ≡ true → members (row_in v) ≡ v
+pub struct_whole : (left : ℕ) (v : Data) (id : List ℕ) (fs : Fields) → fits_of left v (node struct id fs) ≡ true → members (row_in v) ≡ v
 struct_whole left (members vs) id fs h = refl
 struct_whole left _ id fs h = absurd (false≢true h)
 
