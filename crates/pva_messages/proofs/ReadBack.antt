@@ -16,7 +16,7 @@ use Rattle.pva_messages.specs.Requests.{Request, PutPart, absent, unread, given,
 use Rattle.pva_messages.specs.Grammar.{OfRow}
 use Rattle.pva_messages.specs.Reading.{message_at, request_at}
 use Rattle.pva_messages.specs.Written.{canonical, canonical_field, CanField, FitsField, seen}
-use Rattle.pva_messages.specs.Laws.{RequestReadBack, left_unread}
+use Rattle.pva_messages.specs.Laws.{RequestReadBack, left_unread, left_over, given_part}
 use Rattle.pva_messages.proofs.Spelled.{RestLast, all_written}
 use Rattle.pva_messages.proofs.Messages.{message_again}
 
@@ -63,20 +63,18 @@ module _ (o : Order) (before : Types) (made : List Field → Request) (build : V
   put_fields p = word sid ∷ word req ∷ byte sub ∷ (begun sub v ++ part_field p)
 
   abbrev PutBack : PutPart → Type 0
-  PutBack p = (rest : List ℕ) × (message_at o (request (put_next None)) made (requests.skipped 0) (canonical o (put_fields p), before) ≡ Ok (build v (left_unread p), (rest, before)))
+  PutBack p = message_at o (request (put_next None)) made (requests.skipped 0) (canonical o (put_fields p), before) ≡ Ok (build v (left_unread p), (left_over o (given_part p), before))
 
   put_begun : begins sub ≡ true → CanEach FitsField (put_fields absent) → CanEach CanField (put_fields absent) → PutBack absent
-  put_begun e fits can = ([], request_written o made (requests.skipped 0) (put_next None) before sid req sub (valued v ∷ []) [] (put_fields absent) (build v absent) (rw e refl) (rw e refl) (tt, tt) (is (valued v ∷ [])) fits can)
+  put_begun e fits can = request_written o made (requests.skipped 0) (put_next None) before sid req sub (valued v ∷ []) [] (put_fields absent) (build v absent) (rw e refl) (rw e refl) (tt, tt) (is (valued v ∷ [])) fits can
 
   put_asks : begins sub ≡ false → asks_back sub ≡ true → v ≡ None → CanEach FitsField (put_fields absent) → CanEach CanField (put_fields absent) → PutBack absent
   put_asks e d none fits can =
-      ([], request_written o made (requests.skipped 0) (put_next None) before sid req sub [] [] (put_fields absent) (build v absent) (rw e refl) (rw (e, d) refl) tt (is [] ∙ rw (d, none) refl) fits can)
+      request_written o made (requests.skipped 0) (put_next None) before sid req sub [] [] (put_fields absent) (build v absent) (rw e refl) (rw (e, d) refl) tt (is [] ∙ rw (d, none) refl) fits can
 
   put_given : (p : PartData) → begins sub ≡ false → asks_back sub ≡ false → v ≡ None → CanEach FitsField (put_fields (given p)) → CanEach CanField (put_fields (given p)) → PutBack (given p)
-  put_given p e d none fits can = (
-    canonical o (part p ∷ []),
-    request_written o made (requests.skipped 0) (put_next None) before sid req sub [] (part p ∷ []) (put_fields (given p)) (build v (unread part_place)) (rw e refl) (rw (e, d) refl) tt (is [] ∙ rw (d, none) refl) fits can,
-  )
+  put_given p e d none fits can =
+      request_written o made (requests.skipped 0) (put_next None) before sid req sub [] (part p ∷ []) (put_fields (given p)) (build v (unread part_place)) (rw e refl) (rw (e, d) refl) tt (is [] ∙ rw (d, none) refl) fits can
 
   pub put_back : (b c : Bool) (p : PutPart) → begins sub ≡ b → asks_back sub ≡ c → OnlyWhere b v → PartWhere (cond b false (cond c false true)) p → CanEach FitsField (put_fields p) → CanEach CanField (put_fields p) → PutBack p
   put_back true c p e d only there fits can =
@@ -108,9 +106,9 @@ monitor_back o before sid req sub v n false false e d only there fits can =
 
 -- a message of one stage
 fixed_back : (o : Order) (before : Types) (items : List Item) (made : List Field → Request) (passed : Request) (fields : List Field) (m : Request) → map item_of (map seen fields) ≡ items → RestLast fields [] → made (map seen fields) ≡ m
-    → CanEach FitsField fields → CanEach CanField fields → (rest : List ℕ) × (message_at o (Some (always items ∷ [])) made passed (canonical o fields, before) ≡ Ok (m, (rest, before)))
+    → CanEach FitsField fields → CanEach CanField fields → message_at o (Some (always items ∷ [])) made passed (canonical o fields, before) ≡ Ok (m, ([], before))
 fixed_back o before items made passed fields m same end is fits can =
-    ([], written_is o (always items ∷ []) made passed before fields [] fields m (sym (append-nil fields)) (of_fixed items (map seen fields) same) end is fits can)
+    written_is o (always items ∷ []) made passed before fields [] fields m (sym (append-nil fields)) (of_fixed items (map seen fields) same) end is fits can
 
 pub request_back : RequestReadBack
 unfolding request_at command_of
@@ -123,12 +121,12 @@ request_back o before (requests.create cs) (send, fits, can) =
     fixed_back o before (item.channels ∷ []) (request_of command.CreateChannel) (requests.skipped 7) (request_fields (requests.create cs)) (requests.create cs) refl (tt, tt) refl fits can
 request_back o before (requests.destroy_channel sid cid) (send, fits, can) =
     fixed_back o before (item.word ∷ item.word ∷ []) (request_of command.DestroyChannel) (requests.skipped 8) (request_fields (requests.destroy_channel sid cid)) (requests.destroy_channel sid cid) refl (tt, (tt, tt)) refl fits can
-request_back o before (requests.get sid req sub v) (send, fits, can) = ([], get_back o before sid req sub v (begins sub) refl send fits can)
+request_back o before (requests.get sid req sub v) (send, fits, can) = get_back o before sid req sub v (begins sub) refl send fits can
 request_back o before (requests.put sid req sub v p) (send, fits, can) =
     put_back o before (request_of command.Put) (requests.put sid req sub) sid req sub v (λ fields. refl) (begins sub) (asks_back sub) p refl refl send.0 send.1 fits can
 request_back o before (requests.put_get sid req sub v p) (send, fits, can) =
     put_back o before (request_of command.PutGet) (requests.put_get sid req sub) sid req sub v (λ fields. refl) (begins sub) (asks_back sub) p refl refl send.0 send.1 fits can
-request_back o before (requests.monitor sid req sub v n) (send, fits, can) = ([], monitor_back o before sid req sub v n (begins sub) (counts sub) refl refl send.0 send.1 fits can)
+request_back o before (requests.monitor sid req sub v n) (send, fits, can) = monitor_back o before sid req sub v n (begins sub) (counts sub) refl refl send.0 send.1 fits can
 request_back o before (requests.destroy_request sid req) (send, fits, can) =
     fixed_back o before (item.word ∷ item.word ∷ []) (request_of command.DestroyRequest) (requests.skipped 15) (request_fields (requests.destroy_request sid req)) (requests.destroy_request sid req) refl (tt, (tt, tt)) refl fits can
 request_back o before (requests.cancel sid req) (send, fits, can) =

@@ -12,7 +12,8 @@ use Rattle.pva_messages.specs.declared.command.Command.{Command}
 use Rattle.pva_messages.specs.declared.command.Command.TheVariants as command
 use Rattle.pva_messages.specs.Items.{Item}
 use Rattle.pva_messages.specs.Items as item
-use Rattle.pva_messages.specs.Fields.{Field, Valued, byte, short, word, text, texts, channels, status, description, valued, last_valued, part, bits, rest}
+use Rattle.pva_messages.specs.Fields.{Field, Valued, byte, short, word, text, texts, channels, status, description}
+use Rattle.pva_messages.specs.Fields.{valued, last_valued, part, bits, rest}
 use Rattle.pva_messages.specs.Rows.{Stage, Row, command_of, to_server, to_client}
 use Rattle.pva_messages.specs.Requests as requests
 use Rattle.pva_messages.specs.Requests.{Request, request_of}
@@ -25,7 +26,8 @@ texts_at order bytes = lifted (count_at order bytes) >>= λ n. items_at (λ b. l
 
 -- a channel's id and name
 unfoldable pub channel_at : Order → List ℕ → Read (List ℕ) (ℕ × List ℕ)
-channel_at order bytes = lifted (number_at order 4 bytes) >>= λ id. lifted (text_at order id.1) >>= λ name. Ok ((id.0, name.0), name.1)
+channel_at order bytes =
+    lifted (number_at order 4 bytes) >>= λ id. lifted (text_at order id.1) >>= λ name. Ok ((id.0, name.0), name.1)
 
 unfoldable pub channels_at : Order → List ℕ → Read (List ℕ) (List (ℕ × List ℕ))
 channels_at order bytes = lifted (number_at order 2 bytes) >>= λ n. items_at (channel_at order) n.0 n.1
@@ -67,7 +69,8 @@ item_at order item.status st = plain status st (status_at order st.0)
 item_at order item.description st = says description (type_at order st)
 item_at order item.valued st = says valued (valued_at order st)
 item_at order item.last_valued st = says last_valued (last_valued_at order st)
-item_at order (item.part t) st = part_at order t st >>= λ p. Ok (part (record { ty = t; mask = p.0.0; value = p.0.1 }), p.1)
+item_at order (item.part t) st =
+    part_at order t st >>= λ p. Ok (part (record { ty = t; mask = p.0.0; value = p.0.1 }), p.1)
 item_at order item.bits st = plain bits st (bits_at order st.0)
 item_at order item.rest st = Ok (rest st.0, ([], st.1))
 
@@ -83,14 +86,15 @@ picked pick read = read >>= λ fields. Ok (pick fields.0, fields.1)
 -- the items of a row's stages, behind these fields
 unfoldable pub stages_at : Order → List Stage → List Field → State → Read State (List Field)
 stages_at order [] done st = Ok (done, st)
-stages_at order (stage ∷ stages) done st = all_at order (stage done) st >>= λ x. stages_at order stages (done ++ x.0) x.1
+stages_at order (stage ∷ stages) done st =
+    all_at order (stage done) st >>= λ x. stages_at order stages (done ++ x.0) x.1
 
 -- a message of a row; a command that has none is passed over
 abbrev pub message_at : {M : Type 0} → Order → Option Row → (List Field → M) → M → State → Read State M
 message_at order None made skipped st = Ok (skipped, st)
 message_at order (Some row) made skipped st = stages_at order row [] st >>= λ fields. Ok (made fields.0, fields.1)
 
--- the row of a message to the server, where the type of a part is known or isn't
+-- The row of a command; a byte that is no command has none.
 abbrev pub row_of : (Command → Option Row) → Option Command → Option Row
 row_of rows None = None
 row_of rows (Some c) = rows c
@@ -129,9 +133,11 @@ request_id order command bytes = if names_request (command_of command) then id_o
 -- A message to the server.
 unfoldable pub request_at : Order → Option Tree → ℕ → State → Read State Request
 request_at order known command st =
-    message_at order (row_of (to_server known) (command_of command)) (made_by request_of (requests.skipped command) (command_of command)) (requests.skipped command) st
+    message_at order (row_of (to_server known) (command_of command))
+    (made_by request_of (requests.skipped command) (command_of command)) (requests.skipped command) st
 
 -- A message to the client. Without the type that it is of, a part is left unread.
 unfoldable pub reply_at : Order → Option Tree → ℕ → State → Read State Reply
 reply_at order known command st =
-    message_at order (row_of (to_client known) (command_of command)) (made_by reply_of (replies.skipped command) (command_of command)) (replies.skipped command) st
+    message_at order (row_of (to_client known) (command_of command))
+    (made_by reply_of (replies.skipped command) (command_of command)) (replies.skipped command) st

@@ -1,4 +1,5 @@
--- What a server says, as plain data, and the fields of each message (pvAccess Protocol Specification, "Application Messages").
+-- What a server says, as plain data, and the fields of each message (pvAccess Protocol Specification, "Application
+-- Messages").
 use Rattle.std.specs.Prelude.{◌≡◌, ℕ, Bool, true, false, ◌&&◌, not, List, [], ◌∷◌, ◌++◌, Option, Some, None}
 use Rattle.std.specs.Ordering.{nat_cmp}
 use Rattle.std.specs.FinSet.{FinSet}
@@ -7,7 +8,8 @@ use Rattle.pvd_type.specs.Tree.{Tree}
 use Rattle.pva_messages.specs.declared.command.Command.{Command}
 use Rattle.pva_messages.specs.declared.command.Command.TheVariants as command
 use Rattle.pva_messages.specs.Subcommands.{begins, ends, asks_back, carries, OnlyWhere, ExactlyWhere}
-use Rattle.pva_messages.specs.Fields.{Field, Valued, PartData, byte, short, word, text, texts, status, description, valued, part, bits, rest}
+use Rattle.pva_messages.specs.Fields.{Field, Valued, PartData, byte, short, word, text, texts, status, description}
+use Rattle.pva_messages.specs.Fields.{valued, part, bits, rest}
 
 pub data Reply : Type 0 where
   -- buffer size, registry size, methods
@@ -79,7 +81,8 @@ reply_of command.DestroyChannel (word sid ∷ word cid ∷ fields) = channel_des
 reply_of command.Validated (status s ∷ fields) = validated s
 reply_of command.Get (word req ∷ byte sub ∷ status s ∷ fields) = get req sub s (type_in fields) (part_in fields)
 reply_of command.Put (word req ∷ byte sub ∷ status s ∷ fields) = put req sub s (type_in fields) (part_in fields)
-reply_of command.PutGet (word req ∷ byte sub ∷ status s ∷ fields) = put_get req sub s (type_in fields) (second_type_in fields) (part_in fields)
+reply_of command.PutGet (word req ∷ byte sub ∷ status s ∷ fields) =
+    put_get req sub s (type_in fields) (second_type_in fields) (part_in fields)
 reply_of command.Monitor (word req ∷ byte sub ∷ fields) = monitor_of (begins sub) (ends sub) req sub fields
 reply_of command.GetField (word req ∷ status s ∷ fields) = get_field req s (type_in fields)
 reply_of command.Message (word req ∷ byte kind ∷ text t ∷ fields) = message req kind t
@@ -110,9 +113,13 @@ reply_fields (echo xs) = rest xs ∷ []
 reply_fields (created cid sid s) = word cid ∷ word sid ∷ status s ∷ []
 reply_fields (channel_destroyed sid cid) = word sid ∷ word cid ∷ []
 reply_fields (validated s) = status s ∷ []
-reply_fields (get req sub s t p) = word req ∷ byte sub ∷ status s ∷ (type_field (carries s && begins sub) t ++ part_field p)
-reply_fields (put req sub s t p) = word req ∷ byte sub ∷ status s ∷ (type_field (carries s && begins sub) t ++ part_field p)
-reply_fields (put_get req sub s t u p) = word req ∷ byte sub ∷ status s ∷ (type_field (carries s && begins sub) t ++ type_field (carries s && begins sub) u ++ part_field p)
+reply_fields (get req sub s t p) =
+    word req ∷ byte sub ∷ status s ∷ (type_field (carries s && begins sub) t ++ part_field p)
+reply_fields (put req sub s t p) =
+    word req ∷ byte sub ∷ status s ∷ (type_field (carries s && begins sub) t ++ part_field p)
+reply_fields (put_get req sub s t u p) =
+    word req ∷ byte sub ∷ status s
+    ∷ (type_field (carries s && begins sub) t ++ type_field (carries s && begins sub) u ++ part_field p)
 reply_fields (monitor_begun req sub s t) = word req ∷ byte sub ∷ status s ∷ type_field (carries s) t
 reply_fields (monitor_update req sub u) = word req ∷ byte sub ∷ update_field u
 reply_fields (monitor_end req sub s) = word req ∷ byte sub ∷ status s ∷ []
@@ -142,9 +149,11 @@ reply_command (skipped c) = c
 -- The message says what its row has, and no more.
 abbrev pub CanReply : Reply → Type 0
 CanReply (get req sub s t p) = OnlyWhere (carries s && begins sub) t × ExactlyWhere (carries s && not (begins sub)) p
-CanReply (put req sub s t p) = OnlyWhere (carries s && begins sub) t × ExactlyWhere (carries s && (not (begins sub) && asks_back sub)) p
+CanReply (put req sub s t p) =
+    OnlyWhere (carries s && begins sub) t × ExactlyWhere (carries s && (not (begins sub) && asks_back sub)) p
 CanReply (put_get req sub s t u p) =
-    OnlyWhere (carries s && begins sub) t × OnlyWhere (carries s && begins sub) u × ExactlyWhere (carries s && not (begins sub)) p
+    OnlyWhere (carries s && begins sub) t × OnlyWhere (carries s && begins sub) u
+    × ExactlyWhere (carries s && not (begins sub)) p
 CanReply (monitor_begun req sub s t) = (begins sub ≡ true) × OnlyWhere (carries s) t
 CanReply (monitor_update req sub u) = (begins sub ≡ false) × (ends sub ≡ false) × ExactlyWhere true u
 CanReply (monitor_end req sub s) = (begins sub ≡ false) × (ends sub ≡ true)

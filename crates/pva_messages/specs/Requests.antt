@@ -1,9 +1,12 @@
--- What a client says, as plain data, and the items of each message (pvAccess Protocol Specification, "Application Messages").
-use Rattle.std.specs.Prelude.{◌≡◌, ℕ, ◌+◌, ◌≤◌, Bool, true, false, List, [], ◌∷◌, ◌++◌, length, Option, Some, None, if◌then◌else◌}
+-- What a client says, as plain data, and the items of each message (pvAccess Protocol Specification, "Application
+-- Messages").
+use Rattle.std.specs.Prelude.{◌≡◌, ℕ, ◌+◌, ◌≤◌, Bool, true, false, List, [], ◌∷◌, ◌++◌, length, Option, Some, None}
+use Rattle.std.specs.Prelude.{if◌then◌else◌}
 use Rattle.pva_messages.specs.declared.command.Command.{Command}
 use Rattle.pva_messages.specs.declared.command.Command.TheVariants as command
 use Rattle.pva_messages.specs.Subcommands.{begins, asks_back, counts, has_part, OnlyWhere, ExactlyWhere}
-use Rattle.pva_messages.specs.Fields.{Field, Valued, PartData, byte, short, word, text, channels, valued, last_valued, part, rest}
+use Rattle.pva_messages.specs.Fields.{Field, Valued, PartData, byte, short, word, text, channels, valued, last_valued}
+use Rattle.pva_messages.specs.Fields.{part, rest}
 
 -- The part of a put: there is none; it was left unread and begins at this place of the payload; or this.
 pub data PutPart : Type 0 where
@@ -62,14 +65,18 @@ monitor_in fields = (valued_in fields, count_in fields)
 
 -- the message that these fields are
 abbrev pub request_of : Command → List Field → Request
-request_of command.Validation (word buffer ∷ short registry ∷ short qos ∷ text method ∷ last_valued v ∷ fields) = validation buffer registry qos method v
+request_of command.Validation (word buffer ∷ short registry ∷ short qos ∷ text method ∷ last_valued v ∷ fields) =
+    validation buffer registry qos method v
 request_of command.Echo (rest xs ∷ fields) = echo xs
 request_of command.CreateChannel (channels cs ∷ fields) = create cs
 request_of command.DestroyChannel (word sid ∷ word cid ∷ fields) = destroy_channel sid cid
 request_of command.Get (word sid ∷ word req ∷ byte sub ∷ fields) = get sid req sub (valued_in fields)
-request_of command.Put (word sid ∷ word req ∷ byte sub ∷ fields) = put sid req sub (valued_in fields) (part_in sub fields)
-request_of command.PutGet (word sid ∷ word req ∷ byte sub ∷ fields) = put_get sid req sub (valued_in fields) (part_in sub fields)
-request_of command.Monitor (word sid ∷ word req ∷ byte sub ∷ fields) = monitor sid req sub (valued_in fields) (count_in fields)
+request_of command.Put (word sid ∷ word req ∷ byte sub ∷ fields) =
+    put sid req sub (valued_in fields) (part_in sub fields)
+request_of command.PutGet (word sid ∷ word req ∷ byte sub ∷ fields) =
+    put_get sid req sub (valued_in fields) (part_in sub fields)
+request_of command.Monitor (word sid ∷ word req ∷ byte sub ∷ fields) =
+    monitor sid req sub (valued_in fields) (count_in fields)
 request_of command.DestroyRequest (word sid ∷ word req ∷ fields) = destroy_request sid req
 request_of command.Cancel (word sid ∷ word req ∷ fields) = cancel sid req
 request_of command.GetField (word sid ∷ word req ∷ text path ∷ fields) = get_field sid req path
@@ -92,7 +99,8 @@ count_field (Some n) = word n ∷ []
 
 -- the fields of a message
 abbrev pub request_fields : Request → List Field
-request_fields (validation buffer registry qos method v) = word buffer ∷ short registry ∷ short qos ∷ text method ∷ last_valued v ∷ []
+request_fields (validation buffer registry qos method v) =
+    word buffer ∷ short registry ∷ short qos ∷ text method ∷ last_valued v ∷ []
 request_fields (echo xs) = rest xs ∷ []
 request_fields (create cs) = channels cs ∷ []
 request_fields (destroy_channel sid cid) = word sid ∷ word cid ∷ []

@@ -2,9 +2,12 @@
 use Rattle.std.specs.Prelude.{ℕ, ◌==◌, List, [], ◌∷◌, ◌++◌, Option, Some, None, if◌then◌else◌}
 use Rattle.pvd_type.specs.Tree.{Tree}
 use Rattle.pva_messages.specs.declared.command.Command.{Command}
-use Rattle.pva_messages.specs.declared.command.Command.TheVariants.{Validation, Echo, CreateChannel, DestroyChannel, Validated, Get, Put, PutGet, Monitor, DestroyRequest, GetField, Message, Rpc, Cancel}
+use Rattle.pva_messages.specs.declared.command.Command.TheVariants.{Validation, Echo, CreateChannel, DestroyChannel}
+use Rattle.pva_messages.specs.declared.command.Command.TheVariants.{Validated, Get, Put, PutGet, Monitor}
+use Rattle.pva_messages.specs.declared.command.Command.TheVariants.{DestroyRequest, GetField, Message, Rpc, Cancel}
 use Rattle.pva_messages.specs.Subcommands.{begins, ends, asks_back, counts, carries}
-use Rattle.pva_messages.specs.Items.{Item, byte, short, word, text, texts, channels, status, description, valued, last_valued, part, bits, rest}
+use Rattle.pva_messages.specs.Items.{Item, byte, short, word, text, texts, channels, status, description, valued}
+use Rattle.pva_messages.specs.Items.{last_valued, part, bits, rest}
 use Rattle.pva_messages.specs.Fields as field
 use Rattle.pva_messages.specs.Fields.{Field}
 
@@ -30,7 +33,8 @@ by_sub next fields = []
 abbrev pub request : (ℕ → List Item) → Option Row
 request next = Some (always (word ∷ word ∷ byte ∷ []) ∷ by_sub next ∷ [])
 
--- What follows the id, the subcommand and the status of a reply. A description, a part or a value stands there only where the status is OK or WARNING.
+-- What follows the id, the subcommand and the status of a reply. A description, a part or a value stands there only
+-- where the status is OK or WARNING.
 abbrev pub by_status : (ℕ → List Item) → Stage
 by_status next (field.word req ∷ field.byte sub ∷ field.status s ∷ fields) = if carries s then next sub else []
 by_status next fields = []
@@ -89,7 +93,8 @@ to_server known Message = fixed (word ∷ byte ∷ text ∷ [])
 to_server known Rpc = fixed (word ∷ word ∷ byte ∷ valued ∷ [])
 to_server known Cancel = fixed (word ∷ word ∷ [])
 
--- what follows the status of a reply: the type where the request is begun, else the part; two types of a put-get; the result of a call
+-- what follows the status of a reply: the type where the request is begun, else the part; two types of a put-get; the
+-- result of a call
 abbrev pub get_reply : Option Tree → ℕ → List Item
 get_reply known sub = if begins sub then description ∷ [] else parts known
 
@@ -111,7 +116,8 @@ updates None = []
 updates (Some t) = part t ∷ bits ∷ []
 
 abbrev pub monitor_next : Option Tree → Stage
-monitor_next known (field.word req ∷ field.byte sub ∷ fields) = if begins sub then status ∷ [] else if ends sub then status ∷ [] else updates known
+monitor_next known (field.word req ∷ field.byte sub ∷ fields) =
+    if begins sub then status ∷ [] else if ends sub then status ∷ [] else updates known
 monitor_next known fields = []
 
 abbrev pub field_next : Stage

@@ -5,7 +5,8 @@ use Rattle.pva_wire.specs.declared.status.StatusKind.{StatusKind}
 use Rattle.pva_wire.specs.declared.status.StatusKind.TheVariants.{Good, Warning, Error, Fatal}
 use Rattle.pvd_type.specs.Sets.{bit}
 
--- the bits of a subcommand: 08 begins a request, 10 ends it, 40 asks for a put's present value, 80 says that a count of updates follows
+-- the bits of a subcommand: 08 begins a request, 10 ends it, 40 asks for a put's present value, 80 says that a count of
+-- updates follows
 abbrev pub begins : ℕ → Bool
 begins sub = bit sub 3
 

@@ -39,13 +39,16 @@ update_view None = None
 update_view (Some u) = Some (part_data u.0, u.1)
 
 abbrev pub request_view : ToServer → Request
-request_view (to_server.Validation buffer registry qos method argument) = requests.validation buffer registry qos method (valued_view argument)
+request_view (to_server.Validation buffer registry qos method argument) =
+    requests.validation buffer registry qos method (valued_view argument)
 request_view (to_server.Echo bytes) = requests.echo bytes.items
 request_view (to_server.Create channels) = requests.create channels.items
 request_view (to_server.DestroyChannel sid cid) = requests.destroy_channel sid cid
 request_view (to_server.Get sid req sub request) = requests.get sid req sub (valued_view request)
-request_view (to_server.Put sid req sub request part) = requests.put sid req sub (valued_view request) (put_part_view part)
-request_view (to_server.PutGet sid req sub request part) = requests.put_get sid req sub (valued_view request) (put_part_view part)
+request_view (to_server.Put sid req sub request part) =
+    requests.put sid req sub (valued_view request) (put_part_view part)
+request_view (to_server.PutGet sid req sub request part) =
+    requests.put_get sid req sub (valued_view request) (put_part_view part)
 request_view (to_server.Monitor sid req sub request count) = requests.monitor sid req sub (valued_view request) count
 request_view (to_server.DestroyRequest sid req) = requests.destroy_request sid req
 request_view (to_server.Cancel sid req) = requests.cancel sid req
@@ -62,7 +65,8 @@ reply_view (to_client.ChannelDestroyed sid cid) = replies.channel_destroyed sid 
 reply_view (to_client.Validated status) = replies.validated status
 reply_view (to_client.Get req sub status ty part) = replies.get req sub status ty (part_view part)
 reply_view (to_client.Put req sub status ty part) = replies.put req sub status ty (part_view part)
-reply_view (to_client.PutGet req sub status put_ty get_ty part) = replies.put_get req sub status put_ty get_ty (part_view part)
+reply_view (to_client.PutGet req sub status put_ty get_ty part) =
+    replies.put_get req sub status put_ty get_ty (part_view part)
 reply_view (to_client.MonitorBegun req sub status ty) = replies.monitor_begun req sub status ty
 reply_view (to_client.MonitorUpdate req sub update) = replies.monitor_update req sub (update_view update)
 reply_view (to_client.MonitorEnd req sub status) = replies.monitor_end req sub status

@@ -12,7 +12,8 @@ use Rattle.pvd_value.specs.Blank.{blank_of}
 use Rattle.pvd_value.specs.Merge.{merged}
 use Rattle.pvd_desc.specs.Grammar.{CanDesc, canonical_desc}
 use Rattle.pvd_codec.specs.Written.{canonical_value, canonical_part, CanValue, CanMarked, CanEach, HoldsLeaves}
-use Rattle.pva_messages.specs.Fields.{Field, Valued, PartData, byte, short, word, text, texts, channels, status, description, valued, last_valued, part, bits, rest}
+use Rattle.pva_messages.specs.Fields.{Field, Valued, PartData, byte, short, word, text, texts, channels, status}
+use Rattle.pva_messages.specs.Fields.{description, valued, last_valued, part, bits, rest}
 
 abbrev pub canonical_channel : Order → ℕ × List ℕ → List ℕ
 canonical_channel order c = number_bytes order 4 c.0 ++ canonical_text order c.1

@@ -13,9 +13,13 @@ mod replies_writing;
 mod requests;
 mod requests_writing;
 mod subcommand;
+#[cfg(test)]
+mod tests;
 mod to_client;
 mod to_server;
 mod writing;
+#[cfg(test)]
+mod written_tests;
 
 pub use command::Command;
 pub use fault::MessageFault;
@@ -27,5 +31,6 @@ pub use reading::{
 };
 pub use replies_writing::write_to_client;
 pub use requests_writing::write_to_server;
+pub use subcommand::begins;
 pub use to_client::ToClient;
 pub use to_server::ToServer;

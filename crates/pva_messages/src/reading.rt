@@ -38,8 +38,9 @@ use std::alloc::Global;
 /// command is Skipped, and nothing of it is read. The part of a put is left unread, since its type is
 /// that of the request; its place is told.
 ///
-/// The first item from the left that can't be read is told, with its place in the payload. What
-/// descriptions define goes into the registry; after a refusal that is as before.
+/// A fault tells the command and the first item from the left that can't be read, with its place in the
+/// payload, or want of memory. What descriptions define goes into the registry; after a fault that is as
+/// before.
 pub fn read_to_server(
     alloc: Global,
     message: &Whole,
@@ -78,7 +79,8 @@ fn settled<M: Drop>(
     Ok(message)
 }
 
-/// `read_to_server` over a payload that stands in another buffer, with its order and its command.
+/// `read_to_server` over a payload that stands in another buffer, with its order and its command; it
+/// answers and fails in the same way.
 pub fn read_request(
     alloc: Global,
     order: Order,
@@ -103,7 +105,8 @@ pub fn read_request(
 
 /// Reads the part of a put, which `read_to_server` left unread at this place of the payload, under the
 /// type of the request (pvAccess Protocol Specification, "Channel put"): the set of its leaves, and a
-/// value whose other leaves are blank. Faults and the registry are as for `read_to_server`.
+/// value whose other leaves are blank. `part` is at most the length of the payload. Faults, whose places
+/// are counted from the start of the payload, and the registry are as for `read_to_server`.
 pub fn read_put_part(
     alloc: Global,
     message: &Whole,
@@ -128,7 +131,8 @@ pub fn read_put_part(
     )
 }
 
-/// `read_put_part` over a payload that stands in another buffer, with its order and its command.
+/// `read_put_part` over a payload that stands in another buffer, with its order and its command; it
+/// answers and fails in the same way.
 pub fn read_request_part(
     alloc: Global,
     order: Order,
@@ -174,8 +178,8 @@ fn read_part(
 }
 
 /// Reads what a server says (pvAccess Protocol Specification, "Application Messages"), as
-/// `read_to_server` does what a client says. `known` is the type of the request that the reply names;
-/// without it a part, and what follows it, is left unread and is None.
+/// `read_to_server` does what a client says, with the same faults. `known` is the type of the request
+/// that the reply names; without it a part, and what follows it, is left unread and is None.
 pub fn read_to_client(
     alloc: Global,
     message: &Whole,
@@ -196,7 +200,8 @@ pub fn read_to_client(
     )
 }
 
-/// `read_to_client` over a payload that stands in another buffer, with its order and its command.
+/// `read_to_client` over a payload that stands in another buffer, with its order and its command; it
+/// answers and fails in the same way.
 pub fn read_reply(
     alloc: Global,
     order: Order,
@@ -254,7 +259,8 @@ fn names_request(command: u8) -> bool
     }
 }
 
-/// `request_of` over a payload that stands in another buffer, with its order and its command.
+/// `request_of` over a payload that stands in another buffer, with its order and its command; it answers
+/// the same.
 pub fn request_in(order: Order, command: u8, payload: &[u8]) -> Option<u32>
     ensures { result ≡ request_id order command payload.now }
 {

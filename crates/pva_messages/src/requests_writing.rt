@@ -2,6 +2,7 @@ ghost use Rattle.std.specs.Prelude.{false, ◌≡◌, ◌<◌, ◌++◌, ◌∷�
 ghost use Rattle.pvd_codec.specs.Written.{CanEach};
 ghost use Rattle.pva_frames.specs.Spelling.{message_bytes};
 ghost use Rattle.pva_messages.specs.Fields as field;
+ghost use Rattle.pva_messages.specs.Requests as requests;
 ghost use Rattle.pva_messages.specs.Requests.{CanSend, begun, part_field, count_field, request_fields, request_command};
 ghost use Rattle.pva_messages.specs.Written.{canonical, CanField, FitsField};
 ghost use Rattle.pva_messages.specs.Laws.{IsWritable, request_payload};
@@ -92,57 +93,38 @@ fn put_request(out: &mut Vec<u8>, order: Order, message: &ToServer) -> Result<()
             req,
             sub,
             request,
-        } => {
-            put_request_head(out, order, *sid, *req, *sub)?;
-            put_begun(out, order, *sub, request)
-        }
+        } => put_get(out, order, *sid, *req, *sub, request),
         ToServer::Put {
             sid,
             req,
             sub,
             request,
             part,
-        } => {
-            put_request_head(out, order, *sid, *req, *sub)?;
-            put_put(out, order, *sub, request, part)
-        }
+        } => put_put(out, order, *sid, *req, *sub, request, part),
         ToServer::PutGet {
             sid,
             req,
             sub,
             request,
             part,
-        } => {
-            put_request_head(out, order, *sid, *req, *sub)?;
-            put_put(out, order, *sub, request, part)
-        }
+        } => put_put(out, order, *sid, *req, *sub, request, part),
         ToServer::Monitor {
             sid,
             req,
             sub,
             request,
             count,
-        } => {
-            put_request_head(out, order, *sid, *req, *sub)?;
-            put_begun(out, order, *sub, request)?;
-            put_count(out, order, *count)
-        }
+        } => put_monitor(out, order, *sid, *req, *sub, request, *count),
         ToServer::DestroyRequest { sid, req } => put_ids(out, order, *sid, *req),
         ToServer::Cancel { sid, req } => put_ids(out, order, *sid, *req),
-        ToServer::GetField { sid, req, path } => {
-            put_ids(out, order, *sid, *req)?;
-            write_text(out, order, path)
-        }
+        ToServer::GetField { sid, req, path } => put_get_field(out, order, *sid, *req, path),
         ToServer::Message { req, kind, text } => put_text_message(out, order, *req, *kind, text),
         ToServer::Rpc {
             sid,
             req,
             sub,
             argument,
-        } => {
-            put_request_head(out, order, *sid, *req, *sub)?;
-            put_valued(out, order, argument)
-        }
+        } => put_rpc(out, order, *sid, *req, *sub, argument),
         ToServer::Skipped(_) => Ok(()),
     }
 }
@@ -183,24 +165,103 @@ fn put_begun(
     put_valued(out, order, request)
 }
 
-/// Appends the request structure and the part of a put, where they are there.
+/// Appends a get.
+fn put_get(
+    out: &mut Vec<u8>,
+    order: Order,
+    sid: u32,
+    req: u32,
+    sub: u8,
+    request: &Option<(PvType, PvValue)>,
+) -> Result<(), NoMemory>
+    requires { CanEach FitsField (request_fields (requests.get sid req sub (valued_view request.now))) }
+    ensures written { OnOk result (out.new.items ≡ out.old.items ++ canonical order (request_fields (requests.get sid req sub (valued_view request.now)))) }
+    ensures can { OnOk result (CanEach CanField (request_fields (requests.get sid req sub (valued_view request.now)))) }
+{
+    put_request_head(out, order, sid, req, sub)?;
+    put_begun(out, order, sub, request)
+}
+
+/// Appends a put, or a put-get, whose items are the same.
 fn put_put(
     out: &mut Vec<u8>,
     order: Order,
+    sid: u32,
+    req: u32,
     sub: u8,
     request: &Option<(PvType, PvValue)>,
     part: &PutPart,
 ) -> Result<(), NoMemory>
-    requires request { CanEach FitsField (begun sub (valued_view request.now)) }
-    requires part { CanEach FitsField (part_field (put_part_view part.now)) }
-    ensures written { OnOk result (out.new.items ≡ out.old.items ++ canonical order (begun sub (valued_view request.now) ++ part_field (put_part_view part.now))) }
-    ensures can { OnOk result (CanEach CanField (begun sub (valued_view request.now) ++ part_field (put_part_view part.now))) }
+    requires { CanEach FitsField (request_fields (requests.put sid req sub (valued_view request.now) (put_part_view part.now))) }
+    ensures written { OnOk result (out.new.items ≡ out.old.items ++ canonical order (request_fields (requests.put sid req sub (valued_view request.now) (put_part_view part.now)))) }
+    ensures can { OnOk result (CanEach CanField (request_fields (requests.put sid req sub (valued_view request.now) (put_part_view part.now)))) }
 {
+    put_request_head(out, order, sid, req, sub)?;
     put_begun(out, order, sub, request)?;
+    put_given(out, order, part)
+}
+
+/// Appends the part of a put, where it is there.
+fn put_given(out: &mut Vec<u8>, order: Order, part: &PutPart) -> Result<(), NoMemory>
+    requires { CanEach FitsField (part_field (put_part_view part.now)) }
+    ensures written { OnOk result (out.new.items ≡ out.old.items ++ canonical order (part_field (put_part_view part.now))) }
+    ensures can { OnOk result (CanEach CanField (part_field (put_part_view part.now))) }
+{
     let PutPart::Given(part) = part else {
         return Ok(());
     };
     put_part(out, order, part)
+}
+
+/// Appends a message of a monitor.
+fn put_monitor(
+    out: &mut Vec<u8>,
+    order: Order,
+    sid: u32,
+    req: u32,
+    sub: u8,
+    request: &Option<(PvType, PvValue)>,
+    count: Option<u32>,
+) -> Result<(), NoMemory>
+    requires { CanEach FitsField (request_fields (requests.monitor sid req sub (valued_view request.now) count)) }
+    ensures written { OnOk result (out.new.items ≡ out.old.items ++ canonical order (request_fields (requests.monitor sid req sub (valued_view request.now) count))) }
+    ensures can { OnOk result (CanEach CanField (request_fields (requests.monitor sid req sub (valued_view request.now) count))) }
+{
+    put_request_head(out, order, sid, req, sub)?;
+    put_begun(out, order, sub, request)?;
+    put_count(out, order, count)
+}
+
+/// Appends a call of a service.
+fn put_rpc(
+    out: &mut Vec<u8>,
+    order: Order,
+    sid: u32,
+    req: u32,
+    sub: u8,
+    argument: &Option<(PvType, PvValue)>,
+) -> Result<(), NoMemory>
+    requires { CanEach FitsField (request_fields (requests.rpc sid req sub (valued_view argument.now))) }
+    ensures written { OnOk result (out.new.items ≡ out.old.items ++ canonical order (request_fields (requests.rpc sid req sub (valued_view argument.now)))) }
+    ensures can { OnOk result (CanEach CanField (request_fields (requests.rpc sid req sub (valued_view argument.now)))) }
+{
+    put_request_head(out, order, sid, req, sub)?;
+    put_valued(out, order, argument)
+}
+
+/// Appends a question for the type of a field.
+fn put_get_field(
+    out: &mut Vec<u8>,
+    order: Order,
+    sid: u32,
+    req: u32,
+    path: &Name,
+) -> Result<(), NoMemory>
+    ensures written { OnOk result (out.new.items ≡ out.old.items ++ canonical order (request_fields (requests.get_field sid req path.now))) }
+    ensures can { OnOk result (CanEach CanField (request_fields (requests.get_field sid req path.now))) }
+{
+    put_ids(out, order, sid, req)?;
+    write_text(out, order, path)
 }
 
 /// Appends a count of updates, where there is one.

@@ -12,8 +12,9 @@ fn has(sub: u8, place: u32) -> bool
     (sub >> place) & 1 == 1
 }
 
-/// Bit 08: a request is begun.
-pub(crate) fn begins(sub: u8) -> bool
+/// Whether the subcommand of a request, or of a reply to it, begins the request: its bit 08, whatever
+/// its other bits are (pvAccess Protocol Specification, "Application Messages").
+pub fn begins(sub: u8) -> bool
     ensures { result ≡ begins sub }
 {
     has(sub, 3)

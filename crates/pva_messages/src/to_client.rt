@@ -5,38 +5,41 @@ use pvd_value::PvValue;
 
 /// What a server says (pvAccess Protocol Specification, "Application Messages"). Channels are named by
 /// the id that the server gave them (sid) or by the client's own (cid), requests by the client's id
-/// (req). `sub` is the subcommand that the reply is to.
+/// (req); each id may be any number of 32 bits. `sub` is the subcommand that the reply is to, a set of
+/// bits, as in `ToServer`.
 ///
-/// A type, a part or a value is None where the message has none, which sub and status tell; a type also
-/// where its description is null, and a part where its type isn't known, so that it was left unread.
+/// A type, a part or a value is None where the message has none, which sub and status tell: it has one
+/// only where the status is OK or WARNING. A type is None also where its description is null, and a part
+/// where its type isn't known, so that it was left unread.
 #[derive(Drop)]
 pub enum ToClient {
-    /// 01: the sizes of the server's buffer and registry, and its methods of authentication.
+    /// 01 ("Connection validation"): the size in bytes of the server's buffer, the number of types that its
+    /// registry holds, and its methods of authentication.
     Validation {
         buffer: u32,
         registry: u16,
         methods: Vec<Name>,
     },
-    /// 02: the bytes that the client sent.
+    /// 02 ("Echo"): the bytes that the client sent.
     Echo {
         bytes: Vec<u8>,
     },
-    /// 07: a channel was found, or wasn't.
+    /// 07 ("Create channel"): a channel was found, or wasn't, which the status tells.
     Created {
         cid: u32,
         sid: u32,
         status: Status,
     },
-    /// 08: a channel was ended.
+    /// 08 ("Destroy channel"): a channel was ended.
     ChannelDestroyed {
         sid: u32,
         cid: u32,
     },
-    /// 09: the client's validation was taken, or wasn't.
+    /// 09 ("Connection validated"): the client's validation was taken, or wasn't, which the status tells.
     Validated {
         status: Status,
     },
-    /// 0A: a get was begun, with the channel's type, or its value came.
+    /// 0A ("Channel get"): a get was begun, with the channel's type, or its value came.
     Get {
         req: u32,
         sub: u8,
@@ -44,7 +47,8 @@ pub enum ToClient {
         ty: Option<PvType>,
         part: Option<Part>,
     },
-    /// 0B: a put was begun, with the channel's type, or was done; with bit 40 the present value came.
+    /// 0B ("Channel put"): a put was begun, with the channel's type, or was done; with bit 40 and without
+    /// 08 the present value came.
     Put {
         req: u32,
         sub: u8,
@@ -52,7 +56,7 @@ pub enum ToClient {
         ty: Option<PvType>,
         part: Option<Part>,
     },
-    /// 0C: a put-get was begun, with the types that are put and got, or its value came.
+    /// 0C ("Channel put-get"): a put-get was begun, with the types that are put and got, or its value came.
     PutGet {
         req: u32,
         sub: u8,
@@ -61,14 +65,14 @@ pub enum ToClient {
         get_ty: Option<PvType>,
         part: Option<Part>,
     },
-    /// 0D with bit 08: a monitor was begun, with the channel's type.
+    /// 0D with bit 08 ("Channel monitor"): a monitor was begun, with the channel's type.
     MonitorBegun {
         req: u32,
         sub: u8,
         status: Status,
         ty: Option<PvType>,
     },
-    /// 0D: what changed, and the leaves that did so more than once.
+    /// 0D without bits 08 and 10: what changed, and the leaves that did so more than once.
     MonitorUpdate {
         req: u32,
         sub: u8,
@@ -80,25 +84,25 @@ pub enum ToClient {
         sub: u8,
         status: Status,
     },
-    /// 11: the type of a field.
+    /// 11 ("Get field"): the type of a field.
     GetField {
         req: u32,
         status: Status,
         ty: Option<PvType>,
     },
-    /// 12: a text for people.
+    /// 12 ("Message"): a text for people about a request, and its kind, as in `ToServer`.
     Message {
         req: u32,
         kind: u8,
         text: Name,
     },
-    /// 14: a call was begun, or its result came.
+    /// 14 ("Channel RPC"): a call was begun, or its result came.
     Rpc {
         req: u32,
         sub: u8,
         status: Status,
         result: Option<(PvType, PvValue)>,
     },
-    /// A message of another command, which is not read.
+    /// A message of this other command, of which nothing is read. It can't be written.
     Skipped(u8),
 }

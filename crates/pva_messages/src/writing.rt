@@ -132,6 +132,7 @@ pub(crate) fn put_part(out: &mut Vec<u8>, order: Order, part: &Part) -> Result<(
     ensures written { OnOk result (out.new.items ≡ out.old.items ++ canonical_field order (field.part (part_data part.now))) }
     ensures can { OnOk result (CanField (field.part (part_data part.now))) }
 {
+    // that the part has a checked type is what the proof takes from this
     let _checked = part.ty.shape();
     write_part(out, order, &part.ty, &part.mask, &part.value)
 }
