@@ -1,7 +1,7 @@
 pub mod History
 pub mod Sites
-pub mod Naming
+pub mod Types
 pub mod Views
 pub mod Puts
 pub mod Marks
-pub mod Adding
+pub mod Calls

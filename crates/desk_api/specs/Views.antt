@@ -1,21 +1,29 @@
--- What a channel shows of the states of its records (Normative Types, NTScalar).
-use Rattle.std.specs.Prelude.{◌≡◌, List, [], ◌∷◌, pos}
-use Rattle.first_messages.specs.declared.value.PvValue.{PvValue}
-use Rattle.rec_kinds.specs.declared.datum.Datum.TheVariants.{Num}
+-- What a channel shows, as a function of the states of all records (Normative Types 1.0).
+use Rattle.std.specs.Prelude.{◌≡◌, ℕ, List, ◌∷◌, set, map, Option, Some, slice_get}
+use Rattle.pvd_value.specs.Blank.{blank_of}
+use Rattle.pvd_value.specs.Data.{Data}
+use Rattle.rec_kinds.specs.Configs.{Config}
 use Rattle.rec_kinds.specs.declared.state.RecState.{RecState}
+use Rattle.rec_fields.specs.Shown.{shown}
+use Rattle.desk_api.specs.Types.{type_shown}
 use Rattle.desk_api.specs.declared.channel.Channel.{Channel}
+use Rattle.desk_api.specs.declared.history.SiteData.{SiteData}
 
--- The value is a record's: its number, its alarm, and when it was last processed.
-pub record IsShown (s : RecState) (v : PvValue) : Type 0 where
-  pub number : s.datum ≡ Num v.value
-  pub severity : v.alarm.severity ≡ pos s.severity
-  pub status : v.alarm.status ≡ pos s.status
-  pub message : v.alarm.message ≡ s.message
-  pub seconds : v.time_stamp.seconds_past_epoch ≡ s.moment.0
-  pub nanoseconds : v.time_stamp.nanoseconds ≡ pos s.moment.1
-  pub tag : v.time_stamp.user_tag ≡ s.tag
+-- what a record shows, and a blank value where there is no such record or state
+abbrev pub shown_or_blank : Option Config → Option RecState → Data
+shown_or_blank (Some config) (Some state) = shown config state
+shown_or_blank config _ = blank_of (type_shown config)
 
--- The value is what the channel shows of these states of its records.
-abbrev pub IsView : Channel → List RecState → PvValue → Type 0
-IsView channel (state ∷ []) value = IsShown state value
-IsView channel _ value = ⊥
+-- What the channel shows where the records have these states.
+abbrev pub value_of : SiteData → Channel → List RecState → Data
+value_of site channel states =
+    shown_or_blank (slice_get site.configs channel.number) (slice_get states channel.number)
+
+-- The states of these records, in order, laid over others.
+abbrev pub laid : List RecState → List ℕ → List RecState → List RecState
+laid states (rec ∷ recs) (s ∷ found) = laid (set states rec s) recs found
+laid states _ _ = states
+
+-- The states are those of these records, in their order.
+abbrev pub AreStatesOf : List RecState → List ℕ → List RecState → Type 0
+AreStatesOf states recs found = map Some found ≡ map (λ rec. slice_get states rec) recs

@@ -1,16 +1,9 @@
-//! The committed history, as contracts see it. No value of these types is made.
-use journal_core::Entry;
+//! The committed history of a desk, as contracts see it. No value of these types is made.
 use rec_kinds::{RecConfig, RecState};
 use std::collections::LinkedList;
 
-/// What a seat does to the history.
-pub enum Deed {
-    /// It committed an entry.
-    Wrote(Entry),
-}
-
-/// The site that a history begins with. A record's number is its place in each of the lists.
-pub struct Base {
+/// The data of a site, which never change. A record's number is its place in each of the lists.
+pub struct SiteData {
     /// The names of its records, as bytes.
     pub names: LinkedList<LinkedList<u8>>,
     /// How these records are configured.
@@ -19,12 +12,13 @@ pub struct Base {
     pub opening: LinkedList<RecState>,
 }
 
-/// A history.
-pub struct Story {
-    /// The site that it begins with.
-    pub base: Base,
-    /// What its entries may weigh together.
+/// What a desk's history begins with.
+pub struct Base {
+    /// The site.
+    pub site: SiteData,
+    /// What the entries of the history may weigh together.
     pub limit: u64,
-    /// What the seats did, in order, each with the number of its seat.
-    pub deeds: LinkedList<(u64, Deed)>,
 }
+
+/// A beginning or an ending of a subscription. There is none so far.
+pub enum RollItem {}

@@ -1,28 +1,44 @@
 // Laws of the definitions. Each is the contract of a function that does nothing.
-ghost use Rattle.std.specs.Prelude.{◌≡◌, ℕ, ◌≤◌, List, [], ◌++◌, length, Some, IsTrue};
-ghost use Rattle.desk_api.specs.History.{Begins, entries, state_at, kept_at};
-ghost use Rattle.desk_api.specs.Marks.{Adds, AllHold};
+ghost use Rattle.std.specs.Prelude.{◌≡◌, ℕ, ◌≤◌, true, List, [], ◌++◌, length, Some, IsTrue};
+ghost use Rattle.histories.specs.History.{Begins};
+ghost use Rattle.journal_core.specs.Legality.{AreValid};
+ghost use Rattle.desk_api.specs.History.{History, entries, state_at, kept_at, IsLegal};
+ghost use Rattle.desk_api.specs.Marks.{AllHold, IsTrueRead};
+ghost use Rattle.desk_api.specs.Calls.{Adds};
 ghost use Rattle.desk_api.specs.Sites.{channel_named, is_channel};
+ghost use Rattle.desk_api.specs.Types.{type_of};
+ghost use Rattle.desk_api.specs.Views.{value_of, laid};
 ghost use Rattle.desk_api.specs.declared.channel.Channel.{Channel};
-ghost use Rattle.desk_api.specs.declared.history.Base.{Base};
-ghost use Rattle.desk_api.specs.declared.history.Story.{Story};
+ghost use Rattle.desk_api.specs.declared.history.SiteData.{SiteData};
 ghost use Rattle.desk_api.specs.declared.mark.Mark.{Mark};
 ghost use Rattle.desk_api.specs.declared.mark.Seat.{Seat};
+ghost use Rattle.pvd_value.specs.Fits.{fits_of};
+ghost use Rattle.rec_kinds.specs.declared.state.RecState.{RecState};
 
 /// What is found may be asked for: a name of a site stands for a channel of it.
 pub fn found_channels()
-    ensures { (base : Base) (name : List ℕ) (channel : Channel) → channel_named base name ≡ Some channel → IsTrue (is_channel base channel) }
+    ensures { (site : SiteData) (name : List ℕ) (channel : Channel) → channel_named site name ≡ Some channel → IsTrue (is_channel site channel) }
+{}
+
+/// Where each record is in a state that is valid for it, what a channel shows fits its type.
+pub fn values_fit()
+    ensures { (site : SiteData) (channel : Channel) (states : List RecState) → AreValid site.configs states → fits_of 16 (value_of site channel states) (type_of site channel) ≡ true }
+{}
+
+/// What a true read found, laid over the opening states, shows what the channel shows of all records at the read's place.
+pub fn gets_show_their_place()
+    ensures { (h : History) (at : ℕ) (channel : Channel) (footprint : List ℕ) (found : List RecState) → IsTrueRead h at channel footprint found → value_of h.base.site channel (laid h.base.site.opening footprint found) ≡ value_of h.base.site channel (state_at h at) }
 {}
 
 /// A desk that isn't called adds no mark, and calls one after another add their marks one after another.
 pub fn calls_in_turn()
-    ensures nothing { (s : Seat) → Adds s s [] }
+    ensures nothing { (s : Seat) → IsLegal s.seen → Adds s s [] }
     ensures more { (a b c : Seat) (xs ys : List Mark) → Adds a b xs → Adds b c ys → Adds a c (xs ++ ys) }
 {}
 
 /// As a history grows its states and their weights stay, and so does the truth of the marks.
 pub fn truth_lasts()
-    ensures states { (h k : Story) → Begins h k → (at : ℕ) → at ≤ length (entries h) → state_at k at ≡ state_at h at }
-    ensures weights { (h k : Story) → Begins h k → (at : ℕ) → at ≤ length (entries h) → kept_at k at ≡ kept_at h at }
-    ensures marks { (h k : Story) → Begins h k → (seat : ℕ) (before marks : List Mark) → AllHold seat h before marks → AllHold seat k before marks }
+    ensures states { (h k : History) → Begins h k → (at : ℕ) → at ≤ length (entries h) → state_at k at ≡ state_at h at }
+    ensures weights { (h k : History) → Begins h k → (at : ℕ) → at ≤ length (entries h) → kept_at k at ≡ kept_at h at }
+    ensures marks { (h k : History) → Begins h k → (seat : ℕ) (before marks : List Mark) → AllHold seat h before marks → AllHold seat k before marks }
 {}

@@ -10,16 +10,16 @@ mod put;
 mod site;
 #[cfg(test)]
 mod tests;
-mod view;
 
 pub use channel::{Channel, ChannelKind};
 pub use desk::Desk;
-pub use first_messages::{NoMemory, PvType, PvValue};
-pub use history::{Base, Deed, Story};
+pub use histories::{Deed, Story};
+pub use history::{Base, RollItem, SiteData};
 pub use journal_core::Entry;
-pub use laws::{calls_in_turn, found_channels, truth_lasts};
+pub use laws::{calls_in_turn, found_channels, gets_show_their_place, truth_lasts, values_fit};
 pub use mark::{Mark, Seat};
-pub use put::{Done, PutAnswer, action_of};
+pub use put::{Done, PutAnswer};
+pub use pvd_type::{NoMemory, PvType};
+pub use pvd_value::PvValue;
 pub use rec_kinds::{Moment, PutRefusal, RecState};
 pub use site::{Site, is_record_name};
-pub use view::value_of;

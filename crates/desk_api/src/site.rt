@@ -2,11 +2,12 @@
 ghost use Rattle.std.specs.Prelude.{◌≡◌, ◌<◌, ◌∷◌, [], IfOk, IsTrue, Some, length, option_map, slice_get};
 ghost use Rattle.journal_core.specs.Legality.{AreValid};
 ghost use Rattle.desk_api.specs.Sites as sites;
+ghost use Rattle.desk_api.specs.Types as types;
 
 use crate::channel::{Channel, ChannelKind};
-use first_messages::{NoMemory, PvType};
-use pvd_type::Name;
-use rec_kinds::{Kind, RecConfig, RecState};
+use pvd_type::{Name, NoMemory, PvType};
+use rec_fields::type_of;
+use rec_kinds::{RecConfig, RecState, longout};
 use std::alloc::Global;
 use std::marker::Model;
 
@@ -35,18 +36,20 @@ pub struct Site {
     name: Name,
     config: RecConfig,
     opening: RecState,
+    ty: PvType,
 }
 
 impl Model for Site {
-    ghost use Rattle.std.specs.Prelude.{◌∷◌, []};
+    ghost use Rattle.std.specs.Prelude.{◌≡◌, ◌∷◌, []};
     ghost use Rattle.rec_kinds.specs.Validity.{IsValid};
-    ghost use Rattle.desk_api.specs.declared.history.Base.{Base};
+    ghost use Rattle.rec_fields.specs.Types.{record_tree};
+    ghost use Rattle.desk_api.specs.declared.history.SiteData.{SiteData};
 
-    ghost Value = { Base };
+    ghost Value = { SiteData };
 
     ghost view = { λ s. record { names = s.name ∷ []; configs = s.config ∷ []; opening = s.opening ∷ [] } };
 
-    ghost invariant = { λ s. IsValid s.config s.opening };
+    ghost invariant = { λ s. IsValid s.config s.opening × (s.ty ≡ record_tree s.config) };
 }
 
 impl Site {
@@ -55,13 +58,14 @@ impl Site {
         requires { IsTrue (sites.is_record_name name.now) }
         ensures { IfOk result (λ s. s ≡ sites.single name.now value) }
     {
+        let name = Name::of(alloc, name)?;
+        let (config, opening) = longout(alloc, value)?;
+        let ty = type_of(alloc, &config)?;
         Ok(Site {
-            name: Name::of(alloc, name)?,
-            config: RecConfig {
-                kind: Kind::Longout,
-                disabled: false,
-            },
-            opening: RecState::opening(alloc, Some(value))?,
+            name,
+            config,
+            opening,
+            ty,
         })
     }
 
@@ -91,11 +95,20 @@ impl Site {
     /// The type of a channel's values.
     pub fn type_of(&self, channel: Channel) -> Option<&PvType>
         requires { IsTrue (sites.is_channel self.now channel) }
-        ensures { option_map (λ t. t.now) result ≡ Some (sites.type_of channel) }
+        ensures { option_map (λ t. t.now) result ≡ Some (types.type_of self.now channel) }
     {
         match channel.kind {
-            ChannelKind::Rec => Some(&PvType::NtScalarInt),
+            ChannelKind::Rec => Some(&self.ty),
         }
+    }
+
+    /// The name of a record, by its number.
+    pub fn name(&self, rec: usize) -> &str
+        requires { rec < length self.now.names }
+        ensures { slice_get self.now.names rec ≡ Some result.now }
+    {
+        let _ = rec;
+        self.name.as_str()
     }
 
     /// The configuration of a record, by its number.

@@ -1,1 +1,3 @@
-mod Soloing
+pub mod Cells
+pub mod Marking
+pub mod Soloing

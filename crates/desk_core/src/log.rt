@@ -1,9 +1,9 @@
 // A log that takes no bytes: the view of the only seat of a table with one word. Each mark is one load of that word.
 ghost use Rattle.std.specs.Prelude.{◌≡◌, [], ◌∷◌, IfOk};
-ghost use Rattle.desk_api.specs.Marks.{first_seat, with_mark};
-ghost use Rattle.desk_api.specs.Puts.{written_by};
+ghost use Rattle.desk_api.specs.Calls.{first_seat, with_mark};
 ghost use Rattle.desk_api.specs.Sites.{footprint_of};
 ghost use Rattle.desk_api.specs.declared.mark.Mark.TheVariants as marks;
+ghost use Rattle.desk_core.specs.Standing.{base_of};
 
 use atomic_table::{Play, Table, TableRule};
 use desk_api::{Channel, NoMemory, RecState, Seat, Site};
@@ -24,11 +24,12 @@ pub struct Terms {
 pub struct OneSeat;
 
 impl TableRule<(), Seat, Terms> for OneSeat {
-    ghost use Rattle.desk_api.specs.Marks.{first_seat};
+    ghost use Rattle.desk_api.specs.Calls.{first_seat};
+    ghost use Rattle.desk_core.specs.Standing.{base_of};
 
     ghost holds = { λ _ _. Unit {0} };
 
-    ghost first = { λ terms. first_seat terms.site terms.limit };
+    ghost first = { λ terms. first_seat (base_of terms) };
 }
 
 /// The mark that a step adds, as a function of its place. Each call picks it.
@@ -54,7 +55,7 @@ struct AddMark<B> {
 
 impl<B: Picks> Play<(), Seat> for AddMark<B> {
     ghost use Rattle.std.specs.Prelude.{◌≡◌};
-    ghost use Rattle.desk_api.specs.Marks.{with_mark};
+    ghost use Rattle.desk_api.specs.Calls.{with_mark};
 
     ghost then = { λ _ before _ after. after.0 ≡ with_mark before.0 B.mark };
 }
@@ -80,7 +81,7 @@ impl Model for Log {
 impl Log {
     /// The log of a desk on these terms before any call.
     pub(crate) fn new(alloc: Global, terms: &Terms) -> Result<Log, NoMemory>
-        ensures { IfOk result (λ log. log ≡ first_seat terms.now.site terms.now.limit) }
+        ensures { IfOk result (λ log. log ≡ first_seat (base_of terms.now)) }
     {
         match Table::of_words(alloc, &[0], terms) {
             Ok((table, seat)) => Ok(Log { table, seat }),
@@ -99,10 +100,10 @@ impl Log {
 
 // One helper for each kind of mark. Its arguments are the parts of the mark, from which the caller picks it.
 
-/// Notes that a get of the channel found its record in this state.
-pub(crate) fn note_read<B: Picks>(log: &mut Log, _channel: Channel, _state: &RecState)
-    requires { B.mark ≡ (λ at. marks.Read at _channel (footprint_of _channel) (_state.now ∷ [])) }
-    ensures { log.new ≡ with_mark log.old (λ at. marks.Read at _channel (footprint_of _channel) (_state.now ∷ [])) }
+/// Notes that a get of the channel of this site found its record in this state.
+pub(crate) fn note_read<B: Picks>(log: &mut Log, _site: &Site, _channel: Channel, _state: &RecState)
+    requires { B.mark ≡ (λ at. marks.Read at _channel (footprint_of _site.now _channel) (_state.now ∷ [])) }
+    ensures { log.new ≡ with_mark log.old (λ at. marks.Read at _channel (footprint_of _site.now _channel) (_state.now ∷ [])) }
 {
     log.add::<B>();
 }

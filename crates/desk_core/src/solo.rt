@@ -1,19 +1,19 @@
 // A desk that nobody shares.
-ghost use Rattle.std.specs.Prelude.{◌≡◌, ◌<◌, ◌≤◌, ◌++◌, drop, length, IfOk, IsTrue, OnOk};
-ghost use Rattle.desk_api.specs.Marks.{first_seat, Calls, AreGet, ArePut, OnMarked, EndsAtLastMark};
-ghost use Rattle.desk_api.specs.Sites.{is_channel};
-ghost use Rattle.desk_core.specs.Facts.{are_valid_prop};
-ghost use Rattle.desk_core.specs.Standing.{Stands};
+ghost use Rattle.std.specs.Prelude.{◌≡◌, ◌<◌, ◌≤◌, ◌^◌, ◌++◌, drop, length, slice_get, Some, IfOk, IsTrue, OnOk};
+ghost use Rattle.desk_api.specs.History.{IsLegal, commits};
+ghost use Rattle.desk_api.specs.Calls.{first_seat, Calls, OnMarked, EndsAtLastMark};
+ghost use Rattle.desk_core.specs.Standing.{Stands, answer_of, base_of};
+ghost use Rattle.journal_core.proofs.Facts.{are_legal_prop, are_valid_prop};
 ghost use Rattle.journal_core.specs.Legality.{AreValid};
+ghost use Rattle.rec_kinds.specs.Validity.{IsValid};
 
 use crate::draft::{Draft, draft_of};
 use crate::log::{Log, Terms, note_entered, note_overweight, note_read};
-use desk_api::{
-    Channel, Desk, Done, Moment, NoMemory, PutAnswer, PvType, PvValue, RecState, Site, action_of,
-    value_of,
-};
+use desk_api::{Channel, Desk, Done, Moment, NoMemory, PutAnswer, PvType, PvValue, RecState, Site};
 use journal_core::{History, weight};
 use pvd_type::BitSet;
+use rec_fields::{FieldAnswer, action_of, view};
+use rec_kinds::RecConfig;
 use std::alloc::Global;
 use std::marker::Brand;
 
@@ -27,7 +27,9 @@ pub struct SoloDesk {
     /// Its seat, which takes no bytes: the history and the marks of its calls.
     pub log: Log,
     /// The history is the one that the desk keeps, the cells are its last states, and every entry is the desk's own.
-    pub ghost stands: { Stands terms.site terms.limit cells.items history log },
+    pub ghost stands: { Stands (base_of terms) cells.items history log },
+    /// The history is legal.
+    ghost legal: { IsLegal log.seen } by { are_legal_prop log.seen.base.site.configs log.seen.base.site.opening (commits log.seen) },
     /// Each record is in a state that is valid for it.
     ghost valid: { AreValid terms.site.configs cells.items } by { are_valid_prop terms.site.configs cells.items },
 }
@@ -44,11 +46,47 @@ fn opening_of(alloc: Global, site: &Site) -> Result<Vec<RecState>, NoMemory>
     Ok(states)
 }
 
+/// How a record is configured, and its present state, by its number.
+fn record_at<'a>(
+    site: &'a Site,
+    cells: &'a Vec<RecState>,
+    rec: usize,
+) -> (&'a RecConfig, &'a RecState)
+    requires within { rec < length site.now.names }
+    requires valid { AreValid site.now.configs cells.now.items }
+    ensures configured { slice_get site.now.configs rec ≡ Some result.0.now }
+    ensures found { slice_get cells.now.items rec ≡ Some result.1.now }
+    ensures valid { IsValid result.0.now result.1.now }
+    ensures few { result.0.now.nelm < 2 ^ 32 }
+{
+    let config = site.config(rec);
+    has_few_elements(config);
+    let state = &cells[rec];
+    (config, state)
+}
+
+/// Nothing is done. It tells that the record's field NELM is a number of 32 bits.
+fn has_few_elements(config: &RecConfig)
+    ensures { config.now.nelm < 2 ^ 32 }
+{
+    let _ = config.nelm();
+}
+
+/// Why a put isn't done that gives no action.
+fn not_done(answer: FieldAnswer) -> PutAnswer
+    ensures { result ≡ answer_of answer }
+{
+    match answer {
+        FieldAnswer::Refused(refusal) => PutAnswer::Refused(refusal),
+        FieldAnswer::NoMemory => PutAnswer::NoMemory { done: 0 },
+    }
+}
+
 impl SoloDesk {
     /// A desk of this site, whose entries may weigh no more than the limit together. Its history is the site's opening states
     /// with no entry, and its log is empty.
     pub fn new(alloc: Global, site: Site, limit: u64) -> Result<SoloDesk, NoMemory>
-        ensures { IfOk result (λ desk. desk.log ≡ first_seat site limit) }
+        ensures { IfOk result (λ desk. desk.log ≡ first_seat (record { site = site; limit = limit })) }
     {
         let cells = opening_of(alloc, &site)?;
         let history = History::new(alloc, opening_of(alloc, &site)?);
@@ -80,6 +118,7 @@ impl SoloDesk {
         requires weight { weight_of draft.entry < 2 ^ 64 }
         ensures calls { Calls self.old.log self.new.log (AreEntered draft.entry result) }
         ensures ends { OnMarked result (EndsAtLastMark self.new.log) }
+        ensures base { self.new.log.seen.base ≡ self.old.log.seen.base }
     {
         let kept = self.history.kept();
         let added = weight(&draft.entry);
@@ -107,6 +146,8 @@ impl SoloDesk {
 impl Desk for SoloDesk {
     ghost seat = { λ desk. desk.log };
 
+    fn has_legal_history(&self) {}
+
     fn find(&self, name: &str) -> Option<Channel> {
         self.terms.site.find(name)
     }
@@ -117,10 +158,9 @@ impl Desk for SoloDesk {
 
     fn get(&mut self, alloc: Global, channel: Channel) -> Result<PvValue, NoMemory> {
         let rec = channel.number as usize;
-        let config = self.terms.site.config(rec);
-        let state = &self.cells[rec];
-        let value = value_of(alloc, config, state)?;
-        note_read::<Brand>(&mut self.log, channel, state);
+        let (config, state) = record_at(&self.terms.site, &self.cells, rec);
+        let value = view(alloc, config, state)?;
+        note_read::<Brand>(&mut self.log, &self.terms.site, channel, state);
         Ok(value)
     }
 
@@ -133,19 +173,12 @@ impl Desk for SoloDesk {
         moment: Moment,
     ) -> Result<Done, PutAnswer> {
         let rec = channel.number as usize;
-        let config = self.terms.site.config(rec);
-        let action = match action_of(config, mask, value) {
+        let (config, state) = record_at(&self.terms.site, &self.cells, rec);
+        let action = match action_of(alloc, config, value, mask) {
             Ok(action) => action,
-            Err(refusal) => return Err(PutAnswer::Refused(refusal)),
+            Err(answer) => return Err(not_done(answer)),
         };
-        let Ok(draft) = draft_of(
-            alloc,
-            channel.number,
-            config,
-            &self.cells[rec],
-            action,
-            moment,
-        ) else {
+        let Ok(draft) = draft_of(alloc, channel.number, config, state, action, moment) else {
             return Err(PutAnswer::NoMemory { done: 0 });
         };
         self.enter(rec, draft)

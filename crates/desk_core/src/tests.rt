@@ -1,10 +1,16 @@
-ghost use Rattle.std.specs.Prelude.{◌<◌, IsTrue};
+ghost use Rattle.std.specs.Prelude.{◌≡◌, IfOk, IsTrue, true};
 ghost use Rattle.desk_api.specs.Sites.{is_channel};
+ghost use Rattle.desk_api.specs.Types.{type_of, HoldsLeaves};
+ghost use Rattle.nt_types.specs.Types.{scalar_tree};
+ghost use Rattle.pvd_type.specs.declared.shape.Scalar.TheVariants.{I32};
+ghost use Rattle.pvd_value.specs.Fits.{fits_of};
+ghost use Rattle.pvd_value.specs.View.{view};
 
-use crate::{Channel, Desk, Done, Moment, PutAnswer, PvType, PvValue, Site, SoloDesk};
+use crate::{Channel, Desk, Done, Moment, PutAnswer, PvValue, Site, SoloDesk};
 use desk_api::{ChannelKind, PutRefusal};
-use first_messages::{Alarm, TimeStamp};
-use pvd_type::{BitSet, Name};
+use pvd_type::{BitSet, NoMemory};
+use rec_fields::view;
+use rec_kinds::longout;
 use std::alloc::Global;
 use std::test::Fail;
 
@@ -13,93 +19,122 @@ const RECORD: Channel = Channel {
     number: 0,
 };
 
-/// A value with this number, no alarm and the moment 0.
-fn value_with(alloc: Global, number: i32) -> Result<PvValue, Fail> {
-    Ok(PvValue {
-        value: number,
-        alarm: Alarm {
-            severity: 0,
-            status: 0,
-            message: Name::of(alloc, "")?,
-        },
-        time_stamp: TimeStamp {
-            seconds_past_epoch: 0,
-            nanoseconds: 0,
-            user_tag: 0,
-        },
-    })
+/// Drops what it is given.
+fn discard<T: Drop>(_value: T) {}
+
+/// A value with this number.
+fn value_with(alloc: Global, number: i32) -> Result<PvValue, NoMemory>
+    ensures { IfOk result (λ v. fits_of 16 (view v) (scalar_tree I32) ≡ true) }
+{
+    let (config, state) = longout(alloc, number)?;
+    let value = view(alloc, &config, &state);
+    discard(config);
+    discard(state);
+    value
 }
 
-/// Puts a number with this leaf marked, at 100 seconds and 5 nanoseconds.
+/// No leaf.
+fn no_leaf(alloc: Global) -> BitSet
+    ensures { HoldsLeaves (scalar_tree I32) result }
+{
+    BitSet::new(alloc)
+}
+
+/// All leaves of the record's type.
+fn every_leaf<D: Desk>(alloc: Global, desk: &D) -> Result<BitSet, NoMemory>
+    requires channel { IsTrue (is_channel (D.seat desk.now).seen.base.site RECORD) }
+    requires kind { type_of (D.seat desk.now).seen.base.site RECORD ≡ scalar_tree I32 }
+    ensures { IfOk result (HoldsLeaves (scalar_tree I32)) }
+{
+    match desk.type_of(RECORD) {
+        Some(ty) => ty.leaves(alloc),
+        None => Err(NoMemory),
+    }
+}
+
+/// Puts a number with these leaves marked, at 100 seconds and 5 nanoseconds.
 fn put<D: Desk>(
     alloc: Global,
     desk: &mut D,
-    leaf: u32,
+    mask: &BitSet,
     number: i32,
-) -> Result<Result<Done, PutAnswer>, Fail>
-    requires leaf { leaf < 65536 }
-    requires channel { IsTrue (is_channel (D.seat desk.old).seen.base RECORD) }
-    ensures { IsTrue (is_channel (D.seat desk.new).seen.base RECORD) }
+) -> Result<Result<Done, PutAnswer>, NoMemory>
+    requires channel { IsTrue (is_channel (D.seat desk.old).seen.base.site RECORD) }
+    requires kind { type_of (D.seat desk.old).seen.base.site RECORD ≡ scalar_tree I32 }
+    requires leaves { HoldsLeaves (scalar_tree I32) mask.now }
+    ensures { (D.seat desk.new).seen.base ≡ (D.seat desk.old).seen.base }
 {
-    let mut mask = BitSet::new(alloc);
-    mask.insert(leaf)?;
-    let value = value_with(alloc, number)?;
-    Ok(desk.put(alloc, RECORD, &mask, &value, Moment::new(100, 5)))
+    match value_with(alloc, number) {
+        Ok(value) => {
+            let answer = desk.put(alloc, RECORD, mask, &value, Moment::new(100, 5));
+            discard(value);
+            Ok(answer)
+        }
+        Err(no_memory) => Err(no_memory),
+    }
 }
 
-/// The number that the record's channel shows, and the seconds of its moment.
-fn got<D: Desk>(alloc: Global, desk: &mut D) -> Result<(i32, i64), Fail>
-    requires { IsTrue (is_channel (D.seat desk.old).seen.base RECORD) }
-    ensures { IsTrue (is_channel (D.seat desk.new).seen.base RECORD) }
+/// The number that the record's channel shows.
+fn got<D: Desk>(alloc: Global, desk: &mut D) -> Result<Option<i32>, NoMemory>
+    requires { IsTrue (is_channel (D.seat desk.old).seen.base.site RECORD) }
+    ensures { (D.seat desk.new).seen.base ≡ (D.seat desk.old).seen.base }
 {
-    let value = desk.get(alloc, RECORD)?;
-    Ok((value.value, value.time_stamp.seconds_past_epoch))
+    match desk.get(alloc, RECORD) {
+        Ok(value) => {
+            let number = first_number(&value);
+            discard(value);
+            Ok(number)
+        }
+        Err(no_memory) => Err(no_memory),
+    }
+}
+
+/// The int that is the first member of a value.
+fn first_number(value: &PvValue) -> Option<i32> {
+    match value.members().get(0) {
+        Some(PvValue::I32(number)) => Some(*number),
+        _ => None,
+    }
+}
+
+/// What puts of 6 with no leaf marked and of 7, 8 and 9 with all marked answer, and what is shown after them.
+fn puts<D: Desk>(
+    alloc: Global,
+    desk: &mut D,
+) -> Result<([Result<Done, PutAnswer>; 4], Option<i32>), NoMemory>
+    requires channel { IsTrue (is_channel (D.seat desk.old).seen.base.site RECORD) }
+    requires kind { type_of (D.seat desk.old).seen.base.site RECORD ≡ scalar_tree I32 }
+{
+    let none = no_leaf(alloc);
+    let all = every_leaf(alloc, desk)?;
+    let refused = put(alloc, desk, &none, 6)?;
+    let first = put(alloc, desk, &all, 7)?;
+    let second = put(alloc, desk, &all, 8)?;
+    let third = put(alloc, desk, &all, 9)?;
+    Ok(([refused, first, second, third], got(alloc, desk)?))
 }
 
 #[test]
-fn a_desk_of_one_record_finds_it_and_gets_its_value_each_time(rt: HostRuntime) -> Result<(), Fail> {
-    let mut desk = SoloDesk::new(rt.alloc(), Site::single(rt.alloc(), "X", 42)?, 200)?;
-    assert_eq!(rt; desk.find("X"), Some(RECORD));
-    assert_eq!(rt; desk.find("Y"), None);
-    assert_eq!(rt; desk.type_of(RECORD), Some(&PvType::NtScalarInt));
-    assert_eq!(rt; got(rt.alloc(), &mut desk)?, (42, 0));
-    assert_eq!(rt; got(rt.alloc(), &mut desk)?, (42, 0));
-    Ok(())
-}
-
-#[test]
-fn a_second_put_is_refused_where_the_history_would_be_above_its_limit(
+fn a_desk_of_one_record_shows_it_and_takes_puts_up_to_its_limit(
     rt: HostRuntime,
 ) -> Result<(), Fail> {
-    let mut desk = SoloDesk::new(rt.alloc(), Site::single(rt.alloc(), "X", 42)?, 200)?;
-    let refused = put(rt.alloc(), &mut desk, 3, 7)?;
-    assert_eq!(rt;
-        refused,
-        Err(PutAnswer::Refused(PutRefusal::NothingWritable))
-    );
-    assert_eq!(rt; got(rt.alloc(), &mut desk)?, (42, 0));
-    let first = put(rt.alloc(), &mut desk, 1, 7)?;
-    assert_eq!(rt; first, Ok(Done { first: 0, count: 1 }));
-    assert_eq!(rt; got(rt.alloc(), &mut desk)?, (7, 100));
-    let second = put(rt.alloc(), &mut desk, 1, 8)?;
+    let mut desk = SoloDesk::new(rt.alloc(), Site::single(rt.alloc(), "X", 42)?, 272)?;
+    desk.has_legal_history();
+    let found = [desk.find("X"), desk.find("Y")];
+    let shown = got(rt.alloc(), &mut desk)?;
+    let (answers, last) = puts(rt.alloc(), &mut desk)?;
+    discard(desk);
+    assert_eq!(rt; found, [Some(RECORD), None]);
+    assert_eq!(rt; (shown, last), (Some(42), Some(8)));
+    let nothing = PutAnswer::Refused(PutRefusal::NothingWritable);
     let full = PutAnswer::JournalFull {
-        kept: 136,
+        kept: 272,
         entry: 136,
-        limit: 200,
+        limit: 272,
         done: 0,
     };
-    assert_eq!(rt; second, Err(full));
-    assert_eq!(rt; got(rt.alloc(), &mut desk)?, (7, 100));
-    Ok(())
-}
-
-#[test]
-fn entries_fill_the_history_up_to_its_limit(rt: HostRuntime) -> Result<(), Fail> {
-    let mut desk = SoloDesk::new(rt.alloc(), Site::single(rt.alloc(), "X", 42)?, 272)?;
-    assert!(rt; put(rt.alloc(), &mut desk, 1, 7)?.is_ok());
-    let second = put(rt.alloc(), &mut desk, 1, 8)?;
-    assert_eq!(rt; second, Ok(Done { first: 1, count: 1 }));
-    assert!(rt; put(rt.alloc(), &mut desk, 1, 9)?.is_err());
-    assert_eq!(rt; got(rt.alloc(), &mut desk)?, (8, 100));
+    let first = Done { first: 0, count: 1 };
+    let second = Done { first: 1, count: 1 };
+    assert_eq!(rt; answers, [Err(nothing), Ok(first), Ok(second), Err(full)]);
     Ok(())
 }

@@ -1,1 +1,4 @@
+pub mod Growing
+pub mod Keeping
+pub mod Facts
 pub mod Singles

@@ -1,5 +1,4 @@
+pub mod Moments
 pub mod Weights
 pub mod Histories
 pub mod Legality
-pub mod Growing
-pub mod Keeping

@@ -3,7 +3,7 @@ ghost use Rattle.std.specs.Prelude.{◌≡◌, ◌<◌, ◌≤◌, ◌+◌, ◌^
 ghost use Rattle.journal_core.specs.Weights.{weight as weight_of};
 ghost use Rattle.journal_core.specs.Histories.{state_at, kept as kept_by, WritesWithin};
 ghost use Rattle.journal_core.specs.Legality.{IsLegalEntry, IsLegal};
-ghost use Rattle.rec_kinds.specs.declared.config.RecConfig.{RecConfig};
+ghost use Rattle.rec_kinds.specs.Configs.{Config};
 
 use crate::entry::{Entry, weight};
 use crate::replay::{copy_of, replay};
@@ -78,7 +78,7 @@ impl History {
         ensures opening { self.new.opening ≡ self.old.opening }
         ensures entries { self.new.entries ≡ self.old.entries ++ entry ∷ [] }
         ensures room { self.new.room + 1 ≡ self.old.room }
-        ensures legal { (configs : List RecConfig) → IsLegal configs self.old.opening self.old.entries → IsLegalEntry configs (state_at self.old.opening self.old.entries (length self.old.entries)) entry → IsLegal configs self.new.opening self.new.entries }
+        ensures legal { (configs : List Config) → IsLegal configs self.old.opening self.old.entries → IsLegalEntry configs (state_at self.old.opening self.old.entries (length self.old.entries)) entry → IsLegal configs self.new.opening self.new.entries }
     {
         self.kept += weight(&entry);
         self.entries.push_reserved(entry);

@@ -1,6 +1,6 @@
 // Laws of the definitions. Each is the contract of a function that does nothing.
-ghost use Rattle.std.specs.Prelude.{◌≡◌, ℕ, ◌+◌, ◌≤◌, List, [], ◌∷◌, ◌++◌, length};
-ghost use Rattle.rec_kinds.specs.declared.config.RecConfig.{RecConfig};
+ghost use Rattle.std.specs.Prelude.{◌≡◌, ◌↔◌, ℕ, ◌+◌, ◌≤◌, List, [], ◌∷◌, ◌++◌, length, Some, slice_get};
+ghost use Rattle.rec_kinds.specs.Configs.{Config};
 ghost use Rattle.rec_kinds.specs.declared.state.RecState.{RecState};
 ghost use Rattle.journal_core.specs.declared.entry.Entry.{Entry};
 ghost use Rattle.journal_core.specs.Histories.{written, state_at, kept};
@@ -15,6 +15,11 @@ pub fn histories_grow()
 
 /// A legal entry leaves the states valid, and so a legal history that opens with valid states has valid states everywhere.
 pub fn states_stay_valid()
-    ensures entry { (configs : List RecConfig) (states : List RecState) (entry : Entry) → IsLegalEntry configs states entry → AreValid configs (written states entry.writes) }
-    ensures history { (configs : List RecConfig) (opening : List RecState) (entries : List Entry) → AreValid configs opening → IsLegal configs opening entries → (n : ℕ) → n ≤ length entries → AreValid configs (state_at opening entries n) }
+    ensures entry { (configs : List Config) (states : List RecState) (entry : Entry) → IsLegalEntry configs states entry → AreValid configs (written states entry.writes) }
+    ensures history { (configs : List Config) (opening : List RecState) (entries : List Entry) → AreValid configs opening → IsLegal configs opening entries → (n : ℕ) → n ≤ length entries → AreValid configs (state_at opening entries n) }
+{}
+
+/// A history is legal exactly where each of its entries is legal after the states at its own place.
+pub fn legal_at_each_place()
+    ensures { (configs : List Config) (opening : List RecState) (entries : List Entry) → IsLegal configs opening entries ↔ ((n : ℕ) (entry : Entry) → slice_get entries n ≡ Some entry → IsLegalEntry configs (state_at opening entries n) entry) }
 {}

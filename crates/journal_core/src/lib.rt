@@ -11,5 +11,5 @@ mod tests;
 
 pub use entry::{Entry, weight};
 pub use history::History;
-pub use laws::{histories_grow, states_stay_valid};
+pub use laws::{histories_grow, legal_at_each_place, states_stay_valid};
 pub use rec_kinds::{Action, Datum, Items, Moment, NoMemory, RecState};

@@ -5,14 +5,9 @@ ghost use Rattle.journal_core.specs.Weights.{payload, weight as weight_of};
 
 use crate::{Action, Datum, Entry, History, Items, Moment, RecState, weight};
 use pvd_type::Name;
-use rec_kinds::{Kind, RecConfig, process};
+use rec_kinds::{SharedItems, SharedText, longout, process};
 use std::alloc::Global;
 use std::test::Fail;
-
-const LONGOUT: RecConfig = RecConfig {
-    kind: Kind::Longout,
-    disabled: false,
-};
 
 /// An entry of one action on record 0, whose payload is 8, and that left it in this state.
 fn entry_of(alloc: Global, action: Action, state: RecState) -> Result<Entry, Fail>
@@ -41,9 +36,9 @@ fn put_entry(alloc: Global, number: i32, moment: Moment) -> Result<Entry, Fail>
     ensures weight { IfOk result (λ entry. weight_of entry ≡ 136) }
     ensures within { IfOk result (λ entry. WritesWithin 1 entry.writes) }
 {
-    let old = RecState::opening(alloc, None)?;
+    let (config, old) = longout(alloc, 0)?;
     let action = Action::Put(Datum::Num(i64::from(number)));
-    let state = process(alloc, &LONGOUT, &old, &action, moment, true)?;
+    let state = process(alloc, &config, &old, &action, moment, true)?;
     entry_of(alloc, action, state)
 }
 
@@ -79,7 +74,7 @@ fn held_at(alloc: Global, history: &History, place: u64) -> Result<Option<(i64, 
 #[test]
 fn three_puts_are_replayed_one_by_one(rt: HostRuntime) -> Result<(), Fail> {
     let mut states = Vec::new(rt.alloc());
-    states.push(RecState::opening(rt.alloc(), Some(42))?)?;
+    states.push(longout(rt.alloc(), 42)?.1)?;
     let mut history = History::new(rt.alloc(), states);
     put(rt.alloc(), &mut history, 1, Moment::new(1, 5))?;
     put(rt.alloc(), &mut history, 2, Moment::new(2, 5))?;
@@ -122,16 +117,14 @@ fn weight_with(alloc: Global, datum: Datum) -> Result<u64, Fail>
 #[test]
 fn a_payload_goes_by_the_datum(rt: HostRuntime) -> Result<(), Fail> {
     assert_eq!(rt; weight_with(rt.alloc(), Datum::Index(3))?, 200);
-    let text = Name::of(rt.alloc(), "abc")?;
+    let text = SharedText::of(rt.alloc(), "abc")?;
     assert_eq!(rt; weight_with(rt.alloc(), Datum::Text(text))?, 195);
-    let numbers = Items::from_vec([-1, 0, 1].to_vec(rt.alloc())?);
+    let numbers = SharedItems::of(rt.alloc(), [-1, 0, 1].to_vec(rt.alloc())?)?;
     assert_eq!(rt; weight_with(rt.alloc(), Datum::Nums(numbers))?, 216);
     let mut texts = Vec::new(rt.alloc());
     texts.push(Name::of(rt.alloc(), "ab")?)?;
     texts.push(Name::of(rt.alloc(), "cde")?)?;
-    assert_eq!(rt;
-        weight_with(rt.alloc(), Datum::Texts(Items::from_vec(texts)))?,
-        229
-    );
+    let texts = SharedItems::of(rt.alloc(), texts)?;
+    assert_eq!(rt; weight_with(rt.alloc(), Datum::Texts(texts))?, 229);
     Ok(())
 }

@@ -1,7 +1,7 @@
 // The program, over the world that it is given.
 ghost use Rattle.std.specs.Prelude.{◌≡◌, IsTrue, map};
 ghost use Rattle.desk_api.specs.Sites.{is_record_name};
-ghost use Rattle.pvaserve.specs.Running.{Runs, Serves, site_of};
+ghost use Rattle.pvaserve.specs.Running.{Runs, Serves, base_of};
 ghost use Rattle.pvaserve.specs.Words.{source_of};
 ghost use Rattle.pvaserve.specs.Running as running;
 
@@ -58,7 +58,7 @@ fn serve_source<L: Link, C: Clock>(
     clock: &C,
 ) -> Ended
     requires { IsTrue (is_record_name source.name.now) }
-    ensures { Serves (site_of (source_of source.entry)) (L.wire link.old) (L.wire link.new) (C.moment clock.now) result }
+    ensures { Serves (base_of (source_of source.entry)) (L.wire link.old) (L.wire link.new) (C.moment clock.now) result }
 {
     let Ok(site) = Site::single(alloc, source.name, source.value) else {
         return Ended::NoMemory;

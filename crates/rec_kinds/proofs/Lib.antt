@@ -1,0 +1,4 @@
+pub mod Counts
+pub mod Clips
+pub mod Rows
+pub mod Built

@@ -1,11 +1,11 @@
 // What a record holds, and what is done to it.
 ghost use Rattle.std.specs.Prelude.{◌≡◌, IfOk};
 
-use crate::items::Items;
+use crate::shared::{SharedItems, SharedText};
 use pvd_type::{Name, NoMemory};
 use std::alloc::Global;
 
-/// What a record holds.
+/// What a record holds. Copies share their text or list, and take no memory.
 #[derive(Debug, Drop)]
 pub enum Datum {
     /// A number.
@@ -13,11 +13,11 @@ pub enum Datum {
     /// The index of a choice.
     Index(u16),
     /// A text.
-    Text(Name),
+    Text(SharedText),
     /// Numbers in a row.
-    Nums(Items<i128>),
+    Nums(SharedItems<i128>),
     /// Texts in a row.
-    Texts(Items<Name>),
+    Texts(SharedItems<Name>),
 }
 
 /// What is done to a record.
@@ -30,35 +30,17 @@ pub enum Action {
 }
 
 impl Datum {
-    /// A copy of the datum.
-    pub fn clone_in(&self, alloc: Global) -> Result<Datum, NoMemory>
+    /// A copy of the datum, which shares its text or list. It takes no memory: `NoMemory` is answered only where 2^63 - 1
+    /// data share one text or list.
+    pub fn clone_in(&self, _alloc: Global) -> Result<Datum, NoMemory>
         ensures { IfOk result (λ datum. datum ≡ self.now) }
     {
         match self {
             Datum::Num(number) => Ok(Datum::Num(*number)),
             Datum::Index(index) => Ok(Datum::Index(*index)),
-            Datum::Text(text) => Ok(Datum::Text(text.clone_in(alloc)?)),
-            Datum::Nums(numbers) => Ok(Datum::Nums(copy_of_numbers(alloc, numbers)?)),
-            Datum::Texts(texts) => Ok(Datum::Texts(copy_of_texts(alloc, texts)?)),
+            Datum::Text(text) => Ok(Datum::Text(text.share()?)),
+            Datum::Nums(numbers) => Ok(Datum::Nums(numbers.share()?)),
+            Datum::Texts(texts) => Ok(Datum::Texts(texts.share()?)),
         }
     }
-}
-
-/// A copy of these numbers.
-fn copy_of_numbers(alloc: Global, numbers: &Items<i128>) -> Result<Items<i128>, NoMemory>
-    ensures { IfOk result (λ copy. copy ≡ numbers.now) }
-{
-    Ok(Items::from_vec(Vec::from_slice(alloc, numbers.as_slice())?))
-}
-
-/// A copy of these texts.
-fn copy_of_texts(alloc: Global, texts: &Items<Name>) -> Result<Items<Name>, NoMemory>
-    ensures { IfOk result (λ copy. copy ≡ texts.now) }
-{
-    let texts = texts.as_slice();
-    let mut copies = Vec::with_capacity(alloc, texts.len())?;
-    for text in texts {
-        copies.push(text.clone_in(alloc)?)?;
-    }
-    Ok(Items::from_vec(copies))
 }

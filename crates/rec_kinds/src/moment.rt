@@ -1,10 +1,11 @@
 // Moments of time.
-ghost use Rattle.std.specs.Prelude.{◌≡◌, ◌<◌, pos};
+ghost use Rattle.std.specs.Prelude.{◌≡◌, ◌<◌};
+ghost use Rattle.rec_kinds.specs.Moments.{never};
 
 use std::marker::Model;
 
-/// A moment: seconds and nanoseconds since 1970-01-01 00:00:00 UTC. The nanoseconds are below 1,000,000,000. A
-/// contract sees the pair (Normative Types, "time_t").
+/// A moment: seconds and nanoseconds since 1970-01-01 00:00:00 UTC. The nanoseconds are below 1,000,000,000 (Normative
+/// Types, "time_t").
 #[derive(Clone, Copy, Debug, PartialEq, Eq)]
 pub struct Moment {
     seconds: i64,
@@ -12,13 +13,14 @@ pub struct Moment {
 }
 
 impl Model for Moment {
-    ghost use Rattle.std.specs.Prelude.{ℕ, ℤ, ◌<◌};
+    ghost use Rattle.std.specs.Prelude.{◌<◌};
+    ghost use Rattle.rec_kinds.specs.Moments.{Instant};
 
-    ghost Value = { ℤ × ℕ };
+    ghost Value = { Instant };
 
-    ghost view = { λ m. (m.seconds, m.nanoseconds) };
+    ghost view = { λ m. record { seconds = m.seconds; nanoseconds = m.nanoseconds } };
 
-    ghost inverse = { λ v. record { seconds = v.0; nanoseconds = v.1 } };
+    ghost inverse = { λ v. record { seconds = v.seconds; nanoseconds = v.nanoseconds } };
 
     ghost invariant = { λ m. m.nanoseconds < 1_000_000_000 };
 }
@@ -26,7 +28,7 @@ impl Model for Moment {
 impl Moment {
     /// The moment at which a record that was never processed stands.
     pub fn zero() -> Moment
-        ensures { result ≡ (pos 0, 0) }
+        ensures { result ≡ never }
     {
         Moment::new(0, 0)
     }
@@ -34,7 +36,7 @@ impl Moment {
     /// The moment at so many seconds and nanoseconds.
     pub fn new(seconds: i64, nanoseconds: u32) -> Moment
         requires { nanoseconds < 1_000_000_000 }
-        ensures { result ≡ (seconds, nanoseconds) }
+        ensures { result ≡ record { seconds = seconds; nanoseconds = nanoseconds } }
     {
         Moment {
             seconds,
@@ -44,14 +46,14 @@ impl Moment {
 
     /// The seconds.
     pub fn seconds(&self) -> i64
-        ensures { result ≡ self.now.0 }
+        ensures { result ≡ self.now.seconds }
     {
         self.seconds
     }
 
     /// The nanoseconds within the second.
     pub fn nanoseconds(&self) -> u32
-        ensures same { result ≡ self.now.1 }
+        ensures same { result ≡ self.now.nanoseconds }
         ensures below { result < 1_000_000_000 }
     {
         self.nanoseconds

@@ -1,9 +1,8 @@
 // What an action makes of a record.
 ghost use Rattle.std.specs.Prelude.{◌≡◌, IfOk};
-ghost use Rattle.rec_kinds.specs.Processing.{processed, datum_after, undefined_after};
+ghost use Rattle.rec_kinds.specs.Processing.{processed, datum_after, undefined_after, clamped, nearest};
 ghost use Rattle.rec_kinds.specs.Validity.{IsValid, MayBeDone};
 
-use crate::alarm::alarm_of;
 use crate::config::RecConfig;
 use crate::datum::{Action, Datum};
 use crate::moment::Moment;
@@ -12,7 +11,9 @@ use pvd_type::NoMemory;
 use std::alloc::Global;
 
 /// The state of a record after an action at a moment. `drove` says whether its port took the value, and is true of a
-/// record without a port. The tag stays.
+/// record without a port. A number that is put goes to the nearest that DRVL and DRVH allow, where DRVL is below DRVH.
+/// The tag stays. The new state shares its text or list with the action or with the old state, so that processing takes no
+/// memory: `NoMemory` is answered only where 2^63 - 1 states share one.
 pub fn process(
     alloc: Global,
     config: &RecConfig,
@@ -26,29 +27,53 @@ pub fn process(
     ensures processed { IfOk result (λ state. state ≡ processed config.now old.now action.now moment drove) }
     ensures valid { IfOk result (λ state. IsValid config.now state) }
 {
-    let _ = config;
-    let datum = new_datum(alloc, old, action)?;
+    let datum = new_datum(alloc, config, old, action)?;
     let undefined = stays_undefined(old, action);
-    let alarm = alarm_of(alloc, undefined, drove)?;
-    Ok(RecState {
-        datum,
-        undefined,
-        severity: alarm.severity,
-        status: alarm.status,
-        message: alarm.message,
-        moment,
-        tag: old.tag,
-    })
+    let state = RecState::with_alarm(config, datum, undefined, drove, (moment, old.tag));
+    Ok(state)
 }
 
 /// The datum that the record holds after the action.
-fn new_datum(alloc: Global, old: &RecState, action: &Action) -> Result<Datum, NoMemory>
-    ensures { IfOk result (λ datum. datum ≡ datum_after old.now action.now) }
+fn new_datum(
+    alloc: Global,
+    config: &RecConfig,
+    old: &RecState,
+    action: &Action,
+) -> Result<Datum, NoMemory>
+    ensures { IfOk result (λ datum. datum ≡ datum_after config.now old.now action.now) }
 {
     match action {
-        Action::Put(datum) => datum.clone_in(alloc),
+        Action::Put(datum) => put_datum(alloc, config, datum),
         Action::Process => old.datum.clone_in(alloc),
     }
+}
+
+/// What a put of the datum sets.
+fn put_datum(alloc: Global, config: &RecConfig, datum: &Datum) -> Result<Datum, NoMemory>
+    ensures { IfOk result (λ put. put ≡ clamped config.now datum.now) }
+{
+    match datum {
+        Datum::Num(number) => Ok(Datum::Num(nearest_to(*number, config.drvl(), config.drvh()))),
+        Datum::Index(_) | Datum::Text(_) | Datum::Nums(_) | Datum::Texts(_) => datum.clone_in(
+            alloc,
+        ),
+    }
+}
+
+/// The number of a range that is nearest to a number, where the range has more than one number.
+fn nearest_to(number: i64, low: i64, high: i64) -> i64
+    ensures { result ≡ nearest low high number }
+{
+    if low >= high {
+        return number;
+    }
+    if number < low {
+        return low;
+    }
+    if high < number {
+        return high;
+    }
+    number
 }
 
 /// Whether the record is undefined after the action.

@@ -1,11 +1,16 @@
 // The states of records.
 ghost use Rattle.std.specs.Prelude.{◌≡◌, IfOk};
-ghost use Rattle.rec_kinds.specs.Processing.{opening};
+ghost use Rattle.rec_kinds.specs.Alarms.{alarm_of};
+ghost use Rattle.rec_kinds.specs.Processing.{state_with};
+ghost use Rattle.rec_kinds.specs.Building.{opening};
 
-use crate::alarm::alarm_of;
+use crate::alarm::raise;
+use crate::config::RecConfig;
 use crate::datum::Datum;
+use crate::message::Message;
 use crate::moment::Moment;
-use pvd_type::{Name, NoMemory};
+use crate::severity::{Severity, Status};
+use pvd_type::NoMemory;
 use std::alloc::Global;
 
 /// The state of a record (Normative Types, "alarm_t" and "time_t").
@@ -15,12 +20,12 @@ pub struct RecState {
     pub datum: Datum,
     /// Whether it was never given a value.
     pub undefined: bool,
-    /// The severity of its alarm, from 0 (none) to 3 (invalid).
-    pub severity: u8,
-    /// The status of its alarm.
-    pub status: u8,
+    /// How bad its alarm is, if it has one.
+    pub severity: Severity,
+    /// Where its alarm comes from.
+    pub status: Status,
     /// The message of its alarm, which is empty where there is none.
-    pub message: Name,
+    pub message: Message,
     /// When it was last processed.
     pub moment: Moment,
     /// The tag of its time stamp.
@@ -28,24 +33,36 @@ pub struct RecState {
 }
 
 impl RecState {
-    /// The state in which a longout opens: with its field VAL, or else 0 and undefined.
-    pub fn opening(alloc: Global, val: Option<i32>) -> Result<RecState, NoMemory>
-        ensures { IfOk result (λ state. state ≡ opening val) }
+    /// The state of a record that holds this datum, with the alarm that it then has.
+    pub(crate) fn with_alarm(
+        config: &RecConfig,
+        datum: Datum,
+        undefined: bool,
+        drove: bool,
+        stamp: (Moment, i32),
+    ) -> RecState
+        ensures { result ≡ state_with datum undefined (alarm_of config.now datum undefined drove) stamp.0 stamp.1 }
     {
-        let undefined = val.is_none();
-        let alarm = alarm_of(alloc, undefined, true)?;
-        Ok(RecState {
-            datum: Datum::Num(i64::from(val.unwrap_or(0))),
+        let alarm = raise(config, &datum, undefined, drove);
+        RecState {
+            datum,
             undefined,
             severity: alarm.severity,
             status: alarm.status,
-            message: alarm.message,
-            moment: Moment::zero(),
-            tag: 0,
-        })
+            message: Message::of(alarm.row),
+            moment: stamp.0,
+            tag: stamp.1,
+        }
     }
 
-    /// A copy of the state.
+    /// The state in which a record opens with this datum.
+    pub(crate) fn opening(config: &RecConfig, datum: Datum, undefined: bool) -> RecState
+        ensures { result ≡ opening config.now datum undefined }
+    {
+        RecState::with_alarm(config, datum, undefined, true, (Moment::zero(), 0))
+    }
+
+    /// A copy of the state, which shares its text or list.
     pub fn clone_in(&self, alloc: Global) -> Result<RecState, NoMemory>
         ensures { IfOk result (λ state. state ≡ self.now) }
     {
@@ -54,7 +71,7 @@ impl RecState {
             undefined: self.undefined,
             severity: self.severity,
             status: self.status,
-            message: self.message.clone_in(alloc)?,
+            message: self.message.copied(),
             moment: self.moment,
             tag: self.tag,
         })

@@ -1,102 +1,253 @@
 use crate::{
-    Action, Datum, Items, Kind, Moment, PutRefusal, RecConfig, RecState, check_put, process,
+    Action, BuildFault, Datum, FieldPlace, FieldText, Kind, Moment, PutRefusal, RecConfig,
+    RecState, build, check_put, field_known, kind_named, longout, plain_text, process,
 };
-use pvd_type::Name;
+use pvd_type::{Name, NoMemory};
+use std::alloc::Global;
 use std::test::Fail;
 
-const LONGOUT: RecConfig = RecConfig {
-    kind: Kind::Longout,
-    disabled: false,
-};
-
-/// What a state holds, apart from its moment and its tag.
-fn is_longout(state: &RecState, number: i64, alarm: (u8, u8, &str)) -> bool {
-    let holds = match &state.datum {
-        Datum::Num(held) => *held == number,
-        _ => false,
-    };
-    holds
-        && state.severity == alarm.0
-        && state.status == alarm.1
-        && state.message.as_str() == alarm.2
-}
-
-#[test]
-fn a_longout_opens_with_its_value_or_undefined(rt: HostRuntime) -> Result<(), Fail> {
-    let given = RecState::opening(rt.alloc(), Some(42))?;
-    assert!(rt; is_longout(&given, 42, (0, 0, "")));
-    assert!(rt; !given.undefined);
-    let not_given = RecState::opening(rt.alloc(), None)?;
-    assert!(rt; is_longout(&not_given, 0, (3, 6, "UDF")));
-    assert!(rt; not_given.undefined);
-    assert_eq!(rt; not_given.moment, Moment::new(0, 0));
-    assert_eq!(rt; not_given.tag, 0);
-    Ok(())
-}
-
-#[test]
-fn a_put_sets_the_value_and_the_moment_and_clears_the_alarm(rt: HostRuntime) -> Result<(), Fail> {
-    let old = RecState::opening(rt.alloc(), None)?;
-    let put = Action::Put(Datum::Num(7));
-    let new = process(rt.alloc(), &LONGOUT, &old, &put, Moment::new(100, 5), true)?;
-    assert!(rt; is_longout(&new, 7, (0, 0, "")));
-    assert!(rt; !new.undefined);
-    assert_eq!(rt; (new.moment.seconds(), new.moment.nanoseconds()), (100, 5));
-    let failed = process(rt.alloc(), &LONGOUT, &old, &put, Moment::zero(), false)?;
-    assert!(rt; is_longout(&failed, 7, (3, 2, "WRITE")));
-    Ok(())
-}
-
-#[test]
-fn processing_keeps_the_value_and_what_is_undefined(rt: HostRuntime) -> Result<(), Fail> {
-    let old = RecState::opening(rt.alloc(), None)?;
-    let new = process(
-        rt.alloc(),
-        &LONGOUT,
-        &old,
-        &Action::Process,
-        Moment::new(1, 2),
-        true,
-    )?;
-    assert!(rt; is_longout(&new, 0, (3, 6, "UDF")));
-    assert!(rt; new.undefined);
-    assert_eq!(rt; new.moment, Moment::new(1, 2));
-    let copy = new.clone_in(rt.alloc())?;
-    assert!(rt; is_longout(&copy, 0, (3, 6, "UDF")));
-    Ok(())
-}
-
-#[test]
-fn a_put_is_refused_where_the_record_is_disabled(rt: HostRuntime) {
-    let disabled = RecConfig {
-        kind: Kind::Longout,
-        disabled: true,
-    };
-    assert_eq!(rt; check_put(&LONGOUT, &Datum::Num(7)), Ok(()));
-    assert_eq!(rt;
-        check_put(&disabled, &Datum::Num(7)),
-        Err(PutRefusal::Disabled)
-    );
-}
-
-#[test]
-fn lists_of_numbers_and_of_texts_are_copied_whole(rt: HostRuntime) -> Result<(), Fail> {
-    let numbers = Items::from_vec([-1, 2].to_vec(rt.alloc())?);
-    match Datum::Nums(numbers).clone_in(rt.alloc())? {
-        Datum::Nums(copy) => assert_eq!(rt; copy.as_slice(), [-1, 2].as_slice()),
-        _ => assert!(rt; false),
-    }
-    let mut names = Vec::new(rt.alloc());
-    names.push(Name::of(rt.alloc(), "one")?)?;
-    names.push(Name::of(rt.alloc(), "two")?)?;
-    match Datum::Texts(Items::from_vec(names)).clone_in(rt.alloc())? {
-        Datum::Texts(copy) => {
-            assert_eq!(rt; copy.len(), 2);
-            let names = copy.into_vec();
-            assert_eq!(rt; names[0].as_str(), "one");
-            assert_eq!(rt; names[1].as_str(), "two");
+/// The fields that a text gives: names and texts, divided by `=`, with `;` between any two. They stand on the lines from 1 on.
+fn fields(alloc: Global, given: &str) -> Result<Vec<FieldText>, NoMemory> {
+    let mut fields = Vec::new(alloc);
+    let mut line = 0u32;
+    for field in given.split(';') {
+        line = line.saturating_add(1);
+        if let Some((name, text)) = field.split_once('=') {
+            fields.push(FieldText {
+                name: Name::of(alloc, name)?,
+                text: Name::of(alloc, text)?,
+                line,
+            })?;
         }
-        _ => assert!(rt; false),
+    }
+    Ok(fields)
+}
+
+fn discard<T: Drop>(_value: T) {}
+
+/// A fault in words.
+fn fault_text(alloc: Global, fault: &BuildFault) -> Result<String, NoMemory> {
+    match fault {
+        BuildFault::BadNumber(place) => place_text(alloc, "BadNumber", place),
+        BuildFault::BadChoice(place) => place_text(alloc, "BadChoice", place),
+        BuildFault::BadLength(place) => place_text(alloc, "BadLength", place),
+        BuildFault::BadPort(place) => place_text(alloc, "BadPort", place),
+        BuildFault::NoMemory => Err(NoMemory),
+    }
+}
+
+fn place_text(alloc: Global, word: &str, place: &FieldPlace) -> Result<String, NoMemory> {
+    let name = place.name.as_str();
+    let line = place.line;
+    let words = format!(in alloc; "{word} {name} {line}")?;
+    Ok(words)
+}
+
+/// What a record opens with, in words: its text, the numbers and the message of its alarm; or its fault.
+fn opened(alloc: Global, kind: Kind, given: &str) -> Result<String, NoMemory> {
+    let fields = fields(alloc, given)?;
+    let answer = build(alloc, kind, fields.as_slice());
+    let words = answer_text(alloc, &answer);
+    discard(answer);
+    words
+}
+
+fn answer_text(
+    alloc: Global,
+    answer: &Result<(RecConfig, RecState), BuildFault>,
+) -> Result<String, NoMemory> {
+    match answer {
+        Ok((_, state)) => state_text(alloc, state),
+        Err(fault) => fault_text(alloc, fault),
+    }
+}
+
+fn state_text(alloc: Global, state: &RecState) -> Result<String, NoMemory> {
+    let text = plain_text(alloc, state)?;
+    let text = text.as_str();
+    let severity = state.severity.number();
+    let status = state.status.number();
+    let message = state.message.as_str();
+    let words = format!(in alloc; "{text} {severity} {status} {message}")?;
+    Ok(words)
+}
+
+#[test]
+fn records_open_by_their_fields(rt: HostRuntime) -> Result<(), Fail> {
+    let table = [
+        (Kind::Longin, "VAL=0x10", "16 0 0 "),
+        (Kind::Longin, "VAL=1x", "BadNumber VAL 1"),
+        (Kind::Longin, "HIHI=0;HHSV=MAJOR", "0 3 6 UDF"),
+        (Kind::Longin, "VAL=-2147483648", "-2147483648 0 0 "),
+        (Kind::Longin, "VAL=-2147483649", "BadNumber VAL 1"),
+        (Kind::Longin, "VAL=2147483647", "2147483647 0 0 "),
+        (Kind::Longin, "VAL=2147483648", "BadNumber VAL 1"),
+        (
+            Kind::Int64out,
+            "VAL=+9223372036854775807",
+            "9223372036854775807 0 0 ",
+        ),
+        (Kind::Int64out, "VAL=9223372036854775808", "BadNumber VAL 1"),
+        (
+            Kind::Int64out,
+            "VAL=-9223372036854775808",
+            "-9223372036854775808 0 0 ",
+        ),
+        (
+            Kind::Int64out,
+            "VAL=-9223372036854775809",
+            "BadNumber VAL 1",
+        ),
+        (Kind::Bi, "VAL=2", "BadNumber VAL 1"),
+        (Kind::Bi, "DISP=2", "BadNumber DISP 1"),
+        (Kind::Mbbo, "VAL=2;ZRST=a;TWST=c", "2 0 0 "),
+        (Kind::Mbbo, "VAL=3;ZRST=a;TWST=c", "BadNumber VAL 1"),
+        (Kind::Mbbo, "VAL=1;ZRST=a;ONST=", "BadNumber VAL 1"),
+        (Kind::Mbbo, "VAL=15", "15 0 0 "),
+        (Kind::Mbbo, "VAL=16", "BadNumber VAL 1"),
+        (Kind::Stringin, "VAL=some words", "some words 0 0 "),
+        (Kind::Waveform, "FTVL=LONG;NELM=4", " 0 0 "),
+        (Kind::Waveform, "FTVL=FLOAT", "BadChoice FTVL 1"),
+        (Kind::Waveform, "NELM=16385", "BadLength NELM 1"),
+        (Kind::Longout, "DTYP=File;VAL=1", "BadPort DTYP 1"),
+        (Kind::Longout, "DTYP=File;OUT=@file ", "BadPort OUT 2"),
+        (Kind::Longin, "VAL=x;HHSV=LOUD;VAL=1", "BadChoice HHSV 2"),
+    ];
+    for (kind, given, want) in table {
+        let words = opened(rt.alloc(), kind, given)?;
+        assert_eq!(rt; words.as_str(), want);
     }
     Ok(())
+}
+
+#[test]
+fn the_alarm_is_that_of_the_first_row_that_holds(rt: HostRuntime) -> Result<(), Fail> {
+    let limits = "HIHI=10;HHSV=MAJOR;HIGH=9;HSV=MINOR;LOW=0;LSV=MINOR;LOLO=-3;LLSV=INVALID;VAL=";
+    let table = [
+        (limits, "10", "10 2 1 HIHI"),
+        (limits, "9", "9 1 1 HIGH"),
+        (limits, "8", "8 0 0 "),
+        (limits, "1", "1 0 0 "),
+        (limits, "0", "0 1 1 LOW"),
+        (limits, "-2", "-2 1 1 LOW"),
+        (limits, "-3", "-3 3 1 LOLO"),
+        (
+            "HIHI=10;HHSV=NO_ALARM;HIGH=9;HSV=MINOR;VAL=",
+            "10",
+            "10 1 1 HIGH",
+        ),
+        ("HIGH=4;HSV=MAJOR;LOLO=5;LLSV=MINOR;VAL=", "5", "5 1 1 LOLO"),
+        ("HIGH=4;HSV=MINOR;LOW=6;LSV=MAJOR;VAL=", "5", "5 1 1 HIGH"),
+        ("HHSV=MINOR;VAL=", "0", "0 1 1 HIHI"),
+        ("HHSV=MINOR;VAL=", "-1", "-1 0 0 "),
+    ];
+    for (given, value, want) in table {
+        let given = format!(in rt.alloc(); "{given}{value}")?;
+        let words = opened(rt.alloc(), Kind::Longin, given.as_str())?;
+        assert_eq!(rt; words.as_str(), want);
+    }
+    let states = "ZSV=NO_ALARM;OSV=MINOR;HIGH=x";
+    for (value, want) in [("0", "0 0 0 "), ("1", "1 1 1 STATE")] {
+        let given = format!(in rt.alloc(); "VAL={value};{states}")?;
+        let words = opened(rt.alloc(), Kind::Bo, given.as_str())?;
+        assert_eq!(rt; words.as_str(), want);
+    }
+    Ok(())
+}
+
+/// A put of a number to a longout without limits, whose port doesn't take it, and then a copy of the new state: the
+/// moment and the words of both.
+fn put(alloc: Global, number: i32, moment: Moment) -> Result<(Moment, String, String), NoMemory> {
+    let (config, old) = longout(alloc, 42)?;
+    let action = Action::Put(Datum::Num(i64::from(number)));
+    let answer = process(alloc, &config, &old, &action, moment, false);
+    discard((config, old, action));
+    let new = answer?;
+    let words = told(alloc, &new);
+    discard(new);
+    words
+}
+
+fn told(alloc: Global, state: &RecState) -> Result<(Moment, String, String), NoMemory> {
+    let words = state_text(alloc, state)?;
+    let copied = copy_text(alloc, state)?;
+    Ok((state.moment, words, copied))
+}
+
+fn copy_text(alloc: Global, state: &RecState) -> Result<String, NoMemory> {
+    let copy = state.clone_in(alloc)?;
+    let words = state_text(alloc, &copy);
+    discard(copy);
+    words
+}
+
+/// The answer to a put of a number to a longout without limits.
+fn taken(alloc: Global, number: i32) -> Result<Result<(), PutRefusal>, NoMemory> {
+    let (config, state) = longout(alloc, 42)?;
+    let datum = Datum::Num(i64::from(number));
+    let answer = check_put(&config, &datum);
+    discard((config, state, datum));
+    Ok(answer)
+}
+
+#[test]
+fn a_put_sets_the_value_and_ends_that_a_record_is_undefined(rt: HostRuntime) -> Result<(), Fail> {
+    assert_eq!(rt; taken(rt.alloc(), 7)?, Ok(()));
+    let (moment, words, copied) = put(rt.alloc(), 7, Moment::new(100, 5))?;
+    assert_eq!(rt; moment, Moment::new(100, 5));
+    assert_eq!(rt; words.as_str(), "7 3 2 WRITE");
+    assert_eq!(rt; copied.as_str(), "7 3 2 WRITE");
+    Ok(())
+}
+
+/// The texts of a configuration.
+fn texts_of(alloc: Global, config: &RecConfig) -> Result<String, NoMemory> {
+    let desc = config.desc();
+    let port = config.port().unwrap_or("no port");
+    let words = format!(in alloc; "{desc} {port}")?;
+    Ok(words)
+}
+
+/// The texts, the drive limits, NELM, DISP and the number of choices of a longout of these fields.
+fn configured(
+    alloc: Global,
+    given: &str,
+) -> Result<(String, (i64, i64), u32, bool, usize), NoMemory> {
+    let fields = fields(alloc, given)?;
+    match build(alloc, Kind::Longout, fields.as_slice()) {
+        Ok((config, state)) => {
+            let texts = texts_of(alloc, &config);
+            let limits = (config.drvl(), config.drvh());
+            let (nelm, disabled) = (config.nelm(), config.is_disabled());
+            let choices = config.choices().len();
+            discard((config, state));
+            Ok((texts?, limits, nelm, disabled, choices))
+        }
+        Err(fault) => {
+            discard(fault);
+            Err(NoMemory)
+        }
+    }
+}
+
+#[test]
+fn configurations_tell_their_fields(rt: HostRuntime) -> Result<(), Fail> {
+    let given = "DESC=Position;DTYP=File;OUT=@file out.txt;DRVH=10;DRVL=-10;DISP=1;LOPR=unread";
+    let (texts, limits, nelm, disabled, choices) = configured(rt.alloc(), given)?;
+    assert_eq!(rt; texts.as_str(), "Position out.txt");
+    assert_eq!(rt; limits, (-10, 10));
+    assert_eq!(rt; (nelm, disabled, choices), (1, true, 0));
+    Ok(())
+}
+
+#[test]
+fn kinds_and_their_fields_are_known_by_name(rt: HostRuntime) {
+    assert_eq!(rt; kind_named("mbbo"), Some(Kind::Mbbo));
+    assert_eq!(rt; kind_named("ai"), None);
+    assert!(rt; field_known(Kind::Longout, "DRVH"));
+    assert!(rt; !field_known(Kind::Longin, "DRVH"));
+    assert!(rt; field_known(Kind::Longin, "FTVL"));
+    assert!(rt; !field_known(Kind::Waveform, "VAL"));
+    assert!(rt; field_known(Kind::Bo, "HIGH"));
+    assert!(rt; !field_known(Kind::Bi, "HIGH"));
 }

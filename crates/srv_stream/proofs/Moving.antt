@@ -1,5 +1,5 @@
 -- The bytes of a link over many calls.
-use Rattle.std.proofs.Common.{ℕ, List, ◌++◌, take, Option, None, Some, sym, ◌∙◌, ap, append_assoc}
+use Rattle.std.proofs.Common.{ℕ, List, [], ◌++◌, take, Option, None, Some, refl, sym, ◌∙◌, ap, append_assoc}
 use Rattle.std.proofs.lemmas.List.{append-nil}
 use Rattle.std.specs.Io.KnownBytes.{Keeps, Appends, Consumes, IsAtEnd}
 use Rattle.pva_outside.specs.Wire.{Wire, Rests, Gave, Taken}
@@ -52,3 +52,16 @@ pub all_read : (a b : Option (List ℕ)) (read : List ℕ) → Consumes a b read
 all_read None b read taken end = tt
 all_read (Some a) None read taken end = absurd taken
 all_read (Some a) (Some b) read taken end = taken ∙ ap (λ (l : List ℕ). read ++ l) end ∙ append-nil read
+
+-- no byte moved
+
+consumes_none : (a : Option (List ℕ)) → Consumes a a []
+consumes_none None = tt
+consumes_none (Some a) = refl
+
+appends_none : (a : Option (List ℕ)) → Appends a a []
+appends_none None = tt
+appends_none (Some a) = sym (append-nil a)
+
+pub moves_nothing : (w : Wire) → Moves w w [] []
+moves_nothing w = record { taken = consumes_none w.left; given = appends_none w.written }

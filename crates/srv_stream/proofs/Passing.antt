@@ -1,176 +1,242 @@
--- One frame, or bytes that make none.
-use Rattle.std.proofs.Common.{◌≡◌, ℕ, ℤ, ◌+◌, true, List, [], ◌∷◌, ◌++◌, length, take, drop, Option, None, Some, Err, refl, sym, ◌∙◌, ap, subst, arith, length-drop, get_or, take-append-drop}
-use Rattle.std.proofs.lemmas.List.{append-nil, take_all, drop_all, length-take-le}
-use Rattle.first_messages.specs.Frames.{command, number, Frame, Cut, cut, with_frame, front_of, refused, frames_from, refusal_from}
-use Rattle.first_messages.specs.Cutting.{takes, front_is, front_from, same_header, cut_whole, cut_unfinished, cut_refused, cut_none}
-use Rattle.first_messages.specs.declared.frame.Front.{Front}
-use Rattle.first_messages.specs.declared.frame.Front.TheVariants.{Unfinished, Whole, Refused}
-use Rattle.first_messages.specs.declared.frame.Refusal.{Refusal}
-use Rattle.desk_api.specs.Marks.{Adds, HaveMoment}
-use Rattle.desk_api.specs.Adding.{adds_nothing}
+-- Bytes of a stream, and then more bytes.
+use Rattle.std.proofs.Common.{◌≡◌, ℕ, Bool, true, List, [], ◌∷◌, ◌++◌, Option, None, Some, is_some, Result, Ok, Err, refl, sym, ◌∙◌, ap, subst, inl, append_assoc}
+use Rattle.std.proofs.lemmas.List.{append-nil}
+use Rattle.pva_frames.proofs.Joins.{fed-join}
+use Rattle.pva_frames.specs.Messages.{Unfinished, events_from}
+use Rattle.pva_frames.specs.Assembled.{Assembled, fed, fed_on, place_of_fault}
+use Rattle.pva_frames.specs.declared.event.Event.{Event}
+use Rattle.pva_frames.specs.declared.fault.FrameFault.{FrameFault}
+use Rattle.histories.specs.History.{IsPrefixOf}
+use Rattle.desk_api.proofs.Adding.{adds_nothing, adds_more, moments_append}
+use Rattle.desk_api.specs.Calls.{Adds, HaveMoment}
+use Rattle.desk_api.specs.History.{IsLegal}
+use Rattle.desk_api.specs.declared.history.SiteData.{SiteData}
+use Rattle.desk_api.specs.declared.history.Base.{Base}
 use Rattle.desk_api.specs.declared.mark.Mark.{Mark}
 use Rattle.desk_api.specs.declared.mark.Seat.{Seat}
-use Rattle.first_messages.specs.Requests.{message_at}
-use Rattle.srv_stream.specs.Talk.{State, IsStep, unreadable, Part, RowPart}
-use Rattle.srv_stream.specs.Calls.{GaveUp}
-use Rattle.srv_stream.specs.Streams.{View, Fed, FedOn, FedPart, Feeds, Passed, NotPassed, Passes}
-use Rattle.srv_stream.specs.declared.serving.FeedStop.{FeedStop}
-use Rattle.srv_stream.specs.declared.serving.FeedStop.TheVariants as stops
-use Rattle.srv_stream.proofs.Feeding.{follows_nothing}
+use Rattle.srv_stream.specs.State.{State}
+use Rattle.srv_stream.specs.Steps.{Step, bytes_of, after_step, IsStep, AreSteps, state_after, events_of, marks_of, out_of, NextPart}
+use Rattle.srv_stream.specs.Streams.{stop_of, refused, Stands, Follows, View, Passed, FedOn, FedUpTo, FedPart, FedErr, is_sound}
+use Rattle.srv_stream.specs.declared.ended.StreamFault.TheVariants as faults
+use Rattle.srv_stream.specs.declared.ended.Ended.{Ended}
+use Rattle.srv_stream.specs.declared.ended.Ended.TheVariants as ends
+use Rattle.srv_stream.proofs.Resting.{fed_on_append, rests}
+use Rattle.srv_stream.proofs.Rows.{no_next_part}
+use Rattle.srv_stream.proofs.Steps.{after_append, steps_append, events_append, marks_append, out_append}
+use Rattle.journal_core.specs.Moments.{Moment}
 
--- nothing is refused of bytes that are no whole frame yet
-pub unrefused : (at : ℕ) (bytes : List ℕ) → front_of bytes ≡ Unfinished → refusal_from at bytes ≡ None
-unrefused at bytes e = ap (λ (c : Cut). refused (front_of c.held) c.place) (cut_unfinished at bytes e) ∙ ap (λ (f : Front). refused f at) e
+-- what bytes bring, where the first of them are these events and what u stands for
+pub joined : (a u : Assembled) (es : List Event) (xs ys : List ℕ) → (fed a xs).events ≡ es ++ u.events → u.left ≡ (fed a xs).left
+    → fed a (xs ++ ys) ≡ (let b : Assembled = record { events = es ++ (fed u ys).events; left = (fed u ys).left } in b)
+joined a u es xs ys events left =
+    let is : fed a xs ≡ (let b : Assembled = record { events = es ++ u.events; left = u.left } in b) = λ i. record { events = events i; left = sym left i } in
+    sym (fed-join a xs ys) ∙ ap (λ (b : Assembled). fed_on b.events b.left ys) is ∙ fed_on_append es u.events u.left ys
 
-pub is_refused_at : (at : ℕ) (bytes : List ℕ) (why : Refusal) → front_of bytes ≡ Refused why → refusal_from at bytes ≡ Some (why, at)
-is_refused_at at bytes why e = ap (λ (c : Cut). refused (front_of c.held) c.place) (cut_refused at bytes why e) ∙ ap (λ (f : Front). refused f at) e
+pub grown_on : (events : List Event) (left : Result Unfinished FrameFault) (ys : List ℕ) → (more : List Event) × ((fed_on events left ys).events ≡ events ++ more)
+grown_on events (Err fault) ys = ([], sym (append-nil events))
+grown_on events (Ok l) ys = (events_from l.place l.run (l.held ++ ys), refl)
 
-none_refused : (at : ℕ) → refused (front_of []) at ≡ None
-unfolding front_of
-none_refused at = refl
+-- further bytes only add events
+pub grown : (a : Assembled) (xs ys : List ℕ) → (more : List Event) × ((fed a (xs ++ ys)).events ≡ (fed a xs).events ++ more)
+grown a xs ys =
+    let g = grown_on (fed a xs).events (fed a xs).left ys in
+    (g.0, ap (λ (b : Assembled). b.events) (sym (fed-join a xs ys)) ∙ g.1)
 
-pub none_held : (xs : List ℕ) → xs ≡ [] → front_of xs ≡ Unfinished
-unfolding front_of
-none_held xs e = ap front_of e
+pub part_grows : (site : SiteData) (s : State) (events more : List Event) (marks : List Mark) → NextPart site s events marks → NextPart site s (events ++ more) marks
+part_grows site s [] more marks none = subst (NextPart site s more) (sym none) (no_next_part site s more)
+part_grows site s (e ∷ events) more marks p = p
 
-pub unrefused_none : (at : ℕ) → refusal_from at [] ≡ None
-unrefused_none at = ap (λ (c : Cut). refused (front_of c.held) c.place) (cut_none at) ∙ none_refused at
-
--- bytes are kept
-pub kept : (old : Seat) (told : Option (ℤ × ℕ)) (v w : View) (bytes : List ℕ) → front_of (v.held ++ bytes) ≡ Unfinished → w ≡ record v { held = v.held ++ bytes } → FedOn old old told v w bytes
-kept old told v w bytes e is =
-    let none = cut_unfinished v.place (v.held ++ bytes) e in record {
-      fed = record {
-        steps = [];
-        follows = follows_nothing old.seen.base v.state v.place (v.held ++ bytes) (ap (λ (c : Cut). c.frames) none) (unrefused v.place (v.held ++ bytes) e);
-        state = ap (λ (z : View). z.state) is;
-        adds = adds_nothing old;
-        moments = tt;
-        out = ap (λ (z : View). z.pending) is ∙ sym (append-nil v.pending);
-      };
-      place = ap (λ (z : View). z.place) is ∙ sym (ap (λ (c : Cut). c.place) none);
-      held = ap (λ (z : View). z.held) is ∙ sym (ap (λ (c : Cut). c.held) none);
+pub passed_nothing : (old : Seat) (told : Option Moment) (v : View) → IsLegal old.seen → is_sound v.stream.left ≡ true → Passed old old told v v []
+passed_nothing old told v legal sound =
+    let same = rests v.stream sound in record {
+      steps = [];
+      rules = tt;
+      events = ap (λ (b : Assembled). b.events) same;
+      left = sym (ap (λ (b : Assembled). b.left) same);
+      state = refl;
+      adds = adds_nothing old legal;
+      moments = tt;
+      out = sym (append-nil v.pending);
     }
 
--- a header is refused
-pub refused_header : (old : Seat) (told : Option (ℤ × ℕ)) (v w : View) (bytes : List ℕ) (why : Refusal) → front_of (v.held ++ bytes) ≡ Refused why → w.state ≡ v.state → w.pending ≡ v.pending → Fed old old told v w bytes (Some (why, v.place))
-refused_header old told v w bytes why e state out = record {
-  steps = [];
-  follows = record {
-    rules = tt;
-    remaining = [];
-    all = ap (λ (c : Cut). c.frames) (cut_refused v.place (v.held ++ bytes) why e);
-    stands = sym (is_refused_at v.place (v.held ++ bytes) why e);
-  };
-  state = state;
-  adds = adds_nothing old;
-  moments = tt;
-  out = out ∙ sym (append-nil v.pending);
-}
+module _ {old mid : Seat} {told : Option Moment} {v u : View} {xs : List ℕ} (a : Passed old mid told v u xs) where
+  abbrev site : SiteData
+  site = old.seen.base.site
 
--- memory ran out before a frame was answered
-pub none_taken : (old : Seat) (told : Option (ℤ × ℕ)) (v w : View) (bytes : List ℕ) → w.pending ≡ v.pending → ((s : State) (events : List Frame) → RowPart old.seen.base s events []) → FedPart old old told v w bytes
-none_taken old told v w bytes out none = record {
-  steps = [];
-  more = [];
-  rules = tt;
-  front = record { rest = frames_from v.place (v.held ++ bytes); whole = refl };
-  part = none v.state (frames_from v.place (v.held ++ bytes));
-  adds = adds_nothing old;
-  moments = tt;
-  out = out ∙ sym (append-nil v.pending);
-}
+  abbrev same : mid.seen.base.site ≡ old.seen.base.site
+  same = ap (λ (b : Base). b.site) a.adds.grows.base
 
--- A whole frame is one by itself.
-pub whole_alone : (xs : List ℕ) (c size : ℕ) → front_of xs ≡ Whole c size → front_of (take (8 + size) xs) ≡ Whole c size
-whole_alone xs c size e =
-    let is = front_is xs c size e in
-    let rest = drop (8 + size) xs in
-    let all : take (8 + size) xs ++ rest ≡ xs = take-append-drop (8 + size) xs in
-    let long : length (take (8 + size) xs) ≡ 8 + size = length-take-le (8 + size) xs is.fits in
-    let same = same_header (take (8 + size) xs) rest (omega (arith, long)) in
-    front_from (take (8 + size) xs) c size (record {
-      magic = sym same.magic ∙ ap (λ (l : List ℕ). get_or l 0 0) all ∙ is.magic;
-      taken = sym same.taken ∙ ap (λ (l : List ℕ). takes l) all ∙ is.taken;
-      its_command = sym same.its_command ∙ ap (λ (l : List ℕ). command l) all ∙ is.its_command;
-      its_size = sym same.its_number ∙ ap (λ (l : List ℕ). number l) all ∙ is.its_size;
-      short = is.short;
-      fits = omega (arith, long);
-    })
+  -- more bytes came
+  pub passed_fed : (ys : List ℕ) (w : View) → w.stream ≡ fed u.stream ys → w.state ≡ u.state → w.pending ≡ u.pending → Passed old mid told v w (xs ++ ys)
+  passed_fed ys w stream state pending =
+      let is = joined v.stream u.stream (events_of a.steps) xs ys a.events a.left in record {
+        steps = a.steps;
+        rules = a.rules;
+        events = ap (λ (b : Assembled). b.events) is ∙ ap (λ (b : Assembled). events_of a.steps ++ b.events) (sym stream);
+        left = ap (λ (b : Assembled). b.left) stream ∙ sym (ap (λ (b : Assembled). b.left) is);
+        state = state ∙ a.state;
+        adds = a.adds;
+        moments = a.moments;
+        out = pending ∙ a.out;
+      }
 
--- One whole frame: what was held and these bytes are it, and the session answers it in the view `u`.
-module _ (old new : Seat) (moment : ℤ × ℕ) (v u : View) (bytes xs : List ℕ) (c size : ℕ) (is : xs ≡ v.held ++ bytes) (front : front_of xs ≡ Whole c size) (all : length xs ≡ 8 + size) (state : u.state ≡ v.state) (place : u.place ≡ v.place) (pending : u.pending ≡ v.pending) where
-  abbrev frame : Frame
-  frame = record { command = c; payload = drop 8 xs; place = u.place }
+  -- what follows, said of the state and the site that these steps leave
+  pub there : (P : SiteData → State → Type 0) → P mid.seen.base.site u.state → P old.seen.base.site (state_after old.seen.base.site v.state a.steps)
+  there P p = subst (λ (z : SiteData). P z (state_after old.seen.base.site v.state a.steps)) same (subst (P mid.seen.base.site) a.state p)
 
-  abbrev one : Cut
-  one = record { frames = frame ∷ []; place = v.place + (8 + size); held = [] }
+  module _ {new : Seat} {w : View} {ys : List ℕ} (b : Passed mid new told u w ys) where
+    abbrev pub passed_more : Passed old new told v w (xs ++ ys)
+    passed_more =
+        let is = joined v.stream u.stream (events_of a.steps) xs ys a.events a.left in record {
+          steps = a.steps ++ b.steps;
+          rules = steps_append site v.state a.steps b.steps a.rules (there (λ (z : SiteData) (s : State). AreSteps z s b.steps) b.rules);
+          events = ap (λ (c : Assembled). c.events) is ∙ ap (λ (l : List Event). events_of a.steps ++ l) b.events
+              ∙ sym (append_assoc (events_of a.steps) (events_of b.steps) w.stream.events)
+              ∙ ap (λ (l : List Event). l ++ w.stream.events) (sym (events_append a.steps b.steps));
+          left = b.left ∙ sym (ap (λ (c : Assembled). c.left) is);
+          state = there (λ (z : SiteData) (s : State). w.state ≡ state_after z s b.steps) b.state ∙ sym (after_append site v.state a.steps b.steps);
+          adds = subst (λ (z : List Mark). Adds old new z) (sym (marks_append a.steps b.steps)) (adds_more a.adds b.adds);
+          moments = subst (HaveMoment told) (sym (marks_append a.steps b.steps)) (moments_append told (marks_of a.steps) (marks_of b.steps) a.moments b.moments);
+          out = there (λ (z : SiteData) (s : State). w.pending ≡ u.pending ++ out_of z s b.steps) b.out
+              ∙ ap (λ (z : List ℕ). z ++ out_of site (state_after site v.state a.steps) b.steps) a.out
+              ∙ append_assoc v.pending (out_of site v.state a.steps) (out_of site (state_after site v.state a.steps) b.steps)
+              ∙ ap (λ (z : List ℕ). v.pending ++ z) (sym (out_append site v.state a.steps b.steps));
+        }
 
-  -- the bytes are cut into this frame alone
-  alone : cut v.place (v.held ++ bytes) ≡ one
-  alone =
-      let payload : take size (drop 8 xs) ≡ drop 8 xs = take_all size (drop 8 xs) (omega (arith, length-drop 8 xs, all)) in
-      let none : drop (8 + size) xs ≡ [] = drop_all (8 + size) xs (omega (arith, all)) in
-      ap (cut v.place) (sym is) ∙ cut_whole v.place xs c size front
-      ∙ ap (λ (z : List ℕ). with_frame (record { command = c; payload = z; place = v.place }) (cut (v.place + (8 + size)) (drop (8 + size) xs))) payload
-      ∙ ap (λ (z : List ℕ). with_frame (record { command = c; payload = drop 8 xs; place = v.place }) (cut (v.place + (8 + size)) z)) none
-      ∙ ap (with_frame (record { command = c; payload = drop 8 xs; place = v.place })) (cut_none (v.place + (8 + size)))
-      ∙ ap (λ (n : ℕ). record { frames = record { command = c; payload = drop 8 xs; place = n } ∷ []; place = v.place + (8 + size); held = [] }) (sym place)
+  abbrev pub fed_on_more : {new : Seat} {w : View} {ys : List ℕ} → FedOn mid new told u w ys → FedOn old new told v w (xs ++ ys)
+  fed_on_more b = record { passed = passed_more b.passed; none = b.none; sound = b.sound }
 
-  frames : frames_from v.place (v.held ++ bytes) ≡ frame ∷ []
-  frames = ap (λ (k : Cut). k.frames) alone
-
-  unrefused_rest : refusal_from v.place (v.held ++ bytes) ≡ None
-  unrefused_rest = ap (λ (k : Cut). refused (front_of k.held) k.place) alone ∙ none_refused (v.place + (8 + size))
-
-  pub passed : (t w : View) → Passed old new moment u t frame → w ≡ record t { held = [] } → FedOn old new (Some moment) v w bytes
-  passed t w x same = record {
-    fed = record {
-      steps = x.step ∷ [];
-      follows = record {
-        rules = (subst (λ (z : State). IsStep old.seen.base z x.step) state x.rule, tt);
-        remaining = [];
-        all = frames ∙ rw x.event;
-        stands = sym unrefused_rest;
-      };
-      state = ap (λ (z : View). z.state) same ∙ x.state;
-      adds = subst (λ (z : List Mark). Adds old new z) (sym (append-nil x.step.marks)) x.adds;
-      moments = subst (HaveMoment (Some moment)) (sym (append-nil x.step.marks)) x.moments;
-      out = ap (λ (z : View). z.pending) same ∙ x.out ∙ ap (λ (z : List ℕ). z ++ x.step.out) pending ∙ ap (λ (z : List ℕ). v.pending ++ z) (sym (append-nil x.step.out));
-    };
-    place =
-        let long : length (drop 8 xs) ≡ size = omega (arith, length-drop 8 xs, all) in
-        ap (λ (z : View). z.place) same ∙ x.place ∙ ap (λ (n : ℕ). u.place + (8 + n)) long ∙ ap (λ (n : ℕ). n + (8 + size)) place ∙ sym (ap (λ (k : Cut). k.place) alone);
-    held = ap (λ (z : View). z.held) same ∙ sym (ap (λ (k : Cut). k.held) alone);
+  -- one event was answered
+  pub passed_step : {new : Seat} (w : View) (x : Step) → IsStep mid.seen.base.site u.state x → u.stream.events ≡ x.event ∷ w.stream.events → w.stream.left ≡ u.stream.left
+      → w.state ≡ after_step mid.seen.base.site u.state x → Adds mid new x.marks → HaveMoment told x.marks → w.pending ≡ u.pending ++ bytes_of u.state x → Passed old new told v w xs
+  passed_step {new} w x rule events left state adds moments out = record {
+    steps = a.steps ++ x ∷ [];
+    rules = steps_append site v.state a.steps (x ∷ []) a.rules (there (λ (z : SiteData) (s : State). IsStep z s x) rule, tt);
+    events = a.events ∙ ap (λ (l : List Event). events_of a.steps ++ l) events
+        ∙ sym (append_assoc (events_of a.steps) (x.event ∷ []) w.stream.events)
+        ∙ ap (λ (l : List Event). l ++ w.stream.events) (sym (events_append a.steps (x ∷ [])));
+    left = left ∙ a.left;
+    state = there (λ (z : SiteData) (s : State). w.state ≡ after_step z s x) state ∙ sym (after_append site v.state a.steps (x ∷ []));
+    adds = subst (λ (z : List Mark). Adds old new z) (ap (λ (z : List Mark). marks_of a.steps ++ z) (sym (append-nil x.marks)) ∙ sym (marks_append a.steps (x ∷ []))) (adds_more a.adds adds);
+    moments = subst (HaveMoment told) (ap (λ (z : List Mark). marks_of a.steps ++ z) (sym (append-nil x.marks)) ∙ sym (marks_append a.steps (x ∷ []))) (moments_append told (marks_of a.steps) x.marks a.moments moments);
+    out = there (λ (z : SiteData) (s : State). w.pending ≡ u.pending ++ bytes_of s x) out
+        ∙ ap (λ (z : List ℕ). z ++ bytes_of (state_after site v.state a.steps) x) a.out
+        ∙ append_assoc v.pending (out_of site v.state a.steps) (bytes_of (state_after site v.state a.steps) x)
+        ∙ ap (λ (z : List ℕ). v.pending ++ (out_of site v.state a.steps ++ z)) (sym (append-nil (bytes_of (state_after site v.state a.steps) x)))
+        ∙ ap (λ (z : List ℕ). v.pending ++ z) (sym (out_append site v.state a.steps (x ∷ [])));
   }
 
-  not_passed : (w : View) (refusal : Refusal) (at : ℕ) → NotPassed old new u w frame refusal at → Fed old new (Some moment) v w bytes (Some (refusal, at))
-  not_passed w refusal at x = record {
-    steps = [];
-    follows = record {
-      rules = tt;
-      remaining = frame ∷ [];
-      all = frames;
-      stands = (subst (λ (z : State). unreadable z frame ≡ true) state x.refused, ap Some (λ i. (x.refusal_is i, x.place i)));
-    };
-    state = x.state ∙ state;
-    adds = subst (λ (z : Seat). Adds old z []) (sym x.seat) (adds_nothing old);
-    moments = tt;
-    out = x.out ∙ pending ∙ sym (append-nil v.pending);
-  }
+  -- the next event isn't in turn
+  pub fed_stopped : {new : Seat} (w : View) (ys : List ℕ) (e : Event) (later : List Event) (ended : Ended) → u.stream.events ≡ e ∷ later → stop_of mid.seen.base.site u.state e ≡ Some ended
+      → new ≡ mid → w.pending ≡ u.pending → FedUpTo old new told v w (xs ++ ys) ended
+  fed_stopped {new} w ys e later ended events stop seat pending =
+      let more = grown v.stream xs ys in
+      let here = there (λ (z : SiteData) (s : State). stop_of z s e ≡ Some ended) stop in record {
+        steps = a.steps;
+        follows = record {
+          rules = a.rules;
+          remaining = e ∷ (later ++ more.0);
+          all = more.1 ∙ ap (λ (l : List Event). l ++ more.0) (a.events ∙ ap (λ (l : List Event). events_of a.steps ++ l) events)
+              ∙ append_assoc (events_of a.steps) (e ∷ later) more.0;
+          stands = (sym here, ap (λ (o : Option Ended). is_some o) here);
+        };
+        adds = subst (λ (z : Seat). Adds old z (marks_of a.steps)) (sym seat) a.adds;
+        moments = a.moments;
+        out = pending ∙ a.out;
+      }
 
-  gave_up : (w : View) → GaveUp old new moment u.pending w.pending (Part old.seen.base u.state (message_at c (drop 8 xs))) → FedPart old new (Some moment) v w bytes
-  gave_up w x = record {
-    steps = [];
-    more = x.marks;
-    rules = tt;
-    front = record { rest = frames_from v.place (v.held ++ bytes); whole = refl };
-    part = subst (λ (l : List Frame). RowPart old.seen.base v.state l x.marks) (sym frames) (subst (λ (z : State). Part old.seen.base z (message_at c (drop 8 xs)) x.marks) state x.part_is);
-    adds = x.adds;
-    moments = x.moments;
-    out = x.out ∙ pending ∙ sym (append-nil v.pending);
-  }
+  -- a header is refused behind the events that were answered
+  pub fed_refused : (w : View) (ys : List ℕ) (fault : FrameFault) → u.stream.events ≡ [] → u.stream.left ≡ Err fault → w.pending ≡ u.pending
+      → FedUpTo old mid told v w (xs ++ ys) (ends.Bad (faults.Frame fault) (place_of_fault fault))
+  fed_refused w ys fault none left pending =
+      let nothing : u.stream ≡ (let b : Assembled = record { events = []; left = Err fault } in b) = λ i. record { events = none i; left = left i } in
+      let is = joined v.stream u.stream (events_of a.steps) xs ys a.events a.left
+      ∙ ap (λ (c : Assembled). let b : Assembled = record { events = events_of a.steps ++ (fed c ys).events; left = (fed c ys).left } in b) nothing in record {
+        steps = a.steps;
+        follows = record {
+          rules = a.rules;
+          remaining = [];
+          all = ap (λ (c : Assembled). c.events) is;
+          stands = sym (ap (λ (c : Assembled). refused c.left) is);
+        };
+        adds = a.adds;
+        moments = a.moments;
+        out = pending ∙ a.out;
+      }
 
-  pub stopped : (w : View) (e : FeedStop) → Passes old new moment u w frame (Err e) → Feeds old new (Some moment) v w bytes (Err e)
-  stopped w (stops.Refused refusal at) x = not_passed w refusal at x
-  stopped w stops.NoMemory x = gave_up w x
+  abbrev pub fed_up_to_more : {new : Seat} {w : View} {ys : List ℕ} {ended : Ended} → FedUpTo mid new told u w ys ended → FedUpTo old new told v w (xs ++ ys) ended
+  fed_up_to_more {new} {w} {ys} {ended} b =
+      let is = joined v.stream u.stream (events_of a.steps) xs ys a.events a.left in
+      let left : (fed v.stream (xs ++ ys)).left ≡ (fed u.stream ys).left = ap (λ (c : Assembled). c.left) is in record {
+        steps = a.steps ++ b.steps;
+        follows = record {
+          rules = steps_append site v.state a.steps b.steps a.rules (there (λ (z : SiteData) (s : State). AreSteps z s b.steps) b.follows.rules);
+          remaining = b.follows.remaining;
+          all = ap (λ (c : Assembled). c.events) is ∙ ap (λ (l : List Event). events_of a.steps ++ l) b.follows.all
+              ∙ sym (append_assoc (events_of a.steps) (events_of b.steps) b.follows.remaining)
+              ∙ ap (λ (l : List Event). l ++ b.follows.remaining) (sym (events_append a.steps b.steps));
+          stands = subst (λ (s : State). Stands site s b.follows.remaining (fed v.stream (xs ++ ys)).left (Some ended)) (sym (after_append site v.state a.steps b.steps))
+              (subst (λ (l : Result Unfinished FrameFault). Stands site (state_after site (state_after site v.state a.steps) b.steps) b.follows.remaining l (Some ended)) (sym left)
+              (there (λ (z : SiteData) (s : State). Stands z (state_after z s b.steps) b.follows.remaining (fed u.stream ys).left (Some ended)) b.follows.stands));
+        };
+        adds = subst (λ (z : List Mark). Adds old new z) (sym (marks_append a.steps b.steps)) (adds_more a.adds b.adds);
+        moments = subst (HaveMoment told) (sym (marks_append a.steps b.steps)) (moments_append told (marks_of a.steps) (marks_of b.steps) a.moments b.moments);
+        out = there (λ (z : SiteData) (s : State). w.pending ≡ u.pending ++ out_of z s b.steps) b.out
+            ∙ ap (λ (z : List ℕ). z ++ out_of site (state_after site v.state a.steps) b.steps) a.out
+            ∙ append_assoc v.pending (out_of site v.state a.steps) (out_of site (state_after site v.state a.steps) b.steps)
+            ∙ ap (λ (z : List ℕ). v.pending ++ z) (sym (out_append site v.state a.steps b.steps));
+      }
+
+  abbrev pub fed_part_more : {new : Seat} {w : View} {ys : List ℕ} → FedPart mid new told u w ys → FedPart old new told v w (xs ++ ys)
+  fed_part_more {new} {w} {ys} b =
+      let is = joined v.stream u.stream (events_of a.steps) xs ys a.events a.left in
+      let marks : marks_of a.steps ++ (marks_of b.steps ++ b.more) ≡ marks_of (a.steps ++ b.steps) ++ b.more =
+      sym (append_assoc (marks_of a.steps) (marks_of b.steps) b.more) ∙ ap (λ (z : List Mark). z ++ b.more) (sym (marks_append a.steps b.steps)) in record {
+        steps = a.steps ++ b.steps;
+        more = b.more;
+        rules = steps_append site v.state a.steps b.steps a.rules (there (λ (z : SiteData) (s : State). AreSteps z s b.steps) b.rules);
+        front = record {
+          rest = b.front.rest;
+          whole = ap (λ (c : Assembled). c.events) is ∙ ap (λ (l : List Event). events_of a.steps ++ l) b.front.whole
+              ∙ sym (append_assoc (events_of a.steps) (events_of b.steps) b.front.rest)
+              ∙ ap (λ (l : List Event). l ++ b.front.rest) (sym (events_append a.steps b.steps));
+        };
+        part = subst (λ (s : State). NextPart site s b.front.rest b.more) (sym (after_append site v.state a.steps b.steps))
+            (there (λ (z : SiteData) (s : State). NextPart z (state_after z s b.steps) b.front.rest b.more) b.part);
+        adds = subst (λ (z : List Mark). Adds old new z) marks (adds_more a.adds b.adds);
+        moments = subst (HaveMoment told) marks (moments_append told (marks_of a.steps) (marks_of b.steps ++ b.more) a.moments b.moments);
+        out = there (λ (z : SiteData) (s : State). w.pending ≡ u.pending ++ out_of z s b.steps) b.out
+            ∙ ap (λ (z : List ℕ). z ++ out_of site (state_after site v.state a.steps) b.steps) a.out
+            ∙ append_assoc v.pending (out_of site v.state a.steps) (out_of site (state_after site v.state a.steps) b.steps)
+            ∙ ap (λ (z : List ℕ). v.pending ++ z) (sym (out_append site v.state a.steps b.steps));
+      }
+
+  -- memory ran out in the row of the next event, or before it
+  pub fed_part : {new : Seat} (w : View) (ys : List ℕ) (more : List Mark) → NextPart mid.seen.base.site u.state u.stream.events more → Adds mid new more → HaveMoment told more
+      → w.pending ≡ u.pending → FedPart old new told v w (xs ++ ys)
+  fed_part {new} w ys more part adds moments pending =
+      let later = grown v.stream xs ys in record {
+        steps = a.steps;
+        more = more;
+        rules = a.rules;
+        front = record {
+          rest = u.stream.events ++ later.0;
+          whole = later.1 ∙ ap (λ (l : List Event). l ++ later.0) a.events ∙ append_assoc (events_of a.steps) u.stream.events later.0;
+        };
+        part = part_grows site (state_after site v.state a.steps) u.stream.events later.0 more (there (λ (z : SiteData) (s : State). NextPart z s u.stream.events more) part);
+        adds = adds_more a.adds adds;
+        moments = moments_append told (marks_of a.steps) more a.moments moments;
+        out = pending ∙ a.out;
+      }
+
+-- a feeding that ended, behind bytes that were fed before
+pub fed_err : {old mid : Seat} {told : Option Moment} {v u : View} {xs : List ℕ} (new : Seat) (w : View) (ys : List ℕ) (ended : Ended) → Passed old mid told v u xs
+    → FedErr mid new told u w ys ended → FedErr old new told v w (xs ++ ys) ended
+fed_err new w ys (ends.Bad fault place) a b = fed_up_to_more a b
+fed_err new w ys (ends.NotBuilt command place) a b = fed_up_to_more a b
+fed_err new w ys ends.NoMemory a b = fed_part_more a b
+fed_err new w ys ends.Closed a b = b
+fed_err new w ys (ends.Truncated place) a b = b
+fed_err new w ys ends.ReadFault a b = b
+fed_err new w ys ends.WriteFault a b = b
+fed_err new w ys (ends.Spent calls) a b = b

@@ -1,49 +1,76 @@
 -- What the calls of a session do.
-use Rattle.std.specs.Prelude.{◌≡◌, ℕ, ℤ, true, false, List, ◌++◌, Option, Some, Result, Ok, Err}
-use Rattle.first_messages.specs.Requests.{message_at}
-use Rattle.first_messages.specs.declared.to_server.ToServer.{ToServer}
-use Rattle.first_messages.specs.declared.no_memory.NoMemory.{NoMemory}
-use Rattle.desk_api.specs.Marks.{Adds, HaveMoment}
+use Rattle.std.specs.Prelude.{◌≡◌, ℕ, List, ◌++◌, Some, Result, Ok, Err}
+use Rattle.pva_frames.specs.declared.event.Event.{Event}
+use Rattle.pvd_type.specs.declared.memory.NoMemory.{NoMemory}
+use Rattle.desk_api.specs.Calls.{Adds, HaveMoment}
+use Rattle.desk_api.specs.declared.history.SiteData.{SiteData}
 use Rattle.desk_api.specs.declared.mark.Mark.{Mark}
 use Rattle.desk_api.specs.declared.mark.Seat.{Seat}
-use Rattle.srv_stream.specs.Talk.{State, is_refused, Answers, Part}
-use Rattle.srv_stream.specs.declared.session.SessionStop.{SessionStop}
-use Rattle.srv_stream.specs.declared.session.SessionStop.TheVariants as stops
+use Rattle.srv_stream.specs.State.{State}
+use Rattle.srv_stream.specs.Turns.{Turn, Hearing, asks, not_built, unreadable, heard}
+use Rattle.srv_stream.specs.Rows.{Sent, spelled_all, Row, Part, after_turn}
+use Rattle.srv_stream.specs.Steps.{IsAnswer, PartOf, after_event}
+use Rattle.srv_stream.specs.declared.turn.SessionStop.{SessionStop}
+use Rattle.srv_stream.specs.declared.turn.SessionStop.TheVariants as stops
+use Rattle.journal_core.specs.Moments.{Moment}
 
--- One row was answered. An entry that it made has the moment of the call.
-pub record Answered (old new : Seat) (moment : ℤ × ℕ) (t : State) (before after : List ℕ) (row : List Mark → List ℕ → State → Type 0) : Type 0 where
+-- what a session and its desk show
+pub record Shown : Type 0 where
+  pub seat : Seat
+  pub state : State
+  pub output : List ℕ
+
+abbrev pub site_of : Shown → SiteData
+site_of x = x.seat.seen.base.site
+
+-- A turn was answered by its row. An entry that it made has the moment of the call.
+pub record Answered (old new : Shown) (moment : Moment) (turn : Turn) : Type 0 where
   pub marks : List Mark
-  pub bytes : List ℕ
-  pub row_is : row marks bytes t
-  pub adds : Adds old new marks
+  pub sent : List Sent
+  pub row : Row (site_of old) old.state turn marks sent
+  pub adds : Adds old.seat new.seat marks
   pub moments : HaveMoment (Some moment) marks
-  pub out : after ≡ before ++ bytes
+  pub state : new.state ≡ after_turn (site_of old) old.state turn marks
+  pub output : new.output ≡ old.output ++ spelled_all old.state.order old.state.segment sent
 
--- memory ran out: some marks of one more row may stand in the log
-pub record GaveUp (old new : Seat) (moment : ℤ × ℕ) (before after : List ℕ) (part : List Mark → Type 0) : Type 0 where
+-- Memory ran out in it.
+pub record GaveUp (old new : Shown) (moment : Moment) (part : List Mark → Type 0) : Type 0 where
   pub marks : List Mark
   pub part_is : part marks
-  pub adds : Adds old new marks
+  pub adds : Adds old.seat new.seat marks
   pub moments : HaveMoment (Some moment) marks
-  pub out : after ≡ before
+  pub output : new.output ≡ old.output
 
-abbrev pub AnswersRow : Seat → Seat → ℤ × ℕ → State → List ℕ → List ℕ → (List Mark → List ℕ → State → Type 0) → (List Mark → Type 0) → Result (Unit {0}) NoMemory → Type 0
-AnswersRow old new moment t before after row part (Ok u) = Answered old new moment t before after row
-AnswersRow old new moment t before after row part (Err e) = GaveUp old new moment before after part
+-- One call of a row's function, by its answer.
+abbrev pub Takes : Shown → Shown → Moment → Turn → Result (Unit {0}) NoMemory → Type 0
+Takes old new moment turn (Ok u) = Answered old new moment turn
+Takes old new moment turn (Err e) = GaveUp old new moment (Part (site_of old) old.state turn)
 
--- the message was answered by its row, which was in turn
-pub record Handled (old new : Seat) (moment : ℤ × ℕ) (s t : State) (before after : List ℕ) (message : Option ToServer) : Type 0 where
-  pub in_turn : is_refused s message ≡ false
-  pub answered : Answered old new moment t before after (Answers old.seen.base s message)
+-- an event was answered
+pub record Handled (old new : Shown) (moment : Moment) (e : Event) : Type 0 where
+  pub marks : List Mark
+  pub sent : List Sent
+  pub answers : IsAnswer (site_of old) old.state (heard (site_of old) old.state e) marks sent
+  pub adds : Adds old.seat new.seat marks
+  pub moments : HaveMoment (Some moment) marks
+  pub state : new.state ≡ after_event (site_of old) old.state e marks
+  pub output : new.output ≡ old.output ++ spelled_all old.state.order old.state.segment sent
 
--- it isn't served next: nothing has changed
-pub record Refused (old new : Seat) (s t : State) (before after : List ℕ) (message : Option ToServer) : Type 0 where
-  pub seat : new ≡ old
-  pub refused : is_refused s message ≡ true
-  pub state : t ≡ s
-  pub out : after ≡ before
+-- An event that is always in turn was answered, or memory ran out in it.
+abbrev pub Responds : Shown → Shown → Moment → Event → Result (Unit {0}) NoMemory → Type 0
+Responds old new moment e (Ok u) = Handled old new moment e
+Responds old new moment e (Err no_memory) =
+    GaveUp old new moment (PartOf (site_of old) old.state (heard (site_of old) old.state e))
 
-abbrev pub Handles : Seat → Seat → ℤ × ℕ → State → State → List ℕ → List ℕ → ℕ → List ℕ → Result (Unit {0}) SessionStop → Type 0
-Handles old new moment s t before after command payload (Ok u) = Handled old new moment s t before after (message_at command payload)
-Handles old new moment s t before after command payload (Err stops.NotBuilt) = Refused old new s t before after (message_at command payload)
-Handles old new moment s t before after command payload (Err stops.NoMemory) = GaveUp old new moment before after (Part old.seen.base s (message_at command payload))
+-- It isn't in turn, and nothing has changed.
+pub record Stopped (old new : Shown) (e : Event) (hearing : Hearing) : Type 0 where
+  pub heard_is : heard (site_of old) old.state e ≡ hearing
+  pub seat : new.seat ≡ old.seat
+  pub output : new.output ≡ old.output
+
+abbrev pub Handles : Shown → Shown → Moment → Event → Result (Unit {0}) SessionStop → Type 0
+Handles old new moment e (Ok u) = Handled old new moment e
+Handles old new moment e (Err stops.NotBuilt) = Stopped old new e not_built
+Handles old new moment e (Err (stops.Message fault)) = Stopped old new e (unreadable fault)
+Handles old new moment e (Err stops.NoMemory) =
+    GaveUp old new moment (PartOf (site_of old) old.state (heard (site_of old) old.state e))

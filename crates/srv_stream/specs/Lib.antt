@@ -1,10 +1,11 @@
-pub mod Talk
-pub mod Views
+pub mod State
+pub mod Turns
+pub mod Rows
+pub mod Steps
 pub mod Calls
+pub mod Hearings
 pub mod Streams
-pub mod ServingView
+pub mod Views
 pub mod Moves
 pub mod Served
-pub mod Exact
-pub mod Unserved
-pub mod Going
+pub mod Laws

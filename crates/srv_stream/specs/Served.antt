@@ -1,50 +1,51 @@
 -- What serving one connection means.
-use Rattle.std.specs.Prelude.{◌≡◌, ℕ, ℤ, ◌+◌, ◌<◌, ◌≤◌, ◌^◌, ◌⊎◌, List, [], ◌++◌, length, Option, None, Some}
+use Rattle.std.specs.Prelude.{◌≡◌, ℕ, ◌+◌, ◌<◌, ◌≤◌, ◌^◌, ◌⊎◌, List, [], ◌∷◌, ◌++◌, length, Option, None, Some}
 use Rattle.pva_outside.specs.Count.{Rose}
-use Rattle.pva_outside.specs.Wire.{Wire}
+use Rattle.pva_outside.specs.Wire.{Wire, Failed}
 use Rattle.pva_wire.specs.declared.order.Order.{Order}
-use Rattle.first_messages.specs.Frames.{Frame, frames_from, refusal_from, rest_from}
-use Rattle.first_messages.specs.Replies.{greeting}
-use Rattle.first_messages.specs.declared.frame.Refusal.{Refusal}
-use Rattle.first_messages.specs.declared.frame.Refusal.TheVariants as refusals
-use Rattle.desk_api.specs.History.{IsPrefixOf}
-use Rattle.desk_api.specs.Marks.{Adds, HaveMoment}
-use Rattle.desk_api.specs.declared.history.Base.{Base}
+use Rattle.pva_frames.specs.Messages.{events_from, left_from}
+use Rattle.pva_frames.specs.Assembled.{rest_from}
+use Rattle.pva_frames.specs.declared.event.Event.{Event}
+use Rattle.histories.specs.History.{IsPrefixOf}
+use Rattle.desk_api.specs.Calls.{Adds, HaveMoment}
+use Rattle.desk_api.specs.declared.history.SiteData.{SiteData}
 use Rattle.desk_api.specs.declared.mark.Mark.{Mark}
 use Rattle.desk_api.specs.declared.mark.Seat.{Seat}
-use Rattle.srv_stream.specs.Talk.{State, Step, opening, AreSteps, state_after, events_of, marks_of, out_of, AreEndings, RowPart, AreServed}
-use Rattle.srv_stream.specs.Streams.{Trouble, Stands}
+use Rattle.srv_stream.specs.State.{opening}
+use Rattle.srv_stream.specs.Rows.{greeting}
+use Rattle.srv_stream.specs.Steps.{Step, AreSteps, state_after, events_of, marks_of, out_of, AreEndings, NextPart, after_next}
+use Rattle.srv_stream.specs.Streams.{Stands, stop_of}
 use Rattle.srv_stream.specs.Moves.{Moves, IsAll}
-use Rattle.srv_stream.specs.declared.serve.StreamFault.TheVariants as faults
-use Rattle.srv_stream.specs.declared.serve.Ended.{Ended}
-use Rattle.srv_stream.specs.declared.serve.Ended.TheVariants as ends
+use Rattle.srv_stream.specs.declared.ended.Ended.{Ended}
+use Rattle.srv_stream.specs.declared.ended.Ended.TheVariants as ends
+use Rattle.journal_core.specs.Moments.{Moment}
 
--- A dialogue that goes on: on this site, in this byte order, these frames and marks give these bytes, the greeting first.
-pub record Talk (base : Base) (order : Order) (events : List Frame) (marks : List Mark) (out : List ℕ) : Type 0 where
+-- A dialogue that goes on: on this site, in this byte order, these events and marks give these bytes, the greeting first.
+pub record Talk (site : SiteData) (order : Order) (events : List Event) (marks : List Mark) (out : List ℕ) : Type 0 where
   pub steps : List Step
-  pub rules : AreSteps base (opening order) steps
+  pub rules : AreSteps site (opening order) steps
   pub events_are : events_of steps ≡ events
   pub marks_are : marks_of steps ≡ marks
-  pub out_is : greeting order ++ out_of steps ≡ out
+  pub out_is : greeting order ++ out_of site (opening order) steps ≡ out
 
 -- A dialogue that has ended: its last marks end the subscriptions, and give no bytes.
-pub record Dialogue (base : Base) (order : Order) (events : List Frame) (marks : List Mark) (out : List ℕ) : Type 0 where
+pub record Dialogue (site : SiteData) (order : Order) (events : List Event) (marks : List Mark) (out : List ℕ) : Type 0 where
   pub said : List Mark
   pub endings : List Mark
-  pub talk : Talk base order events said out
+  pub talk : Talk site order events said out
   pub marks_are : said ++ endings ≡ marks
-  pub ends : AreEndings (state_after (opening order) talk.steps) endings
+  pub ends : AreEndings (state_after site (opening order) talk.steps) endings
 
--- The dialogue of the bytes that were read: of all their frames, or of those before the first trouble.
-pub record Whole (base : Base) (order : Order) (read : List ℕ) (log : List Mark) (out : List ℕ) (trouble : Trouble) : Type 0 where
-  pub events : List Frame
-  pub remaining : List Frame
-  pub all : frames_from 0 read ≡ events ++ remaining
-  pub dialogue : Dialogue base order events log out
-  pub stands : Stands (state_after (opening order) dialogue.talk.steps) remaining (refusal_from 0 read) trouble
+-- The dialogue of the bytes that were read: of all their events, or of those before the first trouble.
+pub record Whole (site : SiteData) (order : Order) (read : List ℕ) (log : List Mark) (out : List ℕ) (trouble : Option Ended) : Type 0 where
+  pub events : List Event
+  pub remaining : List Event
+  pub all : events_from 0 None read ≡ events ++ remaining
+  pub dialogue : Dialogue site order events log out
+  pub stands : Stands site (state_after site (opening order) dialogue.talk.steps) remaining (left_from 0 None read) trouble
 
 -- What is written begins with the output of a dialogue of all that was read but the last piece, of at most 4,096 bytes.
-pub record Settled (base : Base) (order : Order) (read written : List ℕ) (log : List Mark) : Type 0 where
+pub record Settled (site : SiteData) (order : Order) (read written : List ℕ) (log : List Mark) : Type 0 where
   pub before : List ℕ
   pub piece : List ℕ
   pub said : List Mark
@@ -53,7 +54,7 @@ pub record Settled (base : Base) (order : Order) (read written : List ℕ) (log 
   pub read_is : read ≡ before ++ piece
   pub small : length piece ≤ 4096
   pub log_is : log ≡ said ++ later
-  pub talk : Talk base order (frames_from 0 before) said out
+  pub talk : Talk site order (events_from 0 None before) said out
   pub begins : IsPrefixOf out written
 
 pub record IsProperPrefixOf (xs ys : List ℕ) : Type 0 where
@@ -61,97 +62,110 @@ pub record IsProperPrefixOf (xs ys : List ℕ) : Type 0 where
   pub whole : ys ≡ xs ++ rest
   pub some : 0 < length rest
 
--- the answers
+-- The answers.
 
 -- the end of the stream was met: all was read, and all replies were written
-pub record AtEnd (base : Base) (order : Order) (start end : Wire) (read written : List ℕ) (log : List Mark) (rest : Option ℕ) : Type 0 where
-  pub whole : Whole base order read log written None
-  pub rest_is : rest_from 0 read ≡ rest
+pub record AtEnd (site : SiteData) (order : Order) (start end : Wire) (read written : List ℕ) (log : List Mark) (rest : Option ℕ) : Type 0 where
+  pub whole : Whole site order read log written None
+  pub rest_is : rest_from 0 None read ≡ rest
   pub all : IsAll start.left read
   pub ends : Rose start.ends end.ends
   pub faults : end.faults ≡ start.faults
 
--- a frame isn't taken: all replies before it were written
-pub record AtTrouble (base : Base) (order : Order) (start end : Wire) (read written : List ℕ) (log : List Mark) (refusal : Refusal) (place : ℕ) : Type 0 where
-  pub whole : Whole base order read log written (Some (refusal, place))
+-- a header is refused, or an event isn't in turn: all replies before it were written
+pub record AtTrouble (site : SiteData) (order : Order) (start end : Wire) (read written : List ℕ) (log : List Mark) (ended : Ended) : Type 0 where
+  pub whole : Whole site order read log written (Some ended)
   pub ends : end.ends ≡ start.ends
   pub faults : end.faults ≡ start.faults
 
-pub record AtReadFault (base : Base) (order : Order) (start end : Wire) (read written : List ℕ) (log : List Mark) : Type 0 where
-  pub whole : Whole base order read log written None
-  pub ends : end.ends ≡ start.ends
-  pub faults : Rose start.faults end.faults
+-- One call of the link failed, the first: before it no fault was counted.
+pub record FirstFault (start end : Wire) : Type 0 where
+  pub before : Wire
+  pub faults : before.faults ≡ start.faults
+  pub call : Failed before end
 
-pub record AtWriteFault (base : Base) (order : Order) (start end : Wire) (read written : List ℕ) (log : List Mark) : Type 0 where
+pub record AtReadFault (site : SiteData) (order : Order) (start end : Wire) (read written : List ℕ) (log : List Mark) : Type 0 where
+  pub whole : Whole site order read log written None
+  pub ends : end.ends ≡ start.ends
+  pub fault : FirstFault start end
+
+pub record AtWriteFault (site : SiteData) (order : Order) (start end : Wire) (read written : List ℕ) (log : List Mark) : Type 0 where
   pub out : List ℕ
-  pub trouble : Trouble
-  pub whole : Whole base order read log out trouble
+  pub trouble : Option Ended
+  pub whole : Whole site order read log out trouble
   pub short : IsProperPrefixOf written out
-  pub faults : Rose start.faults end.faults
+  pub fault : FirstFault start end
 
 -- a further read was due: all was written, nothing is wrong and the end isn't met
-pub record DueRead (start end : Wire) (written out : List ℕ) (trouble : Trouble) : Type 0 where
+pub record DueRead (start end : Wire) (written out : List ℕ) (trouble : Option Ended) : Type 0 where
   pub taken : written ≡ out
   pub trouble_is : trouble ≡ None
   pub ends : end.ends ≡ start.ends
 
 -- the turns were spent, and a further call was due: to write what is left, or to read
-pub record AtSpent (base : Base) (order : Order) (start end : Wire) (turns : ℕ) (read written : List ℕ) (log : List Mark) (calls : ℕ) : Type 0 where
+pub record AtSpent (site : SiteData) (order : Order) (start end : Wire) (turns : ℕ) (read written : List ℕ) (log : List Mark) (calls : ℕ) : Type 0 where
   pub out : List ℕ
-  pub trouble : Trouble
-  pub whole : Whole base order read log out trouble
+  pub trouble : Option Ended
+  pub whole : Whole site order read log out trouble
   pub due : IsProperPrefixOf written out ⊎ DueRead start end written out trouble
   pub all : calls ≡ turns
   pub bound : end.idles + 1 < 2 ^ 64 → start.idles + calls ≤ end.idles + length read + length written + 1
   pub faults : end.faults ≡ start.faults
 
--- Memory ran out: some frames were answered, and marks of the next row may stand before the endings.
-pub record AtNoMemory (base : Base) (order : Order) (read written : List ℕ) (log : List Mark) : Type 0 where
-  pub events : List Frame
+-- Memory ran out: some events were answered, and marks of the row of the next, where it is in turn, may stand before the
+-- endings. These are of the state that those marks leave.
+pub record AtNoMemory (site : SiteData) (order : Order) (start end : Wire) (read written : List ℕ) (log : List Mark) : Type 0 where
+  pub events : List Event
   pub said : List Mark
   pub more : List Mark
   pub endings : List Mark
   pub out : List ℕ
-  pub state : State
-  pub talk : Talk base order events said out
-  pub front : IsPrefixOf events (frames_from 0 read)
-  pub part : RowPart base (state_after (opening order) talk.steps) front.rest more
-  pub ends : AreEndings state endings
+  pub talk : Talk site order events said out
+  pub front : IsPrefixOf events (events_from 0 None read)
+  pub part : NextPart site (state_after site (opening order) talk.steps) front.rest more
+  pub ends : AreEndings (after_next site (state_after site (opening order) talk.steps) front.rest more) endings
   pub log_is : (said ++ more) ++ endings ≡ log
   pub begins : IsPrefixOf written out
+  pub faults : end.faults ≡ start.faults
 
-abbrev pub Answers : Base → Order → Wire → Wire → ℕ → List ℕ → List ℕ → List Mark → Ended → Type 0
-Answers base order start end turns read written log ends.Closed = AtEnd base order start end read written log None
-Answers base order start end turns read written log (ends.Truncated place) = AtEnd base order start end read written log (Some place)
-Answers base order start end turns read written log (ends.Bad (faults.Frame fault) place) = AtTrouble base order start end read written log (refusals.Frame fault) place
-Answers base order start end turns read written log (ends.NotBuilt command place) = AtTrouble base order start end read written log (refusals.NotBuilt command) place
-Answers base order start end turns read written log ends.ReadFault = AtReadFault base order start end read written log
-Answers base order start end turns read written log ends.WriteFault = AtWriteFault base order start end read written log
-Answers base order start end turns read written log (ends.Spent calls) = AtSpent base order start end turns read written log calls
-Answers base order start end turns read written log ends.NoMemory = AtNoMemory base order read written log
+abbrev pub Answers : SiteData → Order → Wire → Wire → ℕ → List ℕ → List ℕ → List Mark → Ended → Type 0
+Answers site order start end turns read written log ends.Closed = AtEnd site order start end read written log None
+Answers site order start end turns read written log (ends.Truncated place) = AtEnd site order start end read written log (Some place)
+Answers site order start end turns read written log (ends.Bad fault place) = AtTrouble site order start end read written log (ends.Bad fault place)
+Answers site order start end turns read written log (ends.NotBuilt command place) = AtTrouble site order start end read written log (ends.NotBuilt command place)
+Answers site order start end turns read written log ends.ReadFault = AtReadFault site order start end read written log
+Answers site order start end turns read written log ends.WriteFault = AtWriteFault site order start end read written log
+Answers site order start end turns read written log (ends.Spent calls) = AtSpent site order start end turns read written log calls
+Answers site order start end turns read written log ends.NoMemory = AtNoMemory site order start end read written log
 
--- The link's faults don't rise, all that was read is whole frames that are served, and the turns are enough.
-pub record IsSmooth (base : Base) (order : Order) (start end : Wire) (turns : ℕ) (read written : List ℕ) : Type 0 where
+-- Each event is in turn when the dialogue comes to it, whatever front of the log its marks are.
+abbrev pub AllInTurn : SiteData → Order → List Event → List Mark → Type 0
+AllInTurn site order events log = (steps : List Step) (e : Event) (more : List Event) → AreSteps site (opening order) steps
+    → events ≡ events_of steps ++ e ∷ more → IsPrefixOf (marks_of steps) log
+    → stop_of site (state_after site (opening order) steps) e ≡ None
+
+-- The link's faults don't rise, all that was read is whole messages that are in turn, and the turns are enough.
+pub record IsSmooth (site : SiteData) (order : Order) (start end : Wire) (turns : ℕ) (read written : List ℕ) (log : List Mark) : Type 0 where
   pub faults : Rose start.faults end.faults → ⊥
-  pub served : AreServed base (opening order) (frames_from 0 read)
-  pub unrefused : refusal_from 0 read ≡ None
-  pub whole : rest_from 0 read ≡ None
+  pub in_turn : AllInTurn site order (events_from 0 None read) log
+  pub whole : rest_from 0 None read ≡ None
   pub idles : end.idles + 1 < 2 ^ 64
   pub turns_ : end.idles + length read + length written + 2 ≤ start.idles + turns
 
 -- Then the answer is Closed, or memory ran out.
-abbrev pub Completes : Base → Order → Wire → Wire → ℕ → List ℕ → List ℕ → Ended → Type 0
-Completes base order start end turns read written result = IsSmooth base order start end turns read written → (result ≡ ends.Closed) ⊎ (result ≡ ends.NoMemory)
+abbrev pub Completes : SiteData → Order → Wire → Wire → ℕ → List ℕ → List ℕ → List Mark → Ended → Type 0
+Completes site order start end turns read written log result =
+    IsSmooth site order start end turns read written log → (result ≡ ends.Closed) ⊎ (result ≡ ends.NoMemory)
 
 -- One connection: what was read and written, the marks of the desk, and why it ended. The entries of the seat are those of
 -- its marks (`adds.own`), each at the moment that the clock tells.
-pub record Served (old new : Seat) (start end : Wire) (told : Option (ℤ × ℕ)) (order : Order) (turns : ℕ) (result : Ended) : Type 0 where
+pub record Served (old new : Seat) (start end : Wire) (told : Option Moment) (order : Order) (turns : ℕ) (result : Ended) : Type 0 where
   pub log : List Mark
   pub read : List ℕ
   pub written : List ℕ
   pub adds : Adds old new log
   pub moments : HaveMoment told log
   pub moves : Moves start end read written
-  pub settled : (read ≡ []) ⊎ Settled old.seen.base order read written log
-  pub answer : Answers old.seen.base order start end turns read written log result
-  pub complete : Completes old.seen.base order start end turns read written result
+  pub settled : (read ≡ []) ⊎ Settled old.seen.base.site order read written log
+  pub answer : Answers old.seen.base.site order start end turns read written log result
+  pub complete : Completes old.seen.base.site order start end turns read written log result

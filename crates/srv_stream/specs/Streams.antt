@@ -1,110 +1,162 @@
 -- What pieces of a stream make a session say.
-use Rattle.std.specs.Prelude.{◌≡◌, ℕ, ℤ, ◌+◌, ◌<◌, ◌≤◌, true, List, [], ◌∷◌, ◌++◌, length, take, Option, None, Some, Result, Ok, Err}
-use Rattle.first_messages.specs.Frames.{Frame, frames_from, place_from, held_of, refusal_from, unfinished}
-use Rattle.first_messages.specs.Requests.{message_at}
-use Rattle.first_messages.specs.declared.frame.Refusal.{Refusal}
-use Rattle.first_messages.specs.declared.frame.Refusal.TheVariants as refusals
-use Rattle.desk_api.specs.History.{IsPrefixOf}
-use Rattle.desk_api.specs.Marks.{Adds, HaveMoment}
-use Rattle.desk_api.specs.declared.history.Base.{Base}
+use Rattle.std.specs.Prelude.{◌≡◌, ℕ, ℤ, ◌<◌, ◌≤◌, Bool, true, length, take, List, [], ◌∷◌, ◌++◌, Option, None, Some, is_some, Result, Ok, Err}
+use Rattle.std.specs.Result.{result_err}
+use Rattle.pva_frames.specs.Messages.{Unfinished}
+use Rattle.pva_frames.specs.Reader.{is_unfinished}
+use Rattle.pva_frames.specs.Assembled.{Assembled, fed, place_of_fault}
+use Rattle.pva_frames.specs.declared.event.Whole.{Whole}
+use Rattle.pva_frames.specs.declared.event.Event.{Event}
+use Rattle.pva_frames.specs.declared.event.Event.TheVariants.{Message, Control}
+use Rattle.pva_frames.specs.declared.fault.FrameFault.{FrameFault}
+use Rattle.histories.specs.History.{IsPrefixOf}
+use Rattle.desk_api.specs.Calls.{Adds, HaveMoment}
+use Rattle.desk_api.specs.declared.history.SiteData.{SiteData}
 use Rattle.desk_api.specs.declared.mark.Mark.{Mark}
 use Rattle.desk_api.specs.declared.mark.Seat.{Seat}
-use Rattle.srv_stream.specs.Talk.{State, Step, IsStep, AreSteps, state_after, events_of, marks_of, out_of, unreadable, Part, RowPart}
-use Rattle.srv_stream.specs.Calls.{GaveUp}
-use Rattle.srv_stream.specs.declared.serving.FeedStop.{FeedStop}
-use Rattle.srv_stream.specs.declared.serving.FeedStop.TheVariants as stops
+use Rattle.srv_stream.specs.State.{State}
+use Rattle.srv_stream.specs.Turns.{Hearing, asks, not_built, unreadable, heard}
+use Rattle.srv_stream.specs.Steps.{Step, bytes_of, after_step, IsStep, AreSteps, state_after, events_of, marks_of, out_of, PartOf, NextPart}
+use Rattle.srv_stream.specs.declared.turn.SessionStop.{SessionStop}
+use Rattle.srv_stream.specs.declared.turn.SessionStop.TheVariants as stops
+use Rattle.srv_stream.specs.declared.ended.StreamFault.TheVariants as faults
+use Rattle.srv_stream.specs.declared.ended.Ended.{Ended}
+use Rattle.srv_stream.specs.declared.ended.Ended.TheVariants as ends
+use Rattle.journal_core.specs.Moments.{Moment}
 
--- what a serving is, for its contracts: the session's state, the place and the bytes of the unfinished frame, and what is to be written
+-- the moment that a clock tells, if it tells one
+abbrev pub moment_told : Option (ℤ × ℕ) → Option Moment
+moment_told None = None
+moment_told (Some told) = Some (record { seconds = told.0; nanoseconds = told.1 })
+
+-- What is left is neither whole nor refused, unless a header was.
+abbrev pub is_sound : Result Unfinished FrameFault → Bool
+is_sound (Ok left) = is_unfinished left
+is_sound (Err fault) = true
+
+-- how a message that isn't in turn ends the connection
+abbrev pub stop_at : Whole → Hearing → Option Ended
+stop_at whole (asks turn types) = None
+stop_at whole not_built = Some (ends.NotBuilt whole.command whole.place)
+stop_at whole (unreadable fault) = Some (ends.Bad (faults.Message fault) whole.place)
+
+-- the same of every event; control messages always are in turn
+abbrev pub stop_of : SiteData → State → Event → Option Ended
+stop_of site s (Message whole) = stop_at whole (heard site s (Message whole))
+stop_of site s (Control command number) = None
+
+-- how a header that is refused ends the connection
+abbrev pub refused : Result Unfinished FrameFault → Option Ended
+refused (Ok left) = None
+refused (Err fault) = Some (ends.Bad (faults.Frame fault) (place_of_fault fault))
+
+-- What stands behind the events that were answered: nothing, or a header that is refused; or an event that isn't in turn.
+abbrev pub Stands : SiteData → State → List Event → Result Unfinished FrameFault → Option Ended → Type 0
+Stands site s [] left trouble = trouble ≡ refused left
+Stands site s (e ∷ more) left trouble = (trouble ≡ stop_of site s e) × (is_some (stop_of site s e) ≡ true)
+
+-- From the state s these events make these steps, up to the first trouble.
+pub record Follows (site : SiteData) (s : State) (stream : Assembled) (steps : List Step) (trouble : Option Ended) : Type 0 where
+  pub rules : AreSteps site s steps
+  pub remaining : List Event
+  pub all : stream.events ≡ events_of steps ++ remaining
+  pub stands : Stands site (state_after site s steps) remaining stream.left trouble
+
+-- what a serving is, for its contracts: the session's state, what its assembler stands for, and what is to be written
 pub record View : Type 0 where
   pub state : State
-  pub place : ℕ
-  pub held : List ℕ
+  pub stream : Assembled
   pub pending : List ℕ
 
-abbrev pub rest_of : View → Option ℕ
-rest_of v = unfinished v.place v.held
-
--- what stands at a place and isn't taken
-abbrev pub Trouble : Type 0
-Trouble = Option (Refusal × ℕ)
-
--- What stands behind the frames that were answered: nothing or a header that is refused, or a frame that isn't served next.
-abbrev pub Stands : State → List Frame → Trouble → Trouble → Type 0
-Stands s [] refusal trouble = trouble ≡ refusal
-Stands s (e ∷ more) refusal trouble = (unreadable s e ≡ true) × (trouble ≡ Some (refusals.NotBuilt e.command, e.place))
-
--- From the state s and the place `at` these bytes make these steps, up to the first trouble.
-pub record Follows (base : Base) (s : State) (at : ℕ) (bytes : List ℕ) (steps : List Step) (trouble : Trouble) : Type 0 where
-  pub rules : AreSteps base s steps
-  pub remaining : List Frame
-  pub all : frames_from at bytes ≡ events_of steps ++ remaining
-  pub stands : Stands (state_after s steps) remaining (refusal_from at bytes) trouble
-
--- The bytes were taken, up to the first trouble. The entries have the moment that is told.
-pub record Fed (old new : Seat) (told : Option (ℤ × ℕ)) (v w : View) (bytes : List ℕ) (trouble : Trouble) : Type 0 where
+-- So far these bytes made these steps; the events that they brought beside are still to be answered.
+pub record Passed (old new : Seat) (told : Option Moment) (v w : View) (bytes : List ℕ) : Type 0 where
   pub steps : List Step
-  pub follows : Follows old.seen.base v.state v.place (v.held ++ bytes) steps trouble
-  pub state : w.state ≡ state_after v.state steps
+  pub rules : AreSteps old.seen.base.site v.state steps
+  pub events : (fed v.stream bytes).events ≡ events_of steps ++ w.stream.events
+  pub left : w.stream.left ≡ (fed v.stream bytes).left
+  pub state : w.state ≡ state_after old.seen.base.site v.state steps
   pub adds : Adds old new (marks_of steps)
   pub moments : HaveMoment told (marks_of steps)
-  pub out : w.pending ≡ v.pending ++ out_of steps
+  pub out : w.pending ≡ v.pending ++ out_of old.seen.base.site v.state steps
 
-pub record FedOn (old new : Seat) (told : Option (ℤ × ℕ)) (v w : View) (bytes : List ℕ) : Type 0 where
-  pub fed : Fed old new told v w bytes None
-  pub place : w.place ≡ place_from v.place (v.held ++ bytes)
-  pub held : w.held ≡ held_of v.place (v.held ++ bytes)
+-- All events of the bytes were answered, and no header was refused.
+pub record FedOn (old new : Seat) (told : Option Moment) (v w : View) (bytes : List ℕ) : Type 0 where
+  pub passed : Passed old new told v w bytes
+  pub none : w.stream.events ≡ []
+  pub sound : result_err w.stream.left ≡ None
 
--- Memory ran out: a part of the frames was answered, and marks of one more row may stand in the log.
-pub record FedPart (old new : Seat) (told : Option (ℤ × ℕ)) (v w : View) (bytes : List ℕ) : Type 0 where
+-- Something in the bytes ends the connection, and all before it was answered.
+pub record FedUpTo (old new : Seat) (told : Option Moment) (v w : View) (bytes : List ℕ) (ended : Ended) : Type 0 where
+  pub steps : List Step
+  pub follows : Follows old.seen.base.site v.state (fed v.stream bytes) steps (Some ended)
+  pub adds : Adds old new (marks_of steps)
+  pub moments : HaveMoment told (marks_of steps)
+  pub out : w.pending ≡ v.pending ++ out_of old.seen.base.site v.state steps
+
+-- Memory ran out: a part of the events was answered, and marks of one more row may stand in the log.
+pub record FedPart (old new : Seat) (told : Option Moment) (v w : View) (bytes : List ℕ) : Type 0 where
   pub steps : List Step
   pub more : List Mark
-  pub rules : AreSteps old.seen.base v.state steps
-  pub front : IsPrefixOf (events_of steps) (frames_from v.place (v.held ++ bytes))
-  pub part : RowPart old.seen.base (state_after v.state steps) front.rest more
+  pub rules : AreSteps old.seen.base.site v.state steps
+  pub front : IsPrefixOf (events_of steps) (fed v.stream bytes).events
+  pub part : NextPart old.seen.base.site (state_after old.seen.base.site v.state steps) front.rest more
   pub adds : Adds old new (marks_of steps ++ more)
   pub moments : HaveMoment told (marks_of steps ++ more)
-  pub out : w.pending ≡ v.pending ++ out_of steps
+  pub out : w.pending ≡ v.pending ++ out_of old.seen.base.site v.state steps
 
-abbrev pub Feeds : Seat → Seat → Option (ℤ × ℕ) → View → View → List ℕ → Result (Unit {0}) FeedStop → Type 0
+-- whether a feeding ends so: at a fault of the stream, or at a message that isn't served so far
+abbrev pub FedErr : Seat → Seat → Option Moment → View → View → List ℕ → Ended → Type 0
+FedErr old new told v w bytes (ends.Bad fault place) = FedUpTo old new told v w bytes (ends.Bad fault place)
+FedErr old new told v w bytes (ends.NotBuilt command place) = FedUpTo old new told v w bytes (ends.NotBuilt command place)
+FedErr old new told v w bytes ends.NoMemory = FedPart old new told v w bytes
+FedErr old new told v w bytes ended = ⊥
+
+abbrev pub Feeds : Seat → Seat → Option Moment → View → View → List ℕ → Result (Unit {0}) Ended → Type 0
 Feeds old new told v w bytes (Ok u) = FedOn old new told v w bytes
-Feeds old new told v w bytes (Err (stops.Refused refusal at)) = Fed old new told v w bytes (Some (refusal, at))
-Feeds old new told v w bytes (Err stops.NoMemory) = FedPart old new told v w bytes
+Feeds old new told v w bytes (Err ended) = FedErr old new told v w bytes ended
 
--- some bytes of a piece were taken, or a refusal stands in it
-pub record Took (old new : Seat) (told : Option (ℤ × ℕ)) (v w : View) (piece : List ℕ) (count : ℕ) : Type 0 where
+-- Some bytes of a piece were taken, or something in it ends the connection.
+pub record Took (old new : Seat) (told : Option Moment) (v w : View) (piece : List ℕ) (count : ℕ) : Type 0 where
   pub some : 0 < count
   pub within : count ≤ length piece
-  pub fed : FedOn old new told v w (take count piece)
+  pub passed : Passed old new told v w (take count piece)
 
-abbrev pub Takes : Seat → Seat → Option (ℤ × ℕ) → View → View → List ℕ → Result ℕ FeedStop → Type 0
+abbrev pub Takes : Seat → Seat → Option Moment → View → View → List ℕ → Result ℕ Ended → Type 0
 Takes old new told v w piece (Ok count) = Took old new told v w piece count
-Takes old new told v w piece (Err stop) = Feeds old new told v w piece (Err stop)
+Takes old new told v w piece (Err ended) = FedErr old new told v w piece ended
 
--- one frame was answered, and the stream goes on behind it
-pub record Passed (old new : Seat) (moment : ℤ × ℕ) (v w : View) (e : Frame) : Type 0 where
+-- One event, which the stream brought, was answered or wasn't. The stream is as before.
+
+abbrev pub stop_as : ℕ → ℕ → SessionStop → Ended
+stop_as command place stops.NotBuilt = ends.NotBuilt command place
+stop_as command place (stops.Message fault) = ends.Bad (faults.Message fault) place
+stop_as command place stops.NoMemory = ends.NoMemory
+
+pub record Answered (old new : Seat) (moment : Moment) (v w : View) (e : Event) : Type 0 where
   pub step : Step
-  pub rule : IsStep old.seen.base v.state step
-  pub event : step.event ≡ Some e
-  pub state : w.state ≡ step.after
+  pub rule : IsStep old.seen.base.site v.state step
+  pub event : step.event ≡ e
+  pub state : w.state ≡ after_step old.seen.base.site v.state step
   pub adds : Adds old new step.marks
   pub moments : HaveMoment (Some moment) step.marks
-  pub out : w.pending ≡ v.pending ++ step.out
-  pub place : w.place ≡ v.place + (8 + length e.payload)
-  pub held : w.held ≡ v.held
+  pub out : w.pending ≡ v.pending ++ bytes_of v.state step
+  pub stream : w.stream ≡ v.stream
 
--- the frame isn't served next: nothing has changed
-pub record NotPassed (old new : Seat) (v w : View) (e : Frame) (refusal : Refusal) (at : ℕ) : Type 0 where
+pub record Unanswered (old new : Seat) (v w : View) (e : Event) (ended : Ended) : Type 0 where
   pub seat : new ≡ old
-  pub refused : unreadable v.state e ≡ true
-  pub refusal_is : refusal ≡ refusals.NotBuilt e.command
-  pub place : at ≡ e.place
-  pub state : w.state ≡ v.state
+  pub stop : stop_of old.seen.base.site v.state e ≡ Some ended
   pub out : w.pending ≡ v.pending
 
-abbrev pub Passes : Seat → Seat → ℤ × ℕ → View → View → Frame → Result (Unit {0}) FeedStop → Type 0
-Passes old new moment v w e (Ok u) = Passed old new moment v w e
-Passes old new moment v w e (Err (stops.Refused refusal at)) = NotPassed old new v w e refusal at
-Passes old new moment v w e (Err stops.NoMemory) = GaveUp old new moment v.pending w.pending (Part old.seen.base v.state (message_at e.command e.payload))
+pub record PartAnswered (old new : Seat) (moment : Moment) (v w : View) (e : Event) : Type 0 where
+  pub marks : List Mark
+  pub part : PartOf old.seen.base.site v.state (heard old.seen.base.site v.state e) marks
+  pub adds : Adds old new marks
+  pub moments : HaveMoment (Some moment) marks
+  pub out : w.pending ≡ v.pending
 
-abbrev pub AnswersFrame : Seat → Seat → ℤ × ℕ → View → View → ℕ → List ℕ → Result (Unit {0}) FeedStop → Type 0
-AnswersFrame old new moment v w command payload result = Passes old new moment v w (record { command = command; payload = payload; place = v.place }) result
+abbrev pub AnswersErr : Seat → Seat → Moment → View → View → Event → Ended → Type 0
+AnswersErr old new moment v w e ends.NoMemory = PartAnswered old new moment v w e
+AnswersErr old new moment v w e ended = Unanswered old new v w e ended
+
+abbrev pub Answers : Seat → Seat → Moment → View → View → Event → Result (Unit {0}) Ended → Type 0
+Answers old new moment v w e (Ok u) = Answered old new moment v w e
+Answers old new moment v w e (Err ended) = AnswersErr old new moment v w e ended

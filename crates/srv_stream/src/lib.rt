@@ -1,15 +1,19 @@
 //! One connection, from the bytes that a client sends to those that the server answers.
 #![tactic(auto)]
 
+mod ended;
+mod hearing;
 mod laws;
+mod payloads;
 mod serve;
 mod serving;
 mod session;
 #[cfg(test)]
 mod tests;
+mod turn;
 
-pub use desk_api::NoMemory;
-pub use laws::an_end_is_told;
-pub use serve::{Ended, StreamFault, serve_connection};
-pub use serving::{FeedStop, Serving};
-pub use session::{Session, SessionStop};
+pub use ended::{Ended, StreamFault};
+pub use laws::{an_end_is_told, one_output};
+pub use pvd_type::NoMemory;
+pub use serve::serve_connection;
+pub use serving::Serving;

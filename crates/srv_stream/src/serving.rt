@@ -1,39 +1,46 @@
 // A session behind the bytes of a stream.
-ghost use Rattle.std.specs.Prelude.{◌≡◌, ◌<◌, ◌≤◌, [], drop, length, Some, IfOk};
-ghost use Rattle.first_messages.specs.Frames.{front_of};
-ghost use Rattle.first_messages.specs.declared.frame.Front.TheVariants.{Unfinished};
+ghost use Rattle.std.specs.Prelude.{◌≡◌, ◌<◌, ◌≤◌, true, [], drop, length, Some, IfOk, OnOk};
+ghost use Rattle.pva_frames.specs.Assembled.{rest_of};
+ghost use Rattle.pva_frames.specs.declared.event.Event.TheVariants.{Message};
+ghost use Rattle.pva_frames.specs.LentView.{whole_of};
+ghost use Rattle.srv_stream.specs.Streams.{is_sound, stop_as};
+ghost use Rattle.srv_stream.specs.declared.turn.SessionStop.TheVariants as stops;
 
-use crate::session::{Session, SessionStop};
-use desk_api::{Desk, Moment, NoMemory};
-use first_messages::{Front, Refusal, missing, read_front};
+use crate::ended::{Ended, StreamFault};
+use crate::session::Session;
+use crate::turn::SessionStop;
+use desk_api::{Desk, Moment};
+use pva_frames::{Assembler, Event, Lent, Next};
 use pva_wire::Order;
+use pvd_type::NoMemory;
 use std::alloc::Global;
-use std::mem::replace;
 
-/// The bytes of a header (pvAccess Protocol Specification, "Message header").
+/// The bytes of a header (pvAccess Protocol Specification, "Message Header").
 const HEADER: usize = 8;
 
-/// Why no further bytes are taken. The session has then ended.
-#[derive(Clone, Copy, Debug, PartialEq, Eq)]
-pub enum FeedStop {
-    /// A frame isn't taken, and where it begins. The output still has the replies to the frames before it.
-    Refused(Refusal, u64),
-    NoMemory,
+/// How a message of this command and place, at which the session stops, ends the connection.
+fn ended_at(stop: SessionStop, command: u8, place: u64) -> Ended
+    ensures { result ≡ stop_as command place stop }
+{
+    match stop {
+        SessionStop::NotBuilt => Ended::NotBuilt(command, place),
+        SessionStop::Message(fault) => Ended::Bad(StreamFault::Message(fault), place),
+        SessionStop::NoMemory => Ended::NoMemory,
+    }
 }
 
-/// Bytes in, bytes out. Of the input it keeps a frame that has begun and isn't whole.
+/// Bytes in, bytes out. Of the input it keeps what is unfinished: a frame, and the run of segments that it belongs to.
 #[derive(Drop)]
 pub struct Serving {
     session: Session,
-    held: Vec<u8>,
-    place: u64,
-    ghost begun: { front_of held.items ≡ Unfinished },
+    stream: Assembler,
+    ghost sound: { is_sound stream.left ≡ true },
 }
 
 impl Serving {
-    ghost use Rattle.srv_stream.specs.ServingView.{view_of, first_view};
-    ghost use Rattle.srv_stream.specs.Streams.{AnswersFrame, Takes, Feeds, rest_of};
-    ghost use Rattle.srv_stream.specs.Talk.{IsOf};
+    ghost use Rattle.srv_stream.specs.Hearings.{IsOf};
+    ghost use Rattle.srv_stream.specs.Streams.{Feeds, Takes, Answers};
+    ghost use Rattle.srv_stream.specs.Views.{view_of, first_view};
 
     /// A serving whose output is the greeting. It writes in this byte order.
     pub fn start(alloc: Global, order: Order) -> Result<Serving, NoMemory>
@@ -41,8 +48,7 @@ impl Serving {
     {
         Ok(Serving {
             session: Session::start(alloc, order)?,
-            held: Vec::new(alloc),
-            place: 0,
+            stream: Assembler::new(alloc),
         })
     }
 
@@ -61,154 +67,146 @@ impl Serving {
         self.session.took(count);
     }
 
-    /// The place of the unfinished frame; none at the boundary of a frame.
+    /// None exactly at the boundary of a message; else the place of the unfinished frame, or of its run's first segment. A
+    /// header that is refused counts as unfinished.
     pub fn rest(&self) -> Option<u64>
-        ensures { result ≡ rest_of (view_of self.now) }
+        ensures { result ≡ rest_of (view_of self.now).stream.left }
     {
-        if self.held.is_empty() {
-            None
-        } else {
-            Some(self.place)
-        }
+        self.stream.rest()
     }
 
-    /// Answers a whole frame with this command and goes past it.
+    /// Answers an event that the stream has brought.
     fn answer<D: Desk>(
         &mut self,
         alloc: Global,
+        event: &Event,
         desk: &mut D,
-        command: u8,
-        frame: &[u8],
         moment: Moment,
-    ) -> Result<(), FeedStop>
-        requires header { 8 ≤ length frame.now }
-        requires site { IsOf (D.seat desk.old).seen.base (view_of self.old).state }
-        ensures { AnswersFrame (D.seat desk.old) (D.seat desk.new) moment (view_of self.old) (view_of self.new) command (drop 8 frame.now) result }
+    ) -> Result<(), Ended>
+        requires { IsOf (D.seat desk.old).seen.base.site (view_of self.old).state }
+        ensures answers { Answers (D.seat desk.old) (D.seat desk.new) moment (view_of self.old) (view_of self.new) event.now result }
+        ensures site { OnOk result (IsOf (D.seat desk.new).seen.base.site (view_of self.new).state) }
     {
-        let size = frame.len() as u64;
-        if self.place > u64::MAX - size {
-            return Err(FeedStop::NoMemory);
-        }
-        match self
-            .session
-            .handle(alloc, command, &frame[HEADER..], desk, moment)
-        {
-            Ok(()) => {
-                self.place += size;
-                Ok(())
-            }
-            Err(SessionStop::NotBuilt) => {
-                Err(FeedStop::Refused(Refusal::NotBuilt(command), self.place))
-            }
-            Err(SessionStop::NoMemory) => Err(FeedStop::NoMemory),
-        }
-    }
-
-    /// Takes what the piece begins with, where no frame has begun: a whole frame, or all of it.
-    fn take_front<D: Desk>(
-        &mut self,
-        alloc: Global,
-        desk: &mut D,
-        piece: &[u8],
-        moment: Moment,
-    ) -> Result<usize, FeedStop>
-        requires some { 0 < length piece.now }
-        requires none { (view_of self.old).held ≡ [] }
-        requires site { IsOf (D.seat desk.old).seen.base (view_of self.old).state }
-        ensures { Takes (D.seat desk.old) (D.seat desk.new) (Some moment) (view_of self.old) (view_of self.new) piece.now result }
-    {
-        match read_front(piece) {
-            Front::Unfinished => match self.held.extend_from_slice(piece) {
-                Ok(()) => Ok(piece.len()),
-                Err(_) => Err(FeedStop::NoMemory),
-            },
-            Front::Refused(refusal) => Err(FeedStop::Refused(refusal, self.place)),
-            Front::Whole(command, size) => {
-                let end = HEADER + size;
-                match self.answer(alloc, desk, command, &piece[..end], moment) {
-                    Ok(()) => Ok(end),
-                    Err(stop) => Err(stop),
+        desk.has_legal_history();
+        match event {
+            Event::Control { command, number } => {
+                match self.session.handle_control(*command, *number) {
+                    Ok(()) => Ok(()),
+                    Err(_) => Err(Ended::NoMemory),
                 }
             }
+            Event::Message(whole) => {
+                let lent = Lent {
+                    order: whole.order,
+                    command: whole.command,
+                    payload: whole.payload.as_slice(),
+                    place: whole.place,
+                };
+                self.answer_message(alloc, &lent, desk, moment)
+            }
         }
     }
 
-    /// Takes what the begun frame lacks, up to the end of its header or of its payload, and answers it where it is whole.
-    fn take_more<D: Desk>(
+    /// Answers a message, as `answer` does.
+    fn answer_message<D: Desk>(
+        &mut self,
+        alloc: Global,
+        message: &Lent<'_>,
+        desk: &mut D,
+        moment: Moment,
+    ) -> Result<(), Ended>
+        requires { IsOf (D.seat desk.old).seen.base.site (view_of self.old).state }
+        ensures answers { Answers (D.seat desk.old) (D.seat desk.new) moment (view_of self.old) (view_of self.new) (Message (whole_of message.now)) result }
+        ensures site { OnOk result (IsOf (D.seat desk.new).seen.base.site (view_of self.new).state) }
+    {
+        match self.session.handle_message(alloc, message, desk, moment) {
+            Ok(()) => Ok(()),
+            Err(stop) => Err(ended_at(stop, message.command, message.place)),
+        }
+    }
+
+    /// Answers the events that the stream has brought.
+    fn answer_ready<D: Desk>(
         &mut self,
         alloc: Global,
         desk: &mut D,
-        piece: &[u8],
         moment: Moment,
-    ) -> Result<usize, FeedStop>
-        requires some { 0 < length piece.now }
-        requires site { IsOf (D.seat desk.old).seen.base (view_of self.old).state }
-        ensures { Takes (D.seat desk.old) (D.seat desk.new) (Some moment) (view_of self.old) (view_of self.new) piece.now result }
+    ) -> Result<(), Ended>
+        requires { IsOf (D.seat desk.old).seen.base.site (view_of self.old).state }
+        ensures feeds { Feeds (D.seat desk.old) (D.seat desk.new) (Some moment) (view_of self.old) (view_of self.new) [] result }
+        ensures site { OnOk result (IsOf (D.seat desk.new).seen.base.site (view_of self.new).state) }
     {
-        let count = missing(&self.held).min(piece.len());
-        let mut frame = replace(&mut self.held, Vec::new(alloc));
-        let Ok(()) = frame.extend_from_slice(&piece[..count]) else {
-            return Err(FeedStop::NoMemory);
-        };
-        match read_front(&frame) {
-            Front::Unfinished => {
-                self.held = frame;
-                Ok(count)
-            }
-            Front::Refused(refusal) => Err(FeedStop::Refused(refusal, self.place)),
-            Front::Whole(command, _) => {
-                match self.answer(alloc, desk, command, &frame, moment) {
-                    Ok(()) => {
-                        frame.clear();
-                        self.held = frame;
-                        Ok(count)
+        desk.has_legal_history();
+        'events: loop {
+            match self.stream.next() {
+                Ok(next) => match next {
+                    Next::Event(event) => match self.answer(alloc, &event, desk, moment) {
+                        Ok(()) => continue 'events,
+                        Err(ended) => return Err(ended),
+                    },
+                    Next::Fault(fault) => {
+                        return Err(Ended::Bad(StreamFault::Frame(fault), fault.place()));
                     }
-                    Err(stop) => Err(stop),
-                }
+                    Next::More => return Ok(()),
+                },
+                Err(_) => return Err(Ended::NoMemory),
             }
         }
     }
 
-    /// Takes the bytes up to the end of a frame or of its header, or else all of the piece.
-    fn take_next<D: Desk>(
+    /// Takes bytes that a piece begins with, at least one, and answers the events that they bring. None stand ready before.
+    fn take_some<D: Desk>(
         &mut self,
         alloc: Global,
         desk: &mut D,
         piece: &[u8],
         moment: Moment,
-    ) -> Result<usize, FeedStop>
+    ) -> Result<usize, Ended>
         requires some { 0 < length piece.now }
-        requires site { IsOf (D.seat desk.old).seen.base (view_of self.old).state }
-        ensures { Takes (D.seat desk.old) (D.seat desk.new) (Some moment) (view_of self.old) (view_of self.new) piece.now result }
+        requires site { IsOf (D.seat desk.old).seen.base.site (view_of self.old).state }
+        ensures takes { Takes (D.seat desk.old) (D.seat desk.new) (Some moment) (view_of self.old) (view_of self.new) piece.now result }
+        ensures site { OnOk result (IsOf (D.seat desk.new).seen.base.site (view_of self.new).state) }
     {
-        if self.held.is_empty() {
-            return self.take_front(alloc, desk, piece, moment);
+        desk.has_legal_history();
+        if let Some(message) = self.stream.lend(piece) {
+            return match self.answer_message(alloc, &message, desk, moment) {
+                Ok(()) => Ok(HEADER + message.payload.len()),
+                Err(ended) => Err(ended),
+            };
         }
-        self.take_more(alloc, desk, piece, moment)
+        let Ok(count) = self.stream.feed_some(piece) else {
+            return Err(Ended::NoMemory);
+        };
+        match self.answer_ready(alloc, desk, moment) {
+            Ok(()) => Ok(count),
+            Err(ended) => Err(ended),
+        }
     }
 
-    /// Takes the next bytes of the stream and answers the frames that they complete. What these put has this moment. After
-    /// `Refused` the output still has the replies to the frames before it.
+    /// Takes the next bytes of the stream and answers the events that they bring. What these put has this moment. The answer
+    /// is `Bad`, `NotBuilt` or `NoMemory`; after the first two the output still has the replies to the events before it.
     pub fn feed<D: Desk>(
         &mut self,
         alloc: Global,
         desk: &mut D,
         piece: &[u8],
         moment: Moment,
-    ) -> Result<(), FeedStop>
-        requires { IsOf (D.seat desk.old).seen.base (view_of self.old).state }
-        ensures { Feeds (D.seat desk.old) (D.seat desk.new) (Some moment) (view_of self.old) (view_of self.new) piece.now result }
+    ) -> Result<(), Ended>
+        requires { IsOf (D.seat desk.old).seen.base.site (view_of self.old).state }
+        ensures feeds { Feeds (D.seat desk.old) (D.seat desk.new) (Some moment) (view_of self.old) (view_of self.new) piece.now result }
+        ensures site { OnOk result (IsOf (D.seat desk.new).seen.base.site (view_of self.new).state) }
     {
+        desk.has_legal_history();
         let mut at = 0;
-        'frames: while at < piece.len() {
-            match self.take_next(alloc, desk, &piece[at..], moment) {
+        'pieces: while at < piece.len() {
+            match self.take_some(alloc, desk, &piece[at..], moment) {
                 Ok(count) => {
                     at += count;
-                    continue 'frames;
+                    continue 'pieces;
                 }
-                Err(stop) => return Err(stop),
+                Err(ended) => return Err(ended),
             }
         }
-        Ok(())
+        self.answer_ready(alloc, desk, moment)
     }
 }

@@ -1,138 +1,217 @@
-// One session: messages in, replies out.
-ghost use Rattle.std.specs.Prelude.{◌≡◌, ◌≤◌, ◌++◌, ℕ, ℤ, true, Some, drop, length, IfOk, OnOk, OnErr, IsTrue};
-ghost use Rattle.first_messages.specs.Replies.{spelled, greeting};
-ghost use Rattle.first_messages.specs.Requests.{message_at};
-ghost use Rattle.first_messages.specs.Values.{value_leaf};
-ghost use Rattle.srv_stream.specs.Talk.{opening, is_next, with_number, error_of, put_reply};
+// One session: events in, replies out.
+ghost use Rattle.std.specs.Prelude.{◌≡◌, ◌<◌, ◌≤◌, ◌++◌, drop, length, Some, None, IfOk, OnOk, OnErr, IsTrue, true};
+ghost use Rattle.pvd_value.specs.View.{view};
+ghost use Rattle.srv_stream.specs.State.{buffer_for, segment_for, opening};
+ghost use Rattle.srv_stream.specs.Rows.{error, failed, refusal_text, put_status, methods, greeting, good};
+ghost use Rattle.pva_messages.specs.Views.{reply_view};
+ghost use Rattle.srv_stream.specs.Turns as turn;
+ghost use Rattle.pva_frames.specs.Spelling.{message_bytes};
 
-use desk_api::{Channel, Desk, Done, Moment, NoMemory, PutAnswer, PutRefusal};
-use first_messages::{
-    Alarm, PutError, PvValue, TimeStamp, ToClient, ToServer, greeting, read_to_server,
-    write_to_client,
-};
-use pva_wire::Order;
-use pvd_type::{BitSet, Name};
+use crate::payloads::{write_type, write_value};
+use crate::turn::{Putting, SessionStop, Turn};
+use desk_api::{Channel, Desk, Done, Moment, PutAnswer, PutRefusal};
+use pva_frames::{Lent, write_control, write_message};
+use pva_messages::{ToClient, write_to_client};
+use pva_wire::{Order, Status, StatusKind};
+use pvd_desc::Registry;
+use pvd_type::{BitSet, Name, NoMemory, PvType};
+use pvd_value::PvValue;
 use std::alloc::Global;
 
-/// The number of the leaf `value`, the only one that a message of a put marks (Normative Types, NTScalar).
-const VALUE: u32 = 1;
+// Control commands (pvAccess Protocol Specification, "Message Header").
+const SET_BYTE_ORDER: u8 = 2;
 
-/// Why a session stops at a message. It has then ended.
-#[derive(Clone, Copy, Debug, PartialEq, Eq)]
-pub enum SessionStop {
-    /// The message isn't one that is served next.
-    NotBuilt,
-    NoMemory,
-}
+const ECHO_REQUEST: u8 = 3;
 
-impl From<NoMemory> for SessionStop {
-    ghost use Rattle.std.specs.Prelude.{◌≡◌};
-    ghost use Rattle.srv_stream.specs.declared.session.SessionStop.TheVariants as stops;
+const ECHO_RESPONSE: u8 = 4;
 
-    ghost from_gives = { λ _ e. e ≡ stops.NoMemory };
+// Application commands ("Application Messages").
+const ECHO: u8 = 0x02;
 
-    fn from(_: NoMemory) -> Self {
-        SessionStop::NoMemory
+const GET: u8 = 0x0A;
+
+const PUT: u8 = 0x0B;
+
+/// The buffer of a client that announced this size: at least 1,024 bytes and at most 65,536.
+fn buffer_for(size: u32) -> u32
+    ensures { result ≡ buffer_for size }
+{
+    if size < 1024 {
+        return 1024;
     }
+    if size > 65536 {
+        return 65536;
+    }
+    size
 }
 
-/// The set of the leaf `value` alone.
-fn value_leaf(alloc: Global) -> Result<BitSet, NoMemory>
-    ensures { IfOk result (λ mask. mask ≡ value_leaf) }
+/// The most payload of a frame to this client. The header of eight bytes stands in its buffer too.
+fn segment_for(size: u32) -> u32
+    ensures exact { result ≡ segment_for size }
+    ensures some { 0 < result }
 {
-    let mut mask = BitSet::new(alloc);
-    mask.insert(VALUE)?;
-    Ok(mask)
+    buffer_for(size) - 8
 }
 
-/// The value that a message of a put carries. The leaves that it doesn't mark are blank.
-fn with_number(alloc: Global, number: i32) -> Result<PvValue, NoMemory>
-    ensures { IfOk result (λ value. value ≡ with_number number) }
+/// ERROR with this text.
+fn error(alloc: Global, text: &str) -> Result<Status, NoMemory>
+    ensures { IfOk result (λ status. status ≡ error text.now) }
 {
-    let alarm = Alarm {
-        severity: 0,
-        status: 0,
-        message: Name::of(alloc, "")?,
-    };
-    let time_stamp = TimeStamp {
-        seconds_past_epoch: 0,
-        nanoseconds: 0,
-        user_tag: 0,
-    };
-    Ok(PvValue {
-        value: number,
-        alarm,
-        time_stamp,
+    Ok(Status {
+        kind: StatusKind::Error,
+        message: Name::of(alloc, text)?,
+        tree: Name::of(alloc, "")?,
     })
 }
 
-fn error_of(refusal: PutRefusal) -> PutError
-    ensures { result ≡ error_of refusal }
+/// Why a put was refused, in words.
+fn refusal_text(refusal: PutRefusal) -> &'static str
+    ensures { result.now ≡ refusal_text refusal }
 {
     match refusal {
-        PutRefusal::Disabled => PutError::Disabled,
-        PutRefusal::NothingWritable => PutError::NothingWritable,
+        PutRefusal::IndexOutside => "index outside the choices",
+        PutRefusal::TextTooLong => "text too long",
+        PutRefusal::TooManyElements => "too many elements",
+        PutRefusal::Disabled => "puts are disabled",
+        PutRefusal::NothingWritable => "nothing writable",
     }
 }
 
-/// What the client of a put is told; none where memory ran out.
-fn put_reply(req: u32, answer: Result<Done, PutAnswer>) -> Option<ToClient>
-    ensures { result ≡ put_reply req answer }
+/// What a put's client is told. Where memory ran out it is told nothing.
+fn put_status(alloc: Global, answer: Result<Done, PutAnswer>) -> Result<Status, NoMemory>
+    ensures { IfOk result (λ status. put_status answer ≡ Some status) }
 {
     match answer {
-        Ok(_) => Some(ToClient::PutDone(req)),
-        Err(PutAnswer::Refused(refusal)) => Some(ToClient::PutFailed(req, error_of(refusal))),
-        Err(PutAnswer::JournalFull { .. }) => {
-            Some(ToClient::PutFailed(req, PutError::JournalFull))
-        }
-        Err(PutAnswer::NoMemory { .. }) => None,
+        Ok(_) => Status::good(alloc),
+        Err(PutAnswer::Refused(refusal)) => error(alloc, refusal_text(refusal)),
+        Err(PutAnswer::JournalFull { .. }) => error(alloc, "journal full"),
+        Err(PutAnswer::NoMemory { .. }) => Err(NoMemory),
     }
 }
+
+/// The reply to a get, or to a put, that has nothing but a status.
+fn failed(command: u8, req: u32, status: Status) -> ToClient
+    ensures { reply_view result ≡ failed command req status }
+{
+    if command == GET {
+        return ToClient::Get {
+            req,
+            sub: 0,
+            status,
+            ty: None,
+            part: None,
+        };
+    }
+    ToClient::Put {
+        req,
+        sub: 0,
+        status,
+        ty: None,
+        part: None,
+    }
+}
+
+/// The methods of authentication that a client may choose from.
+fn methods(alloc: Global) -> Result<Vec<Name>, NoMemory>
+    ensures { IfOk result (λ names. names.items ≡ methods) }
+{
+    let mut methods = Vec::with_capacity(alloc, 2)?;
+    methods.push(Name::of(alloc, "anonymous")?)?;
+    methods.push(Name::of(alloc, "ca")?)?;
+    Ok(methods)
+}
+
+/// Lets a value go in a function of its own, since its many variants would else be let go one by one in the caller's proof.
+fn discard<T: Drop>(_value: T) {}
 
 /// What one client is told. It has one channel so far, with one get and one put.
 #[derive(Drop)]
-pub struct Session {
-    order: Order,
-    validated: bool,
-    channel: Option<Channel>,
-    get: Option<u32>,
-    put: Option<u32>,
+pub(crate) struct Session {
+    pub(crate) order: Order,
+    pub(crate) validated: bool,
+    /// The most payload of a frame to the client.
+    pub(crate) segment: u32,
+    /// The types that the client has defined.
+    pub(crate) types: Registry,
+    pub(crate) channel: Option<Channel>,
+    pub(crate) get: Option<u32>,
+    pub(crate) put: Option<u32>,
+    /// The payload of a reply that is being written.
+    payload: Vec<u8>,
     output: Vec<u8>,
     sent: usize,
+    ghost some: { 0 < segment },
     ghost within: { sent ≤ length output.items },
 }
 
 impl Session {
-    ghost use Rattle.srv_stream.specs.Talk.{ValidationRow, CreateRow, BeginRow, GetRow, BeginPutRow, PutRow, NoPart, GetPart, PutPart, Answers, Part, IsOf};
-    ghost use Rattle.srv_stream.specs.Views.{state_of, output_of};
-    ghost use Rattle.srv_stream.specs.Calls.{Handles, AnswersRow};
-    ghost use Rattle.desk_api.specs.Sites.{channel_named, is_channel};
+    ghost use Rattle.pva_frames.specs.LentView.{whole_of};
+    ghost use Rattle.srv_stream.specs.Calls.{Handles};
+    ghost use Rattle.srv_stream.specs.Hearings.{turn_view, putting, IsOf, IsTurnOf, IsBegun, IsPut};
+    ghost use Rattle.srv_stream.specs.Rows.{CanSay, spelled, spelled_all, said, control, greetings};
+    ghost use Rattle.srv_stream.specs.Views.{state_of, output_of, show, HandlesControl, Answers, AnswersAnytime, AnswersBeside, AnswersAlone};
+    ghost use Rattle.pva_frames.specs.declared.event.Event.TheVariants.{Message, Control};
+    ghost use Rattle.std.specs.Prelude.{◌∷◌, []};
+    ghost use Rattle.pvd_type.specs.Numbers.{leaves};
+    ghost use Rattle.pvd_value.specs.Fits.{fits_of};
+    ghost use Rattle.pva_messages.specs.Fields as field;
+    ghost use Rattle.pva_messages.specs.Replies as reply;
+    ghost use Rattle.pva_messages.specs.Written.{canonical};
+    ghost use Rattle.pva_messages.specs.Views.{reply_view};
+    ghost use Rattle.desk_api.specs.Sites.{is_channel};
 
-    /// A session whose output is the greeting. It writes in this byte order.
-    pub fn start(alloc: Global, order: Order) -> Result<Session, NoMemory>
-        ensures state { IfOk result (λ s. state_of s ≡ opening order) }
-        ensures output { IfOk result (λ s. output_of s ≡ greeting order) }
+    /// A session that has said nothing yet.
+    fn silent(alloc: Global, order: Order) -> Session
+        ensures state { state_of result ≡ opening order }
+        ensures output { output_of result ≡ [] }
     {
-        Ok(Session {
+        Session {
             order,
             validated: false,
+            segment: segment_for(65536),
+            types: Registry::new(alloc),
             channel: None,
             get: None,
             put: None,
-            output: greeting(alloc, order)?,
+            payload: Vec::new(alloc),
+            output: Vec::new(alloc),
             sent: 0,
+        }
+    }
+
+    /// Adds the greeting.
+    fn greet(&mut self, alloc: Global) -> Result<(), NoMemory>
+        ensures state { state_of self.new ≡ state_of self.old }
+        ensures output { OnOk result (output_of self.new ≡ output_of self.old ++ spelled_all self.old.order self.old.segment greetings) }
+    {
+        self.say_control(SET_BYTE_ORDER, 0)?;
+        let methods = methods(alloc)?;
+        self.say(ToClient::Validation {
+            buffer: 65536,
+            registry: 32767,
+            methods,
         })
     }
 
+    /// A session whose output is the greeting. It writes in this byte order.
+    pub(crate) fn start(alloc: Global, order: Order) -> Result<Session, NoMemory>
+        ensures state { IfOk result (λ s. state_of s ≡ opening order) }
+        ensures output { IfOk result (λ s. output_of s ≡ greeting order) }
+    {
+        let mut session = Session::silent(alloc, order);
+        session.greet(alloc)?;
+        Ok(session)
+    }
+
     /// What is to be written.
-    pub fn output(&self) -> &[u8]
+    pub(crate) fn output(&self) -> &[u8]
         ensures { result.now ≡ output_of self.now }
     {
         &self.output[self.sent..]
     }
 
     /// So much of it was written. It takes no memory.
-    pub fn took(&mut self, count: usize)
+    pub(crate) fn took(&mut self, count: usize)
         requires { count ≤ length (output_of self.old) }
         ensures state { state_of self.new ≡ state_of self.old }
         ensures output { output_of self.new ≡ drop count (output_of self.old) }
@@ -144,187 +223,273 @@ impl Session {
         }
     }
 
-    /// Adds a reply.
-    fn say(&mut self, alloc: Global, reply: &ToClient) -> Result<(), NoMemory>
+    /// Adds a control message.
+    fn say_control(&mut self, command: u8, number: u32) -> Result<(), NoMemory>
         ensures state { state_of self.new ≡ state_of self.old }
-        ensures ok { OnOk result (output_of self.new ≡ output_of self.old ++ spelled (state_of self.old).order reply.now) }
+        ensures ok { OnOk result (output_of self.new ≡ output_of self.old ++ spelled self.old.order self.old.segment (control command number)) }
         ensures err { OnErr result (output_of self.new ≡ output_of self.old) }
     {
-        write_to_client(alloc, &mut self.output, self.order, reply)
-    }
-
-    /// Whether this is a message that is served next.
-    fn is_next(&self, message: &ToServer) -> bool
-        ensures { result ≡ is_next (state_of self.now) message.now }
-    {
-        match message {
-            ToServer::Validation(_, _, _) => !self.validated,
-            ToServer::Create(_, _) => self.validated && self.channel.is_none(),
-            ToServer::BeginGet(sid, req) => {
-                *sid == 0 && self.channel.is_some() && self.get.is_none() && self.put != Some(*req)
-            }
-            ToServer::Get(sid, req) => {
-                *sid == 0 && self.channel.is_some() && self.get == Some(*req)
-            }
-            ToServer::BeginPut(sid, req) => {
-                *sid == 0 && self.channel.is_some() && self.put.is_none() && self.get != Some(*req)
-            }
-            ToServer::Put(sid, req, _) => {
-                *sid == 0 && self.channel.is_some() && self.put == Some(*req)
-            }
-        }
-    }
-
-    /// The replies to one message, which stands in a payload behind this command. What it puts has this moment. After an
-    /// `Err` the session has ended.
-    pub fn handle<D: Desk>(
-        &mut self,
-        alloc: Global,
-        command: u8,
-        payload: &[u8],
-        desk: &mut D,
-        moment: Moment,
-    ) -> Result<(), SessionStop>
-        requires { IsOf (D.seat desk.old).seen.base (state_of self.old) }
-        ensures { Handles (D.seat desk.old) (D.seat desk.new) moment (state_of self.old) (state_of self.new) (output_of self.old) (output_of self.new) command payload.now result }
-    {
-        let Some(message) = read_to_server(alloc, command, payload)? else {
-            return Err(SessionStop::NotBuilt);
-        };
-        if !self.is_next(&message) {
-            return Err(SessionStop::NotBuilt);
-        }
-        Ok(self.answer(alloc, message, desk, moment)?)
-    }
-
-    /// The reply to a message that is served next.
-    fn answer<D: Desk>(
-        &mut self,
-        alloc: Global,
-        message: ToServer,
-        desk: &mut D,
-        moment: Moment,
-    ) -> Result<(), NoMemory>
-        requires site { IsOf (D.seat desk.old).seen.base (state_of self.old) }
-        requires next { is_next (state_of self.old) message ≡ true }
-        ensures { AnswersRow (D.seat desk.old) (D.seat desk.new) moment (state_of self.new) (output_of self.old) (output_of self.new) (Answers (D.seat desk.old).seen.base (state_of self.old) (Some message)) (Part (D.seat desk.old).seen.base (state_of self.old) (Some message)) result }
-    {
-        match message {
-            ToServer::Validation(_, _, _) => self.answer_validation(alloc, desk),
-            ToServer::Create(cid, name) => self.answer_create(alloc, cid, name, desk),
-            ToServer::BeginGet(_, req) => match self.channel {
-                Some(channel) => self.answer_begin(alloc, req, channel, desk),
-                None => unreachable!(),
-            },
-            ToServer::Get(_, req) => match self.channel {
-                Some(channel) => self.answer_get(alloc, req, channel, desk),
-                None => unreachable!(),
-            },
-            ToServer::BeginPut(_, req) => match self.channel {
-                Some(channel) => self.answer_begin_put(alloc, req, channel, desk),
-                None => unreachable!(),
-            },
-            ToServer::Put(_, req, number) => match self.channel {
-                Some(channel) => self.answer_put(alloc, req, number, channel, desk, moment),
-                None => unreachable!(),
-            },
-        }
-    }
-
-    fn answer_validation<D: Desk>(&mut self, alloc: Global, desk: &mut D) -> Result<(), NoMemory>
-        ensures { (moment : ℤ × ℕ) → AnswersRow (D.seat desk.old) (D.seat desk.new) moment (state_of self.new) (output_of self.old) (output_of self.new) (ValidationRow (state_of self.old)) NoPart result }
-    {
-        let _ = desk;
-        self.say(alloc, &ToClient::Validated)?;
-        self.validated = true;
+        write_control(&mut self.output, self.order, true, command, number)?;
         Ok(())
     }
 
-    fn answer_create<D: Desk>(
+    /// Adds a reply.
+    fn say(&mut self, reply: ToClient) -> Result<(), NoMemory>
+        requires { CanSay (reply_view reply) }
+        ensures state { state_of self.new ≡ state_of self.old }
+        ensures ok { OnOk result (output_of self.new ≡ output_of self.old ++ spelled self.old.order self.old.segment (said (reply_view reply))) }
+        ensures err { OnErr result (output_of self.new ≡ output_of self.old) }
+    {
+        let written = write_to_client(&mut self.output, self.order, self.segment, &reply);
+        discard(reply);
+        written
+    }
+
+    /// Adds a reply of this command whose payload stands ready.
+    fn say_payload(&mut self, command: u8) -> Result<(), NoMemory>
+        ensures state { state_of self.new ≡ state_of self.old }
+        ensures ok { OnOk result (output_of self.new ≡ output_of self.old ++ message_bytes self.old.order true command self.old.payload.items self.old.segment) }
+        ensures err { OnErr result (output_of self.new ≡ output_of self.old) }
+    {
+        write_message(
+            &mut self.output,
+            self.order,
+            true,
+            command,
+            &self.payload,
+            self.segment,
+        )
+    }
+
+    /// Adds the reply to a get that found this value.
+    fn say_value(
+        &mut self,
+        req: u32,
+        ty: &PvType,
+        all: &BitSet,
+        value: &PvValue,
+    ) -> Result<(), NoMemory>
+        requires fits { fits_of 16 (view value.now) ty.now ≡ true }
+        requires all { all.now ≡ leaves ty.now }
+        ensures state { state_of self.new ≡ state_of self.old }
+        ensures ok { OnOk result (output_of self.new ≡ output_of self.old ++ message_bytes self.old.order true 10 (canonical self.old.order (field.word req ∷ field.byte 0 ∷ field.status good ∷ field.part (record { ty = ty.now; mask = leaves ty.now; value = view value.now }) ∷ [])) self.old.segment) }
+        ensures err { OnErr result (output_of self.new ≡ output_of self.old) }
+    {
+        self.payload.clear();
+        write_value(&mut self.payload, self.order, req, ty, all, value)?;
+        self.say_payload(GET)
+    }
+
+    /// Adds the reply that the client is validated.
+    fn say_validated(&mut self, alloc: Global) -> Result<(), NoMemory>
+        ensures state { state_of self.new ≡ state_of self.old }
+        ensures ok { OnOk result (output_of self.new ≡ output_of self.old ++ spelled self.old.order self.old.segment (said (reply.validated good))) }
+        ensures err { OnErr result (output_of self.new ≡ output_of self.old) }
+    {
+        let status = Status::good(alloc)?;
+        self.say(ToClient::Validated { status })
+    }
+
+    /// The client is validated from now on, and has a buffer of this size.
+    fn validate_with(&mut self, buffer: u32)
+        ensures state { state_of self.new ≡ record (state_of self.old) { validated = true; segment = segment_for buffer } }
+        ensures output { output_of self.new ≡ output_of self.old }
+    {
+        self.validated = true;
+        self.segment = segment_for(buffer);
+    }
+
+    /// Answers a control message: an echo request. The others are passed over.
+    pub(crate) fn handle_control(&mut self, command: u8, number: u32) -> Result<(), NoMemory>
+        ensures { HandlesControl self.old self.new (Control command number) result }
+    {
+        if command == ECHO_REQUEST {
+            return self.echo_control(number);
+        }
+        self.pass_over()
+    }
+
+    /// Answers a message. What it puts has this moment. After an `Err` the session has ended.
+    pub(crate) fn handle_message<D: Desk>(
+        &mut self,
+        alloc: Global,
+        message: &Lent<'_>,
+        desk: &mut D,
+        moment: Moment,
+    ) -> Result<(), SessionStop>
+        requires { IsOf (D.seat desk.old).seen.base.site (state_of self.old) }
+        ensures handles { Handles (show (D.seat desk.old) self.old) (show (D.seat desk.new) self.new) moment (Message (whole_of message.now)) result }
+        ensures site { OnOk result (IsOf (D.seat desk.new).seen.base.site (state_of self.new)) }
+    {
+        desk.has_legal_history();
+        let turn = self.hear(alloc, message, desk)?;
+        Ok(self.answer(alloc, &turn, desk, moment)?)
+    }
+
+    /// Answers what is asked.
+    fn answer<D: Desk>(
+        &mut self,
+        alloc: Global,
+        turn: &Turn<'_>,
+        desk: &mut D,
+        moment: Moment,
+    ) -> Result<(), NoMemory>
+        requires { IsTurnOf (D.seat desk.old).seen.base.site turn.now }
+        ensures { Answers (D.seat desk.old) (D.seat desk.new) self.old self.new moment (turn_view turn.now) result }
+    {
+        desk.has_legal_history();
+        match turn {
+            Turn::PassOver => self.pass_over(),
+            Turn::EchoControl(number) => self.echo_control(*number),
+            Turn::Validate(buffer) => self.validate(alloc, *buffer),
+            Turn::Echo(payload) => self.echo(payload),
+            Turn::Create(cid, name) => self.create(alloc, *cid, name, desk),
+            Turn::BeginGet(req, sub, channel) => self.begin_get(*req, *sub, *channel, desk),
+            Turn::BeginPut(req, sub, channel) => self.begin_put(*req, *sub, *channel, desk),
+            Turn::Get(req, channel) => self.get(alloc, *req, *channel, desk),
+            Turn::Put(asked) => self.put(alloc, asked, desk, moment),
+            Turn::Mistake(command, req) => self.mistake(alloc, *command, *req),
+        }
+    }
+
+    fn pass_over(&mut self) -> Result<(), NoMemory>
+        ensures { AnswersAlone self.old self.new turn.pass_over result }
+    {
+        Ok(())
+    }
+
+    fn echo_control(&mut self, number: u32) -> Result<(), NoMemory>
+        ensures { AnswersAlone self.old self.new (turn.echo_control number) result }
+    {
+        self.say_control(ECHO_RESPONSE, number)
+    }
+
+    fn validate(&mut self, alloc: Global, buffer: u32) -> Result<(), NoMemory>
+        ensures { AnswersAlone self.old self.new (turn.validate buffer) result }
+    {
+        self.say_validated(alloc)?;
+        self.validate_with(buffer);
+        Ok(())
+    }
+
+    fn echo(&mut self, payload: &[u8]) -> Result<(), NoMemory>
+        ensures { AnswersAlone self.old self.new (turn.echo payload.now) result }
+    {
+        write_message(
+            &mut self.output,
+            self.order,
+            true,
+            ECHO,
+            payload,
+            self.segment,
+        )
+    }
+
+    fn create<D: Desk>(
         &mut self,
         alloc: Global,
         cid: u32,
-        name: Name,
-        desk: &mut D,
+        name: &Name,
+        desk: &D,
     ) -> Result<(), NoMemory>
-        ensures { (moment : ℤ × ℕ) → AnswersRow (D.seat desk.old) (D.seat desk.new) moment (state_of self.new) (output_of self.old) (output_of self.new) (CreateRow cid (state_of self.old) (channel_named (D.seat desk.old).seen.base name)) NoPart result }
+        ensures { AnswersBeside (D.seat desk.now) self.old self.new (turn.create cid name.now) result }
     {
         let Some(channel) = desk.find(name.as_str()) else {
-            return self.say(alloc, &ToClient::NotFound(cid));
+            let status = error(alloc, "channel not found")?;
+            return self.say(ToClient::Created {
+                cid,
+                sid: u32::MAX,
+                status,
+            });
         };
-        self.say(alloc, &ToClient::Created(cid, 0))?;
+        let status = Status::good(alloc)?;
+        self.say(ToClient::Created {
+            cid,
+            sid: 0,
+            status,
+        })?;
         self.channel = Some(channel);
         Ok(())
     }
 
-    fn answer_begin<D: Desk>(
+    fn begin_get<D: Desk>(
         &mut self,
-        alloc: Global,
         req: u32,
+        sub: u8,
         channel: Channel,
-        desk: &mut D,
+        desk: &D,
     ) -> Result<(), NoMemory>
-        requires { IsTrue (is_channel (D.seat desk.old).seen.base channel) }
-        ensures { (moment : ℤ × ℕ) → AnswersRow (D.seat desk.old) (D.seat desk.new) moment (state_of self.new) (output_of self.old) (output_of self.new) (BeginRow req (state_of self.old) (Some channel)) NoPart result }
+        requires { IsBegun (D.seat desk.now).seen.base.site sub channel }
+        ensures { AnswersBeside (D.seat desk.now) self.old self.new (turn.begin_get req sub channel) result }
     {
-        let Some(ty) = desk.type_of(channel) else {
-            return Err(NoMemory);
-        };
-        self.say(alloc, &ToClient::GetBegun(req, *ty))?;
+        let ty = desk.type_of(channel).unwrap();
+        self.payload.clear();
+        write_type(&mut self.payload, self.order, req, sub, ty)?;
+        self.say_payload(GET)?;
         self.get = Some(req);
         Ok(())
     }
 
-    fn answer_get<D: Desk>(
+    fn begin_put<D: Desk>(
         &mut self,
-        alloc: Global,
         req: u32,
+        sub: u8,
         channel: Channel,
-        desk: &mut D,
+        desk: &D,
     ) -> Result<(), NoMemory>
-        requires { IsTrue (is_channel (D.seat desk.old).seen.base channel) }
-        ensures { (moment : ℤ × ℕ) → AnswersRow (D.seat desk.old) (D.seat desk.new) moment (state_of self.new) (output_of self.old) (output_of self.new) (GetRow req (state_of self.old) (Some channel)) (GetPart (Some channel)) result }
+        requires { IsBegun (D.seat desk.now).seen.base.site sub channel }
+        ensures { AnswersBeside (D.seat desk.now) self.old self.new (turn.begin_put req sub channel) result }
     {
-        let value = desk.get(alloc, channel)?;
-        self.say(alloc, &ToClient::Got(req, value))
-    }
-
-    fn answer_begin_put<D: Desk>(
-        &mut self,
-        alloc: Global,
-        req: u32,
-        channel: Channel,
-        desk: &mut D,
-    ) -> Result<(), NoMemory>
-        requires { IsTrue (is_channel (D.seat desk.old).seen.base channel) }
-        ensures { (moment : ℤ × ℕ) → AnswersRow (D.seat desk.old) (D.seat desk.new) moment (state_of self.new) (output_of self.old) (output_of self.new) (BeginPutRow req (state_of self.old) (Some channel)) NoPart result }
-    {
-        let Some(ty) = desk.type_of(channel) else {
-            return Err(NoMemory);
-        };
-        self.say(alloc, &ToClient::PutBegun(req, *ty))?;
+        let ty = desk.type_of(channel).unwrap();
+        self.payload.clear();
+        write_type(&mut self.payload, self.order, req, sub, ty)?;
+        self.say_payload(PUT)?;
         self.put = Some(req);
         Ok(())
     }
 
-    fn answer_put<D: Desk>(
+    fn get<D: Desk>(
         &mut self,
         alloc: Global,
         req: u32,
-        number: i32,
         channel: Channel,
+        desk: &mut D,
+    ) -> Result<(), NoMemory>
+        requires { IsTrue (is_channel (D.seat desk.old).seen.base.site channel) }
+        ensures { AnswersAnytime (D.seat desk.old) (D.seat desk.new) self.old self.new (turn.get req channel) result }
+    {
+        desk.has_legal_history();
+        let all = desk.type_of(channel).unwrap().leaves(alloc)?;
+        let value = desk.get(alloc, channel)?;
+        self.say_value(req, desk.type_of(channel).unwrap(), &all, &value)
+    }
+
+    fn put<D: Desk>(
+        &mut self,
+        alloc: Global,
+        asked: &Putting,
         desk: &mut D,
         moment: Moment,
     ) -> Result<(), NoMemory>
-        requires { IsTrue (is_channel (D.seat desk.old).seen.base channel) }
-        ensures { AnswersRow (D.seat desk.old) (D.seat desk.new) moment (state_of self.new) (output_of self.old) (output_of self.new) (PutRow (D.seat desk.old).seen.base req number (state_of self.old) (Some channel)) (PutPart (D.seat desk.old).seen.base number (Some channel)) result }
+        requires { IsPut (D.seat desk.old).seen.base.site asked.now }
+        ensures { Answers (D.seat desk.old) (D.seat desk.new) self.old self.new moment (putting asked.now) result }
     {
-        let mask = value_leaf(alloc)?;
-        let value = with_number(alloc, number)?;
-        let answer = desk.put(alloc, channel, &mask, &value, moment);
-        let Some(reply) = put_reply(req, answer) else {
-            return Err(NoMemory);
-        };
-        self.say(alloc, &reply)
+        let answer = desk.put(alloc, asked.channel, &asked.mask, &asked.value, moment);
+        let status = put_status(alloc, answer)?;
+        self.say(ToClient::Put {
+            req: asked.req,
+            sub: 0,
+            status,
+            ty: None,
+            part: None,
+        })
+    }
+
+    /// Says that the request was begun by another command.
+    fn mistake(&mut self, alloc: Global, command: u8, req: u32) -> Result<(), NoMemory>
+        ensures { AnswersAlone self.old self.new (turn.mistake command req) result }
+    {
+        let status = error(alloc, "wrong phase")?;
+        self.say(failed(command, req, status))
     }
 }

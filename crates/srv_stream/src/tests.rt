@@ -1,34 +1,101 @@
+ghost use Rattle.std.specs.Prelude.{◌<◌};
+ghost use Rattle.srv_stream.specs.Hearings.{IsOf};
+ghost use Rattle.srv_stream.specs.Views.{view_of};
+
 use super::*;
-use desk_api::Site;
+use desk_api::{Desk, Moment, Site};
 use desk_core::SoloDesk;
-use first_messages::FrameFault;
-use pva_outside::{FixedClock, MemoryLink, PlainLink, Turn};
-use pva_wire::Order;
+use pva_frames::FrameFault;
+use pva_messages::MessageFault;
+use pva_outside::{Clock, FixedClock, MemoryLink, PlainLink, Turn};
+use pva_wire::{Order, WireFault};
+use pvd_codec::ValueFault;
 use std::alloc::Global;
+use std::cell::Cell;
+use std::process::Abort;
 use std::test::Fail;
 
 const VALIDATION: &[u8] =
     b"\xCA\x02\x00\x01\x13\x00\x00\x00\x00\x00\x01\x00\x00\x00\x00\x00\x09anonymous\xFF";
 
+/// A validation of a client with a buffer of 1,024 bytes, in big endian.
+const SMALL_VALIDATION: &[u8] =
+    b"\xCA\x02\x80\x01\x00\x00\x00\x13\x00\x00\x04\x00\x00\x00\x00\x00\x09anonymous\xFF";
+
 const CREATE: &[u8] = b"\xCA\x02\x00\x07\x08\x00\x00\x00\x01\x00\x07\x00\x00\x00\x01X";
+
+/// The same in big endian.
+const BIG_CREATE: &[u8] = b"\xCA\x02\x80\x07\x00\x00\x00\x08\x00\x01\x00\x00\x00\x07\x01X";
+
+/// The same in three segments, with an echo request between them.
+const CREATE_IN_SEGMENTS: &[u8] =
+    b"\xCA\x02\x10\x07\x03\x00\x00\x00\x01\x00\x07\xCA\x02\x01\x03\x2A\x00\x00\x00\xCA\x02\x30\x07\x03\x00\x00\x00\x00\x00\x00\xCA\x02\x20\x07\x02\x00\x00\x00\x01X";
 
 const BEGIN: &[u8] =
     b"\xCA\x02\x00\x0A\x0C\x00\x00\x00\x00\x00\x00\x00\x01\x00\x00\x00\x08\x80\x00\x00";
 
 const GET: &[u8] = b"\xCA\x02\x00\x0A\x09\x00\x00\x00\x00\x00\x00\x00\x01\x00\x00\x00\x00";
 
+const BEGIN_PUT: &[u8] =
+    b"\xCA\x02\x00\x0B\x0C\x00\x00\x00\x00\x00\x00\x00\x02\x00\x00\x00\x08\x80\x00\x00";
+
+const PUT_SEVEN: &[u8] =
+    b"\xCA\x02\x00\x0B\x0F\x00\x00\x00\x00\x00\x00\x00\x02\x00\x00\x00\x00\x01\x02\x07\x00\x00\x00";
+
 const GREETING: &[u8] =
     b"\xCA\x02\x41\x02\x00\x00\x00\x00\xCA\x02\x40\x01\x14\x00\x00\x00\x00\x00\x01\x00\xFF\x7F\x02\x09anonymous\x02ca";
 
+const BIG_GREETING: &[u8] =
+    b"\xCA\x02\xC1\x02\x00\x00\x00\x00\xCA\x02\xC0\x01\x00\x00\x00\x14\x00\x01\x00\x00\x7F\xFF\x02\x09anonymous\x02ca";
+
 const VALIDATED: &[u8] = b"\xCA\x02\x40\x09\x01\x00\x00\x00\xFF";
+
+const BIG_VALIDATED: &[u8] = b"\xCA\x02\xC0\x09\x00\x00\x00\x01\xFF";
 
 const CREATED: &[u8] = b"\xCA\x02\x40\x07\x09\x00\x00\x00\x07\x00\x00\x00\x00\x00\x00\x00\xFF";
 
-const BEGUN: &[u8] =
-    b"\xCA\x02\x40\x0A\x8B\x00\x00\x00\x01\x00\x00\x00\x08\xFF\x80\x15epics:nt/NTScalar:1.0\x03\x05value\x22\x05alarm\x80\x07alarm_t\x03\x08severity\x22\x06status\x22\x07message\x60\x09timeStamp\x80\x06time_t\x03\x10secondsPastEpoch\x23\x0Bnanoseconds\x22\x07userTag\x22";
+const BIG_CREATED: &[u8] = b"\xCA\x02\xC0\x07\x00\x00\x00\x09\x00\x00\x00\x07\x00\x00\x00\x00\xFF";
 
+const ECHOED: &[u8] = b"\xCA\x02\x41\x04\x2A\x00\x00\x00";
+
+const BIG_ECHOED: &[u8] = b"\xCA\x02\xC1\x04\x00\x00\x00\x2A";
+
+const BEGUN: &[u8] = b"\xCA\x02\x40\x0A\x8B\x00\x00\x00\x01\x00\x00\x00\x08\xFF";
+
+const BIG_BEGUN: &[u8] = b"\xCA\x02\xC0\x0A\x00\x00\x00\x8B\x00\x00\x00\x01\x08\xFF";
+
+/// The type of a record's channel, which is spelled alike in both orders.
+const DESCRIPTION: &[u8] =
+    b"\x80\x15epics:nt/NTScalar:1.0\x03\x05value\x22\x05alarm\x80\x07alarm_t\x03\x08severity\x22\x06status\x22\x07message\x60\x09timeStamp\x80\x06time_t\x03\x10secondsPastEpoch\x23\x0Bnanoseconds\x22\x07userTag\x22";
+
+/// 42 with no alarm, at no moment.
 const GOT: &[u8] =
     b"\xCA\x02\x40\x0A\x26\x00\x00\x00\x01\x00\x00\x00\x00\xFF\x02\xBA\x03\x2A\x00\x00\x00\x00\x00\x00\x00\x00\x00\x00\x00\x00\x00\x00\x00\x00\x00\x00\x00\x00\x00\x00\x00\x00\x00\x00\x00\x00";
+
+const BIG_GOT: &[u8] =
+    b"\xCA\x02\xC0\x0A\x00\x00\x00\x26\x00\x00\x00\x01\x00\xFF\x02\xBA\x03\x00\x00\x00\x2A\x00\x00\x00\x00\x00\x00\x00\x00\x00\x00\x00\x00\x00\x00\x00\x00\x00\x00\x00\x00\x00\x00\x00\x00\x00";
+
+const PUT_BEGUN: &[u8] = b"\xCA\x02\x40\x0B\x8B\x00\x00\x00\x02\x00\x00\x00\x08\xFF";
+
+const PUT_DONE: &[u8] = b"\xCA\x02\x40\x0B\x06\x00\x00\x00\x02\x00\x00\x00\x00\xFF";
+
+/// 7 of 100 seconds and 5 nanoseconds.
+const SEVEN: &[u8] =
+    b"\xCA\x02\x40\x0A\x26\x00\x00\x00\x01\x00\x00\x00\x00\xFF\x02\xBA\x03\x07\x00\x00\x00\x00\x00\x00\x00\x00\x00\x00\x00\x00\x64\x00\x00\x00\x00\x00\x00\x00\x05\x00\x00\x00\x00\x00\x00\x00";
+
+/// The same put in big endian.
+const BIG_PUT_SEVEN: &[u8] =
+    b"\xCA\x02\x80\x0B\x00\x00\x00\x0F\x00\x00\x00\x00\x00\x00\x00\x02\x00\x01\x02\x00\x00\x00\x07";
+
+const BIG_PUT_BEGUN: &[u8] = b"\xCA\x02\xC0\x0B\x00\x00\x00\x8B\x00\x00\x00\x02\x08\xFF";
+
+const BIG_PUT_DONE: &[u8] = b"\xCA\x02\xC0\x0B\x00\x00\x00\x06\x00\x00\x00\x02\x00\xFF";
+
+const BIG_SEVEN: &[u8] =
+    b"\xCA\x02\xC0\x0A\x00\x00\x00\x26\x00\x00\x00\x01\x00\xFF\x02\xBA\x03\x00\x00\x00\x07\x00\x00\x00\x00\x00\x00\x00\x00\x00\x00\x00\x00\x00\x00\x00\x00\x64\x00\x00\x00\x05\x00\x00\x00\x00";
+
+/// What the entries of a desk may weigh together.
+const LIMIT: u64 = 268_435_456;
 
 fn joined(alloc: Global, parts: &[&[u8]]) -> Result<Vec<u8>, NoMemory> {
     let mut bytes = Vec::new(alloc);
@@ -38,96 +105,351 @@ fn joined(alloc: Global, parts: &[&[u8]]) -> Result<Vec<u8>, NoMemory> {
     Ok(bytes)
 }
 
-/// What the entries of a desk may weigh together.
-const LIMIT: u64 = 1000;
+/// The desk of the record X, which is 42.
+fn desk_of_x(alloc: Global) -> Result<SoloDesk, NoMemory> {
+    SoloDesk::new(alloc, Site::single(alloc, "X", 42)?, LIMIT)
+}
+
+/// Feeds bytes in pieces of this size, up to one that ends the connection.
+fn feed_pieces<D: Desk>(
+    alloc: Global,
+    serving: &mut Serving,
+    desk: &mut D,
+    bytes: &[u8],
+    size: usize,
+) -> Result<(), Ended>
+    requires size { 0 < size }
+    requires site { IsOf (D.seat desk.old).seen.base.site (view_of serving.old).state }
+{
+    'pieces: for piece in bytes.chunks(size) {
+        match serving.feed(alloc, desk, piece, Moment::new(100, 5)) {
+            Ok(()) => continue 'pieces,
+            Err(ended) => return Err(ended),
+        }
+    }
+    Ok(())
+}
+
+/// What a serving of the record X, which is 42, says to bytes that come in pieces of this size.
+fn fed(
+    alloc: Global,
+    order: Order,
+    input: &[&[u8]],
+    size: usize,
+) -> Result<(Result<(), Ended>, Vec<u8>, Option<u64>), NoMemory>
+    requires { 0 < size }
+{
+    let bytes = joined(alloc, input)?;
+    let mut serving = Serving::start(alloc, order)?;
+    let mut desk = desk_of_x(alloc)?;
+    let ended = feed_pieces(alloc, &mut serving, &mut desk, &bytes, size);
+    Ok((
+        ended,
+        Vec::from_slice(alloc, serving.output())?,
+        serving.rest(),
+    ))
+}
+
+/// A client whose channel is created in segments.
+const IN_SEGMENTS: [&[u8]; 7] = [
+    VALIDATION,
+    CREATE_IN_SEGMENTS,
+    BEGIN,
+    GET,
+    BEGIN_PUT,
+    PUT_SEVEN,
+    GET,
+];
+
+/// A client that has two of its messages in big endian.
+const MIXED: [&[u8]; 7] = [
+    VALIDATION,
+    BIG_CREATE,
+    BEGIN,
+    GET,
+    BEGIN_PUT,
+    BIG_PUT_SEVEN,
+    GET,
+];
+
+const SAID_IN_SEGMENTS: [&[u8]; 11] = [
+    GREETING,
+    VALIDATED,
+    ECHOED,
+    CREATED,
+    BEGUN,
+    DESCRIPTION,
+    GOT,
+    PUT_BEGUN,
+    DESCRIPTION,
+    PUT_DONE,
+    SEVEN,
+];
+
+const SAID_BIG_IN_SEGMENTS: [&[u8]; 11] = [
+    BIG_GREETING,
+    BIG_VALIDATED,
+    BIG_ECHOED,
+    BIG_CREATED,
+    BIG_BEGUN,
+    DESCRIPTION,
+    BIG_GOT,
+    BIG_PUT_BEGUN,
+    DESCRIPTION,
+    BIG_PUT_DONE,
+    BIG_SEVEN,
+];
+
+const SAID_MIXED: [&[u8]; 10] = [
+    GREETING,
+    VALIDATED,
+    CREATED,
+    BEGUN,
+    DESCRIPTION,
+    GOT,
+    PUT_BEGUN,
+    DESCRIPTION,
+    PUT_DONE,
+    SEVEN,
+];
+
+/// This input has this output, and ends so, in pieces of this size.
+fn is_fed(
+    rt: &impl Abort,
+    alloc: Global,
+    order: Order,
+    input: &[&[u8]],
+    size: usize,
+    output: &[&[u8]],
+    ended: Result<(), Ended>,
+    unfinished: Option<u64>,
+) -> Result<(), NoMemory>
+    requires { 0 < size }
+{
+    let (came, written, rest) = fed(alloc, order, input, size)?;
+    assert_eq!(rt; came, ended);
+    assert_eq!(rt; rest, unfinished);
+    assert_eq!(rt; written, joined(alloc, output)?);
+    Ok(())
+}
+
+/// The same in pieces of every size.
+fn is_fed_always(
+    rt: &impl Abort,
+    alloc: Global,
+    order: Order,
+    input: &[&[u8]],
+    output: &[&[u8]],
+    ended: Result<(), Ended>,
+    unfinished: Option<u64>,
+) -> Result<(), NoMemory> {
+    is_fed(rt, alloc, order, input, 1, output, ended, unfinished)?;
+    is_fed(rt, alloc, order, input, 2, output, ended, unfinished)?;
+    is_fed(rt, alloc, order, input, 7, output, ended, unfinished)?;
+    is_fed(rt, alloc, order, input, 4096, output, ended, unfinished)
+}
+
+#[test]
+fn a_client_is_served_alike_in_pieces_of_every_size_and_in_both_orders(
+    rt: HostRuntime,
+) -> Result<(), Fail> {
+    let alloc = rt.alloc();
+    let little = Order::Little;
+    let big = Order::Big;
+    is_fed_always(
+        &rt,
+        alloc,
+        little,
+        &IN_SEGMENTS,
+        &SAID_IN_SEGMENTS,
+        Ok(()),
+        None,
+    )?;
+    is_fed_always(
+        &rt,
+        alloc,
+        big,
+        &IN_SEGMENTS,
+        &SAID_BIG_IN_SEGMENTS,
+        Ok(()),
+        None,
+    )?;
+    is_fed_always(&rt, alloc, little, &MIXED, &SAID_MIXED, Ok(()), None)?;
+    Ok(())
+}
+
+#[test]
+fn an_echo_goes_in_segments_that_the_buffer_of_the_client_takes(
+    rt: HostRuntime,
+) -> Result<(), Fail> {
+    let alloc = rt.alloc();
+    let payload = [0x5A; 2000];
+    let echo = b"\xCA\x02\x00\x02\xD0\x07\x00\x00";
+    let (ended, written, _) = fed(
+        alloc,
+        Order::Little,
+        &[SMALL_VALIDATION, echo, &payload],
+        4096,
+    )?;
+    assert_eq!(rt; ended, Ok(()));
+    let first = b"\xCA\x02\x50\x02\xF8\x03\x00\x00";
+    let last = b"\xCA\x02\x60\x02\xD8\x03\x00\x00";
+    let wanted = [
+        GREETING,
+        VALIDATED,
+        first,
+        &payload[..1016],
+        last,
+        &payload[..984],
+    ];
+    assert_eq!(rt; written, joined(alloc, &wanted)?);
+    Ok(())
+}
+
+/// A validation and then these bytes end so, in both orders.
+fn ends_always(
+    rt: &impl Abort,
+    alloc: Global,
+    last: &[u8],
+    ended: Result<(), Ended>,
+    unfinished: Option<u64>,
+) -> Result<(), NoMemory> {
+    let input = [VALIDATION, last];
+    let little = [GREETING, VALIDATED];
+    is_fed_always(rt, alloc, Order::Little, &input, &little, ended, unfinished)?;
+    let big = [BIG_GREETING, BIG_VALIDATED];
+    is_fed_always(rt, alloc, Order::Big, &input, &big, ended, unfinished)
+}
+
+/// A header is refused at place 27.
+fn refused(fault: FrameFault) -> Result<(), Ended> {
+    Err(Ended::Bad(StreamFault::Frame(fault), 27))
+}
+
+#[test]
+fn what_ends_a_stream_does_so_in_pieces_of_every_size_and_in_both_orders(
+    rt: HostRuntime,
+) -> Result<(), Fail> {
+    let alloc = rt.alloc();
+    let magic = refused(FrameFault::BadMagic {
+        byte: 0xCB,
+        place: 27,
+    });
+    let long = refused(FrameFault::TooLong {
+        length: 67_108_865,
+        place: 27,
+    });
+    let segment = refused(FrameFault::BadSegment {
+        have: None,
+        came: 7,
+        place: 27,
+    });
+    ends_always(&rt, alloc, b"", Ok(()), None)?;
+    ends_always(&rt, alloc, &CREATE[..7], Ok(()), Some(27))?;
+    ends_always(&rt, alloc, b"\xCB", magic, Some(27))?;
+    let header = b"\xCA\x02\x00\x02\x01\x00\x00\x04";
+    ends_always(&rt, alloc, header, long, Some(27))?;
+    let last = b"\xCA\x02\x20\x07\x02\x00\x00\x00\x01X";
+    ends_always(&rt, alloc, last, segment, Some(27))?;
+    ends_always(&rt, alloc, GET, Err(Ended::NotBuilt(10, 27)), None)?;
+    Ok(())
+}
 
 /// Serves the record X, which is 42, over an input that comes by this script.
 fn served(
     alloc: Global,
     input: &[&[u8]],
     script: Vec<Turn>,
-    order: Order,
     turns: u64,
 ) -> Result<(Ended, MemoryLink), NoMemory> {
-    let mut desk = SoloDesk::new(alloc, Site::single(alloc, "X", 42)?, LIMIT)?;
     let mut link = MemoryLink::new(alloc, joined(alloc, input)?, script);
+    let mut desk = desk_of_x(alloc)?;
     let clock = FixedClock::new(100, 5);
-    let ended = serve_connection(alloc, &mut desk, &mut link, &clock, order, turns);
+    let ended = serve_connection(alloc, &mut desk, &mut link, &clock, Order::Little, turns);
     Ok((ended, link))
 }
 
-#[test]
-fn a_get_of_one_record(rt: HostRuntime) -> Result<(), Fail> {
-    let alloc = rt.alloc();
-    let mut desk = SoloDesk::new(alloc, Site::single(alloc, "X", 42)?, LIMIT)?;
-    let mut link = PlainLink::new(alloc, joined(alloc, &[VALIDATION, CREATE, BEGIN, GET])?);
-    let clock = FixedClock::new(100, 5);
-    let ended = serve_connection(alloc, &mut desk, &mut link, &clock, Order::Little, 100);
-    assert_eq!(rt; ended, Ended::Closed);
-    let wanted = joined(alloc, &[GREETING, VALIDATED, CREATED, BEGUN, GOT])?;
-    assert_eq!(rt; wanted.len(), 255);
+/// Served so, the connection ends like this, and this was written.
+fn is_served(
+    rt: &impl Abort,
+    alloc: Global,
+    input: &[&[u8]],
+    script: Vec<Turn>,
+    turns: u64,
+    ended: Ended,
+    output: &[&[u8]],
+) -> Result<(), NoMemory> {
+    let (came, link) = served(alloc, input, script, turns)?;
+    assert_eq!(rt; came, ended);
+    let wanted = joined(alloc, output)?;
     assert_eq!(rt; link.written(), wanted.as_slice());
     Ok(())
 }
 
-#[test]
-fn pieces_of_one_byte_with_idles_between(rt: HostRuntime) -> Result<(), Fail> {
-    let alloc = rt.alloc();
-    let mut script = Vec::new(alloc);
-    for _ in 0..400 {
-        script.push(Turn::Give(1))?;
-        script.push(Turn::Idle)?;
-    }
-    let input = [VALIDATION, CREATE, BEGIN, GET];
-    let (ended, link) = served(alloc, &input, script, Order::Little, 1000)?;
-    assert_eq!(rt; ended, Ended::Closed);
-    let wanted = joined(alloc, &[GREETING, VALIDATED, CREATED, BEGUN, GOT])?;
-    assert_eq!(rt; link.written(), wanted.as_slice());
-    Ok(())
+/// The same of a link that gives and takes all that it can.
+fn ends(
+    rt: &impl Abort,
+    alloc: Global,
+    input: &[&[u8]],
+    ended: Ended,
+    output: &[&[u8]],
+) -> Result<(), NoMemory> {
+    is_served(rt, alloc, input, Vec::new(alloc), 100, ended, output)
+}
+
+/// The first header is refused.
+fn bad_header(fault: FrameFault) -> Ended {
+    Ended::Bad(StreamFault::Frame(fault), 0)
+}
+
+/// The name in a create message behind a validation isn't UTF-8.
+fn bad_name() -> Ended {
+    let fault = MessageFault {
+        command: 7,
+        cause: ValueFault::Wire(WireFault::NotUtf8(7)),
+    };
+    Ended::Bad(StreamFault::Message(fault), 27)
 }
 
 #[test]
 fn where_a_connection_ends(rt: HostRuntime) -> Result<(), Fail> {
     let alloc = rt.alloc();
-    let put = &b"\xCA\x02\x00\x0B\x00\x00\x00\x00"[..];
-    let other = &b"\xCA\x02\x00\x07\x08\x00\x00\x00\x01\x00\x07\x00\x00\x00\x01Y"[..];
-    let missing =
-        &b"\xCA\x02\x40\x07\x1C\x00\x00\x00\x07\x00\x00\x00\xFF\xFF\xFF\xFF\x02\x11channel not found\x00"[..];
-    let fault = StreamFault::Frame(FrameFault::BadMagic(0xCB));
-    for (input, ended, replies) in [
-        ([&b""[..], b""], Ended::Closed, [&b""[..], b""]),
-        (
-            [b"\xCA\x02\x00\x01\x13\x00\x00", b""],
-            Ended::Truncated(0),
-            [b"", b""],
-        ),
-        (
-            [VALIDATION, b"\xCA\x02"],
-            Ended::Truncated(27),
-            [VALIDATED, b""],
-        ),
-        ([b"\xCB", b""], Ended::Bad(fault, 0), [b"", b""]),
-        (
-            [VALIDATION, b"\xCB"],
-            Ended::Bad(fault, 27),
-            [VALIDATED, b""],
-        ),
-        ([VALIDATION, put], Ended::NotBuilt(11, 27), [VALIDATED, b""]),
-        (
-            [VALIDATION, VALIDATION],
-            Ended::NotBuilt(1, 27),
-            [VALIDATED, b""],
-        ),
-        ([VALIDATION, GET], Ended::NotBuilt(10, 27), [VALIDATED, b""]),
-        ([CREATE, b""], Ended::NotBuilt(7, 0), [b"", b""]),
-        ([VALIDATION, other], Ended::Closed, [VALIDATED, missing]),
-    ] {
-        let (came, link) = served(alloc, &input, Vec::new(alloc), Order::Little, 100)?;
-        assert_eq!(rt; came, ended);
-        let wanted = joined(alloc, &[GREETING, replies[0], replies[1]])?;
-        assert_eq!(rt; link.written(), wanted.as_slice());
-    }
+    let magic = bad_header(FrameFault::BadMagic {
+        byte: 0xCB,
+        place: 0,
+    });
+    let long = bad_header(FrameFault::TooLong {
+        length: 67_108_865,
+        place: 0,
+    });
+    let begun = &VALIDATION[..7];
+    let header = b"\xCA\x02\x00\x02\x01\x00\x00\x04";
+    ends(&rt, alloc, &[], Ended::Closed, &[GREETING])?;
+    ends(&rt, alloc, &[begun], Ended::Truncated(0), &[GREETING])?;
+    ends(&rt, alloc, &[b"\xCB"], magic, &[GREETING])?;
+    ends(&rt, alloc, &[header], long, &[GREETING])?;
     Ok(())
+}
+
+#[test]
+fn where_a_connection_ends_behind_its_validation(rt: HostRuntime) -> Result<(), Fail> {
+    let alloc = rt.alloc();
+    let create = b"\xCA\x02\x00\x07\x08\x00\x00\x00\x01\x00\x07\x00\x00\x00\x01\xFF";
+    let output = [GREETING, VALIDATED];
+    ends(&rt, alloc, &[VALIDATION, create], bad_name(), &output)?;
+    let twice = [VALIDATION, VALIDATION];
+    ends(&rt, alloc, &twice, Ended::NotBuilt(1, 27), &output)?;
+    ends(&rt, alloc, &[CREATE, VALIDATION], Ended::Closed, &output)?;
+    Ok(())
+}
+
+/// A script in which one byte moves at a time, with an idle call behind each.
+fn byte_by_byte(alloc: Global) -> Result<Vec<Turn>, NoMemory> {
+    let mut script = Vec::new(alloc);
+    for _ in 0..400 {
+        script.extend_from_slice(&[Turn::Give(1), Turn::Idle])?;
+    }
+    Ok(script)
 }
 
 #[test]
@@ -136,27 +458,138 @@ fn links_that_fail_and_turns_that_are_spent(rt: HostRuntime) -> Result<(), Fail>
     let input = [VALIDATION, CREATE, BEGIN, GET];
     let second_read = [Turn::Give(99), Turn::Give(27), Turn::Give(99), Turn::Fail];
     let script = second_read.to_vec(alloc)?;
-    let (ended, link) = served(alloc, &input, script, Order::Little, 100)?;
-    assert_eq!(rt; ended, Ended::ReadFault);
-    let wanted = joined(alloc, &[GREETING, VALIDATED])?;
-    assert_eq!(rt; link.written(), wanted.as_slice());
-    let script = [Turn::Fail].to_vec(alloc)?;
-    let (ended, link) = served(alloc, &input, script, Order::Little, 100)?;
-    assert_eq!(rt; ended, Ended::WriteFault);
-    assert_eq!(rt; link.written().len(), 0);
-    let (ended, link) = served(alloc, &input, Vec::new(alloc), Order::Little, 1)?;
-    assert_eq!(rt; ended, Ended::Spent(1));
-    assert_eq!(rt; link.written(), GREETING);
+    is_served(
+        &rt,
+        alloc,
+        &input,
+        script,
+        100,
+        Ended::ReadFault,
+        &[GREETING, VALIDATED],
+    )?;
+    let first_write = [Turn::Fail].to_vec(alloc)?;
+    is_served(&rt, alloc, &input, first_write, 100, Ended::WriteFault, &[])?;
+    is_served(
+        &rt,
+        alloc,
+        &input,
+        Vec::new(alloc),
+        1,
+        Ended::Spent(1),
+        &[GREETING],
+    )?;
+    let output = [GREETING, VALIDATED, CREATED, BEGUN, DESCRIPTION, GOT];
+    is_served(
+        &rt,
+        alloc,
+        &input,
+        byte_by_byte(alloc)?,
+        1000,
+        Ended::Closed,
+        &output,
+    )?;
     Ok(())
 }
 
+/// A clock that is one second later at each reading.
+#[derive(Drop)]
+struct MovingClock {
+    seconds: Cell<i64>,
+}
+
+impl Clock for MovingClock {
+    fn now(&self) -> (i64, u32) {
+        let seconds = self.seconds.get();
+        self.seconds.set(seconds.wrapping_add(1));
+        (seconds, 5)
+    }
+}
+
+/// Serves the record X, which is 42, by a clock that moves on from 99 seconds.
+fn served_in_time(
+    alloc: Global,
+    input: &[&[u8]],
+    script: Vec<Turn>,
+) -> Result<(Ended, MemoryLink), NoMemory> {
+    let mut link = MemoryLink::new(alloc, joined(alloc, input)?, script);
+    let mut desk = desk_of_x(alloc)?;
+    let clock = MovingClock {
+        seconds: Cell::new(99),
+    };
+    let ended = serve_connection(alloc, &mut desk, &mut link, &clock, Order::Little, 100);
+    Ok((ended, link))
+}
+
 #[test]
-fn the_greeting_in_big_endian(rt: HostRuntime) -> Result<(), Fail> {
+fn the_clock_is_read_for_each_piece(rt: HostRuntime) -> Result<(), Fail> {
     let alloc = rt.alloc();
-    let (ended, link) = served(alloc, &[], Vec::new(alloc), Order::Big, 100)?;
+    let input = [VALIDATION, CREATE, BEGIN, BEGIN_PUT, PUT_SEVEN, GET];
+    let opening = VALIDATION.len() + CREATE.len() + BEGIN.len() + BEGIN_PUT.len();
+    // the greeting is written, and the opening is the first piece
+    let script = [Turn::Give(99), Turn::Give(opening)].to_vec(alloc)?;
+    let (ended, link) = served_in_time(alloc, &input, script)?;
     assert_eq!(rt; ended, Ended::Closed);
-    let wanted =
-        b"\xCA\x02\xC1\x02\x00\x00\x00\x00\xCA\x02\xC0\x01\x00\x00\x00\x14\x00\x01\x00\x00\x7F\xFF\x02\x09anonymous\x02ca";
+    let wanted = joined(
+        alloc,
+        &[
+            GREETING,
+            VALIDATED,
+            CREATED,
+            BEGUN,
+            DESCRIPTION,
+            PUT_BEGUN,
+            DESCRIPTION,
+            PUT_DONE,
+            SEVEN,
+        ],
+    )?;
     assert_eq!(rt; link.written(), wanted.as_slice());
+    Ok(())
+}
+
+/// A thousand puts of varied values with a get behind each, and the replies.
+fn puts_and_gets(alloc: Global) -> Result<(Vec<u8>, Vec<u8>), NoMemory> {
+    let mut input = joined(alloc, &[VALIDATION, CREATE, BEGIN, BEGIN_PUT])?;
+    let mut output = joined(
+        alloc,
+        &[
+            GREETING,
+            VALIDATED,
+            CREATED,
+            BEGUN,
+            DESCRIPTION,
+            PUT_BEGUN,
+            DESCRIPTION,
+        ],
+    )?;
+    for i in 0..1000u32 {
+        let value = i.wrapping_mul(2_654_435_761).to_le_bytes();
+        input.extend_from_slice(&PUT_SEVEN[..19])?;
+        input.extend_from_slice(&value)?;
+        input.extend_from_slice(GET)?;
+        output.extend_from_slice(PUT_DONE)?;
+        output.extend_from_slice(&SEVEN[..17])?;
+        output.extend_from_slice(&value)?;
+        output.extend_from_slice(&SEVEN[21..])?;
+    }
+    Ok((input, output))
+}
+
+/// Serves the record X, which is 42, over a link that is always ready.
+fn served_at_once(alloc: Global, input: Vec<u8>) -> Result<(Ended, PlainLink), NoMemory> {
+    let mut desk = desk_of_x(alloc)?;
+    let mut link = PlainLink::new(alloc, input);
+    let clock = FixedClock::new(100, 5);
+    let ended = serve_connection(alloc, &mut desk, &mut link, &clock, Order::Little, 1 << 62);
+    Ok((ended, link))
+}
+
+#[test]
+fn a_thousand_puts_and_gets_of_varied_values(rt: HostRuntime) -> Result<(), Fail> {
+    let alloc = rt.alloc();
+    let (input, output) = puts_and_gets(alloc)?;
+    let (ended, link) = served_at_once(alloc, input)?;
+    assert_eq!(rt; ended, Ended::Closed);
+    assert_eq!(rt; link.written(), output.as_slice());
     Ok(())
 }

@@ -1,4 +1,4 @@
-use Rattle.desk_api.specs.Adding.{adds_nothing, adds_more}
+use Rattle.desk_api.proofs.Adding.{adds_nothing, adds_more}
 use Rattle.desk_api.proofs.laws.calls_in_turn.Goals as goal
 
 pub returns : goal.returns

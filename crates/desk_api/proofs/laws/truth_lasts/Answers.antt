@@ -1,4 +1,4 @@
-use Rattle.desk_api.specs.Adding.{same_state, same_kept, all_still_hold}
+use Rattle.desk_api.proofs.Adding.{same_state, same_kept, all_still_hold}
 use Rattle.desk_api.proofs.laws.truth_lasts.Goals as goal
 
 pub returns : goal.returns

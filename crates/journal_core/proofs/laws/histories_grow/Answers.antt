@@ -1,4 +1,4 @@
-use Rattle.journal_core.specs.Growing.{same_state, next_state, kept_append}
+use Rattle.journal_core.proofs.Growing.{same_state, next_state, kept_append}
 use Rattle.journal_core.proofs.laws.histories_grow.Goals as goal
 
 pub returns : goal.returns

@@ -1,4 +1,4 @@
-use Rattle.journal_core.specs.Growing.{legal_push}
+use Rattle.journal_core.proofs.Growing.{legal_push}
 use Rattle.journal_core.proofs.history.History.push.Goals as goal
 
 pub returns-clause-legal : goal.returns-clause-legal

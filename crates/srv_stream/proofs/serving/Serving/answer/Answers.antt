@@ -1,35 +1,35 @@
-use Rattle.std.proofs.Common.{◌≡◌, ◌+◌, ◌-◌, ℕ, List, Some, take, drop, length, refl, ap, subst, arith, length-drop}
-use Rattle.std.proofs.lemmas.List.{take_all}
-use Rattle.first_messages.specs.Frames.{Frame}
-use Rattle.first_messages.specs.Requests.{message_at}
-use Rattle.srv_stream.specs.Calls.{Handled}
-use Rattle.srv_stream.specs.Talk.{Part}
-use Rattle.srv_stream.specs.Unserved.{no_part}
-use Rattle.srv_stream.proofs.Rows.{not_asked}
-use Rattle.srv_stream.specs.Views.{state_of, output_of}
+use Rattle.std.proofs.Common.{ℕ, List, Err, sym, ◌∙◌, ap, subst}
+use Rattle.pva_frames.specs.declared.event.Event.{Event}
+use Rattle.pva_frames.specs.declared.event.Event.TheVariants.{Message, Control}
+use Rattle.srv_stream.specs.Streams.{Answered, PartAnswered, Answers}
+use Rattle.srv_stream.specs.Views.{show, view_of}
+use Rattle.srv_stream.proofs.Answering.{answered, control_answers}
+use Rattle.srv_stream.proofs.Feeding.{handled_on_site}
 use Rattle.srv_stream.proofs.serving.Serving.answer.Goals as goal
 
-pub returns-then-self-size : goal.returns-then-self-size
-returns-then-self-size g c =
-    let old = g.D.Desk.seat c.args.desk.now in
-    let s = state_of c.args.self.now.session in
-    let message = message_at c.args.command (drop 8 c.args.frame.now) in
-    not_asked old c.args.moment (output_of c.args.self.now.session) (Part old.seen.base s message) (no_part old.seen.base s message)
+pub returns-in-Ok-clause-answers : goal.returns-in-Ok-clause-answers
+returns-in-Ok-clause-answers g c =
+    let seat = g.D.Desk.seat c.args.desk.now in
+    let old = show seat c.args.self.now.session in
+    let new = show seat c.handle_control.new.self in
+    subst (λ (e : Event). Answered seat seat c.args.moment (view_of c.args.self.now) (view_of record { session = c.handle_control.new.self; stream = c.args.self.now.stream; sound = c.args.self.now.sound }) e) (sym c.in-Control.is)
+    (answered old new c.args.moment (Control c.in-Control.command c.in-Control.number) c.args.self.now.stream (c.in-Ok.ensures seat c.has_legal_history.ensures c.args.moment))
 
-pub returns-in-Ok : goal.returns-in-Ok
-returns-in-Ok g c =
-    let payload = drop 8 c.args.frame.now in
-    let all : take (length c.args.frame.now - 8) payload ≡ payload = take_all (length c.args.frame.now - 8) payload (omega (arith, length-drop 8 c.args.frame.now)) in
-    let h = subst (λ (p : List ℕ). Handled (g.D.Desk.seat c.args.desk.now) (g.D.Desk.seat c.handle.new.desk) c.args.moment (state_of c.args.self.now.session) (state_of c.handle.new.self) (output_of c.args.self.now.session) (output_of c.handle.new.self) (message_at c.args.command p)) all c.in-Ok.ensures in
-    let e : Frame = record { command = c.args.command; payload = payload; place = c.args.self.now.place } in
-    let long : length c.args.frame.now ≡ 8 + length payload = omega (arith, length-drop 8 c.args.frame.now, c.requires.header) in record {
-      step = record { event = Some e; marks = h.answered.marks; out = h.answered.bytes; after = state_of c.handle.new.self };
-      rule = record { in_turn = h.in_turn; row = h.answered.row_is };
-      event = refl;
-      state = refl;
-      adds = h.answered.adds;
-      moments = h.answered.moments;
-      out = h.answered.out;
-      place = ap (λ (n : ℕ). c.args.self.now.place + n) long;
-      held = refl;
-    }
+pub returns-in-Ok-clause-site : goal.returns-in-Ok-clause-site
+returns-in-Ok-clause-site g c =
+    let seat = g.D.Desk.seat c.args.desk.now in
+    handled_on_site {old = show seat c.args.self.now.session} {new = show seat c.handle_control.new.self} (c.in-Ok.ensures seat c.has_legal_history.ensures c.args.moment) c.requires
+
+pub returns-in-Err-clause-answers : goal.returns-in-Err-clause-answers
+returns-in-Err-clause-answers g c =
+    let seat = g.D.Desk.seat c.args.desk.now in
+    let old = show seat c.args.self.now.session in
+    let new = show seat c.handle_control.new.self in
+    subst (λ (e : Event). PartAnswered seat seat c.args.moment (view_of c.args.self.now) (view_of record { session = c.handle_control.new.self; stream = c.args.self.now.stream; sound = c.args.self.now.sound }) e) (sym c.in-Control.is)
+    (control_answers old new c.args.moment (Control c.in-Control.command c.in-Control.number) c.args.self.now.stream _ (c.in-Err.ensures seat c.has_legal_history.ensures c.args.moment))
+
+pub returns-in-Message-clause-answers : goal.returns-in-Message-clause-answers
+returns-in-Message-clause-answers g c =
+    let m = c.in-Message.whole in
+    let same = ap (λ (p : List ℕ). Message (record { order = m.order; command = m.command; payload = p; place = m.place })) c.as_slice.ensures ∙ sym c.in-Message.is in
+    subst (λ (e : Event). Answers (g.D.Desk.seat c.args.desk.now) (g.D.Desk.seat c.answer_message.new.desk) c.args.moment (view_of c.args.self.now) (view_of c.answer_message.new.self) e c.answer_message.result) same c.answer_message.ensures.answers

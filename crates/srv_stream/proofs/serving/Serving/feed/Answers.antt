@@ -1,58 +1,62 @@
 use Rattle.std.proofs.Common.{◌≡◌, ◌-◌, ℕ, List, Some, Err, take, drop, length, sym, subst, arith, take-append-drop, length-drop}
 use Rattle.std.proofs.lemmas.List.{take_all}
 use Rattle.std.proofs.Math.Seq.{take-add}
-use Rattle.first_messages.specs.Cutting.{cut_unfinished}
-use Rattle.desk_api.specs.declared.history.Base.{Base}
-use Rattle.srv_stream.specs.Talk.{State, IsOf}
-use Rattle.srv_stream.specs.Streams.{FedOn, Feeds, Took}
-use Rattle.srv_stream.specs.ServingView.{view_of}
-use Rattle.srv_stream.proofs.Steps.{steps_on_site}
-use Rattle.srv_stream.proofs.Feeding.{fed_nothing, fed_on_more, feeds_err}
-use Rattle.srv_stream.proofs.Passing.{unrefused}
+use Rattle.srv_stream.specs.Streams.{Passed, Feeds, FedErr, Took}
+use Rattle.srv_stream.specs.Views.{view_of}
+use Rattle.srv_stream.proofs.Passing.{passed_nothing, passed_more, fed_err}
+use Rattle.srv_stream.proofs.Feeding.{passed_on_site, feeds_end}
 use Rattle.srv_stream.proofs.serving.Serving.feed.Goals as goal
 
-pub frames-init : goal.frames-init
-frames-init g c =
-    let v = view_of c.args.self.now in record {
-      within = omega arith;
-      fed = fed_nothing (g.D.Desk.seat c.args.desk.now) _ v (cut_unfinished v.place v.held c.args.self.now.begun) (unrefused v.place v.held c.args.self.now.begun);
+pub pieces-init : goal.pieces-init
+pieces-init g c = record {
+  within = omega arith;
+  passed = passed_nothing (g.D.Desk.seat c.args.desk.now) (Some c.args.moment) (view_of c.args.self.now) c.has_legal_history.ensures c.args.self.now.sound;
+}
+
+pub take_some-requires-clause-site : goal.take_some-requires-clause-site
+take_some-requires-clause-site g c = passed_on_site c.pieces.invariant.passed c.requires
+
+pub pieces-preserved : goal.pieces-preserved
+pieces-preserved g c =
+    let v = view_of c.args.self.now in
+    let u = view_of c.pieces.self in
+    let w = view_of c.take_some.new.self in
+    let old = g.D.Desk.seat c.args.desk.now in
+    let mid = g.D.Desk.seat c.pieces.desk in
+    let new = g.D.Desk.seat c.take_some.new.desk in
+    let piece = c.args.piece.now in
+    let at = c.pieces.at in
+    let all : take (length piece - at) (drop at piece) ≡ drop at piece = take_all (length piece - at) (drop at piece) (omega (arith, length-drop at piece)) in
+    let x = subst (λ (z : List ℕ). Took mid new (Some c.args.moment) u w z c.in-Ok.count) all c.in-Ok.ensures.takes in record {
+      within = omega (arith, x.within, length-drop at piece, c.pieces.invariant.within);
+      passed = subst (λ (z : List ℕ). Passed old new (Some c.args.moment) v w z) (sym (take-add at c.in-Ok.count piece)) (passed_more c.pieces.invariant.passed x.passed);
     }
 
-pub take_next-requires-clause-site : goal.take_next-requires-clause-site
-take_next-requires-clause-site g c =
-    let a = c.frames.invariant.fed.fed in
+pub returns-in-Err-clause-feeds : goal.returns-in-Err-clause-feeds
+returns-in-Err-clause-feeds g c =
     let v = view_of c.args.self.now in
+    let u = view_of c.pieces.self in
+    let w = view_of c.take_some.new.self in
     let old = g.D.Desk.seat c.args.desk.now in
-    let mid = g.D.Desk.seat c.frames.desk in
-    let u = view_of c.frames.self in
-    subst (λ (z : Base). IsOf z u.state) (sym a.adds.grows.same) (subst (λ (z : State). IsOf old.seen.base z) (sym a.state) (steps_on_site old.seen.base v.state a.steps a.follows.rules c.requires))
-
-pub frames-preserved : goal.frames-preserved
-frames-preserved g c =
-    let v = view_of c.args.self.now in
-    let u = view_of c.frames.self in
-    let w = view_of c.take_next.new.self in
-    let old = g.D.Desk.seat c.args.desk.now in
-    let mid = g.D.Desk.seat c.frames.desk in
-    let new = g.D.Desk.seat c.take_next.new.desk in
+    let mid = g.D.Desk.seat c.pieces.desk in
+    let new = g.D.Desk.seat c.take_some.new.desk in
     let piece = c.args.piece.now in
-    let at = c.frames.at in
+    let at = c.pieces.at in
+    let ended = c.in-Err.ended in
     let all : take (length piece - at) (drop at piece) ≡ drop at piece = take_all (length piece - at) (drop at piece) (omega (arith, length-drop at piece)) in
-    let x = subst (λ (z : List ℕ). Took mid new (Some c.args.moment) u w z c.in-Ok.count) all c.in-Ok.ensures in record {
-      within = omega (arith, x.within, length-drop at piece, c.frames.invariant.within);
-      fed = subst (λ (z : List ℕ). FedOn old new (Some c.args.moment) v w z) (sym (take-add at c.in-Ok.count piece)) (fed_on_more (take c.in-Ok.count (drop at piece)) c.frames.invariant.fed x.fed);
-    }
+    let x = subst (λ (z : List ℕ). FedErr mid new (Some c.args.moment) u w z ended) all c.in-Err.ensures.takes in
+    subst (λ (z : List ℕ). FedErr old new (Some c.args.moment) v w z ended) (take-append-drop at piece) (fed_err new w (drop at piece) ended c.pieces.invariant.passed x)
 
-pub returns-in-Err : goal.returns-in-Err
-returns-in-Err g c =
+pub answer_ready-requires : goal.answer_ready-requires
+answer_ready-requires g c = passed_on_site c.pieces.invariant.passed c.requires
+
+pub returns-clause-feeds : goal.returns-clause-feeds
+returns-clause-feeds g c =
     let v = view_of c.args.self.now in
-    let u = view_of c.frames.self in
-    let w = view_of c.take_next.new.self in
+    let w = view_of c.answer_ready.new.self in
     let old = g.D.Desk.seat c.args.desk.now in
-    let mid = g.D.Desk.seat c.frames.desk in
-    let new = g.D.Desk.seat c.take_next.new.desk in
+    let new = g.D.Desk.seat c.answer_ready.new.desk in
     let piece = c.args.piece.now in
-    let at = c.frames.at in
-    let all : take (length piece - at) (drop at piece) ≡ drop at piece = take_all (length piece - at) (drop at piece) (omega (arith, length-drop at piece)) in
-    let x = subst (λ (z : List ℕ). Feeds mid new (Some c.args.moment) u w z (Err c.in-Err.stop)) all c.in-Err.ensures in
-    subst (λ (z : List ℕ). Feeds old new (Some c.args.moment) v w z (Err c.in-Err.stop)) (take-append-drop at piece) (feeds_err new w (drop at piece) c.in-Err.stop c.frames.invariant.fed x)
+    let at = c.pieces.at in
+    let all : take at piece ≡ piece = take_all at piece (omega arith) in
+    subst (λ (z : List ℕ). Feeds old new (Some c.args.moment) v w z c.answer_ready.result) all (feeds_end new w c.answer_ready.result c.pieces.invariant.passed c.answer_ready.ensures.feeds)

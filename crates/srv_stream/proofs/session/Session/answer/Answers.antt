@@ -1,41 +1,68 @@
-use Rattle.std.proofs.Common.{Option, sym, subst}
-use Rattle.first_messages.specs.declared.to_server.ToServer.TheVariants.{Validation, Create, BeginGet, Get, BeginPut}
-use Rattle.desk_api.specs.declared.channel.Channel.{Channel}
-use Rattle.srv_stream.specs.Talk.{BeginRow, GetRow, BeginPutRow, NoPart, GetPart}
-use Rattle.srv_stream.specs.Calls.{AnswersRow}
-use Rattle.srv_stream.specs.Views.{state_of, output_of}
-use Rattle.srv_stream.proofs.Rows.{answers_as}
+use Rattle.std.proofs.Common.{subst}
+use Rattle.srv_stream.specs.Hearings.{IsTurnOf}
+use Rattle.srv_stream.specs.Views.{show}
+use Rattle.srv_stream.specs.declared.turn.Turn as told
+use Rattle.srv_stream.proofs.Handling.{answers_as}
 use Rattle.srv_stream.proofs.session.Session.answer.Goals as goal
 
-pub returns-in-Validation : goal.returns-in-Validation
-returns-in-Validation g c =
-    let old = g.D.Desk.seat c.args.desk.now in
-    let s = state_of c.args.self.now in
-    answers_as old (g.D.Desk.seat c.answer_validation.new.desk) c.args.moment s (state_of c.answer_validation.new.self) (output_of c.args.self.now) (output_of c.answer_validation.new.self) c.args.message (Validation c.in-Validation.field-0 c.in-Validation.field-1 c.in-Validation.field-2) c.answer_validation.result c.in-Validation.is (c.answer_validation.ensures c.args.moment)
+pub begin_get-requires : goal.begin_get-requires
+begin_get-requires g c = subst (λ (z : told.Turn). IsTurnOf (g.D.Desk.seat c.args.desk.now).seen.base.site z) c.in-BeginGet.is c.requires
+
+pub begin_put-requires : goal.begin_put-requires
+begin_put-requires g c = subst (λ (z : told.Turn). IsTurnOf (g.D.Desk.seat c.args.desk.now).seen.base.site z) c.in-BeginPut.is c.requires
+
+pub get-requires : goal.get-requires
+get-requires g c = subst (λ (z : told.Turn). IsTurnOf (g.D.Desk.seat c.args.desk.now).seen.base.site z) c.in-Get.is c.requires
+
+pub put-requires : goal.put-requires
+put-requires g c = subst (λ (z : told.Turn). IsTurnOf (g.D.Desk.seat c.args.desk.now).seen.base.site z) c.in-Put.is c.requires
+
+pub returns-in-PassOver : goal.returns-in-PassOver
+returns-in-PassOver g c =
+    let seat = g.D.Desk.seat c.args.desk.now in
+    answers_as (show seat c.args.self.now) (show seat c.pass_over.new.self) c.args.moment c.pass_over.result c.args.turn.now _ c.in-PassOver.is (c.pass_over.ensures seat c.has_legal_history.ensures c.args.moment)
+
+pub returns-in-EchoControl : goal.returns-in-EchoControl
+returns-in-EchoControl g c =
+    let seat = g.D.Desk.seat c.args.desk.now in
+    answers_as (show seat c.args.self.now) (show seat c.echo_control.new.self) c.args.moment c.echo_control.result c.args.turn.now _ c.in-EchoControl.is (c.echo_control.ensures seat c.has_legal_history.ensures c.args.moment)
+
+pub returns-in-Validate : goal.returns-in-Validate
+returns-in-Validate g c =
+    let seat = g.D.Desk.seat c.args.desk.now in
+    answers_as (show seat c.args.self.now) (show seat c.validate.new.self) c.args.moment c.validate.result c.args.turn.now _ c.in-Validate.is (c.validate.ensures seat c.has_legal_history.ensures c.args.moment)
+
+pub returns-in-Echo : goal.returns-in-Echo
+returns-in-Echo g c =
+    let seat = g.D.Desk.seat c.args.desk.now in
+    answers_as (show seat c.args.self.now) (show seat c.echo.new.self) c.args.moment c.echo.result c.args.turn.now _ c.in-Echo.is (c.echo.ensures seat c.has_legal_history.ensures c.args.moment)
 
 pub returns-in-Create : goal.returns-in-Create
 returns-in-Create g c =
-    let old = g.D.Desk.seat c.args.desk.now in
-    let s = state_of c.args.self.now in
-    answers_as old (g.D.Desk.seat c.answer_create.new.desk) c.args.moment s (state_of c.answer_create.new.self) (output_of c.args.self.now) (output_of c.answer_create.new.self) c.args.message (Create c.in-Create.cid c.in-Create.name) c.answer_create.result c.in-Create.is (c.answer_create.ensures c.args.moment)
+    let seat = g.D.Desk.seat c.args.desk.now in
+    answers_as (show seat c.args.self.now) (show seat c.create.new.self) c.args.moment c.create.result c.args.turn.now _ c.in-Create.is (c.create.ensures c.has_legal_history.ensures c.args.moment)
 
-pub returns-in-Some : goal.returns-in-Some
-returns-in-Some g c =
-    let old = g.D.Desk.seat c.args.desk.now in
-    let s = state_of c.args.self.now in
-    answers_as old (g.D.Desk.seat c.answer_begin.new.desk) c.args.moment s (state_of c.answer_begin.new.self) (output_of c.args.self.now) (output_of c.answer_begin.new.self) c.args.message (BeginGet c.in-BeginGet.field-0 c.in-BeginGet.req) c.answer_begin.result c.in-BeginGet.is
-    (subst (λ (z : Option Channel). AnswersRow old (g.D.Desk.seat c.answer_begin.new.desk) c.args.moment (state_of c.answer_begin.new.self) (output_of c.args.self.now) (output_of c.answer_begin.new.self) (BeginRow c.in-BeginGet.req s z) NoPart c.answer_begin.result) (sym c.in-Some.is) (c.answer_begin.ensures c.args.moment))
+pub returns-in-BeginGet : goal.returns-in-BeginGet
+returns-in-BeginGet g c =
+    let seat = g.D.Desk.seat c.args.desk.now in
+    answers_as (show seat c.args.self.now) (show seat c.begin_get.new.self) c.args.moment c.begin_get.result c.args.turn.now _ c.in-BeginGet.is (c.begin_get.ensures c.has_legal_history.ensures c.args.moment)
 
-pub returns-in-Some-channel : goal.returns-in-Some-channel
-returns-in-Some-channel g c =
-    let old = g.D.Desk.seat c.args.desk.now in
-    let s = state_of c.args.self.now in
-    answers_as old (g.D.Desk.seat c.answer_get.new.desk) c.args.moment s (state_of c.answer_get.new.self) (output_of c.args.self.now) (output_of c.answer_get.new.self) c.args.message (Get c.in-Get.field-0 c.in-Get.req) c.answer_get.result c.in-Get.is
-    (subst (λ (z : Option Channel). AnswersRow old (g.D.Desk.seat c.answer_get.new.desk) c.args.moment (state_of c.answer_get.new.self) (output_of c.args.self.now) (output_of c.answer_get.new.self) (GetRow c.in-Get.req s z) (GetPart z) c.answer_get.result) (sym c.in-Some-channel.is) (c.answer_get.ensures c.args.moment))
+pub returns-in-BeginPut : goal.returns-in-BeginPut
+returns-in-BeginPut g c =
+    let seat = g.D.Desk.seat c.args.desk.now in
+    answers_as (show seat c.args.self.now) (show seat c.begin_put.new.self) c.args.moment c.begin_put.result c.args.turn.now _ c.in-BeginPut.is (c.begin_put.ensures c.has_legal_history.ensures c.args.moment)
 
-pub returns-in-Some-channel-2 : goal.returns-in-Some-channel-2
-returns-in-Some-channel-2 g c =
-    let old = g.D.Desk.seat c.args.desk.now in
-    let s = state_of c.args.self.now in
-    answers_as old (g.D.Desk.seat c.answer_begin_put.new.desk) c.args.moment s (state_of c.answer_begin_put.new.self) (output_of c.args.self.now) (output_of c.answer_begin_put.new.self) c.args.message (BeginPut c.in-BeginPut.field-0 c.in-BeginPut.req) c.answer_begin_put.result c.in-BeginPut.is
-    (subst (λ (z : Option Channel). AnswersRow old (g.D.Desk.seat c.answer_begin_put.new.desk) c.args.moment (state_of c.answer_begin_put.new.self) (output_of c.args.self.now) (output_of c.answer_begin_put.new.self) (BeginPutRow c.in-BeginPut.req s z) NoPart c.answer_begin_put.result) (sym c.in-Some-channel-2.is) (c.answer_begin_put.ensures c.args.moment))
+pub returns-in-Get : goal.returns-in-Get
+returns-in-Get g c =
+    let seat = g.D.Desk.seat c.args.desk.now in
+    answers_as (show seat c.args.self.now) (show (g.D.Desk.seat c.get.new.desk) c.get.new.self) c.args.moment c.get.result c.args.turn.now _ c.in-Get.is (c.get.ensures c.args.moment)
+
+pub returns-in-Put : goal.returns-in-Put
+returns-in-Put g c =
+    let seat = g.D.Desk.seat c.args.desk.now in
+    answers_as (show seat c.args.self.now) (show (g.D.Desk.seat c.put.new.desk) c.put.new.self) c.args.moment c.put.result c.args.turn.now _ c.in-Put.is c.put.ensures
+
+pub returns-in-Mistake : goal.returns-in-Mistake
+returns-in-Mistake g c =
+    let seat = g.D.Desk.seat c.args.desk.now in
+    answers_as (show seat c.args.self.now) (show seat c.mistake.new.self) c.args.moment c.mistake.result c.args.turn.now _ c.in-Mistake.is (c.mistake.ensures seat c.has_legal_history.ensures c.args.moment)

@@ -1,0 +1,53 @@
+-- Members made one by one, and structures with another number of members.
+use Rattle.std.proofs.Common.{◌≡◌, ℕ, ◌+◌, ◌<◌, Bool, true, false, ◌&&◌, List, [], ◌∷◌, ◌++◌, length, take, get_or, refl, ap, sym, ◌∙◌}
+use Rattle.std.specs.Str.{bytes_eq}
+use Rattle.std.proofs.lemmas.List.{take_more}
+use Rattle.pvd_type.specs.Same.{same_fields, same_tree}
+use Rattle.pvd_type.specs.Tree.{Tree, Fields, no_fields, field}
+use Rattle.pvd_type.specs.View.{member_view, members_view}
+use Rattle.pvd_type.specs.declared.shape.Member.{Member}
+use Rattle.pvd_type.specs.declared.shape.Scalar.{Scalar}
+use Rattle.nt_types.specs.Types.{fields_by}
+
+abbrev at_end : Fields → List ℕ × Tree → Fields
+at_end no_fields m = field m.0 m.1 no_fields
+at_end (field name t fs) m = field name t (at_end fs m)
+
+members_more : (ms : List Member) (m : Member) → members_view (ms ++ m ∷ []) ≡ at_end (members_view ms) (member_view m)
+members_more [] m = refl
+members_more (x ∷ ms) m = ap (field (member_view x).0 (member_view x).1) (members_more ms m)
+
+fields_more : (shape : Scalar → Tree) (cs : List (List ℕ × Scalar)) (c : List ℕ × Scalar) →
+    fields_by shape (cs ++ c ∷ []) ≡ at_end (fields_by shape cs) (c.0, shape c.1)
+fields_more shape [] c = refl
+fields_more shape (x ∷ cs) c = ap (field x.0 (shape x.1)) (fields_more shape cs c)
+
+pub made_more : (shape : Scalar → Tree) (cs : List (List ℕ × Scalar)) (i : ℕ) (x : List ℕ × Scalar) (ms after : List Member) (m : Member) →
+    i < length cs → get_or cs i x ≡ x → members_view ms ≡ fields_by shape (take i cs) → after ≡ ms ++ m ∷ [] →
+    member_view m ≡ (x.0, shape x.1) → members_view after ≡ fields_by shape (take (i + 1) cs)
+made_more shape cs i x ms after m short here so_far is made =
+    ap members_view is
+    ∙ (members_more ms m
+    ∙ (ap (λ fs. at_end fs (member_view m)) so_far
+    ∙ (ap (at_end (fields_by shape (take i cs))) made
+    ∙ (sym (fields_more shape (take i cs) x)
+    ∙ (ap (λ (y : List ℕ × Scalar). fields_by shape (take i cs ++ y ∷ [])) (sym here)
+    ∙ ap (fields_by shape) (sym (take_more cs i x short)))))))
+
+no_and : (b : Bool) → (b && false) ≡ false
+no_and true = refl
+no_and false = refl
+
+none_of : (a b c : Bool) → false ≡ (a && (b && (c && false)))
+none_of a b c = sym (ap (λ x. a && (b && x)) (no_and c) ∙ (ap (λ x. a && x) (no_and b) ∙ no_and a))
+
+-- a structure with another number of members than two
+pub not_two : (b : Bool) (ms : List Member) (m n : List ℕ) (t u : Tree) → (length ms ≡ 2 → ⊥) →
+    false ≡ (b && same_fields (members_view ms) (field m t (field n u no_fields)))
+not_two b [] m n t u h = sym (no_and b)
+not_two b (x ∷ []) m n t u h = none_of b (bytes_eq (member_view x).0 m) (same_tree (member_view x).1 t)
+not_two b (x ∷ y ∷ []) m n t u h = absurd (h refl)
+not_two b (x ∷ y ∷ z ∷ ms) m n t u h =
+    none_of b (bytes_eq (member_view x).0 m) (same_tree (member_view x).1 t)
+    ∙ ap (λ r. b && (bytes_eq (member_view x).0 m && (same_tree (member_view x).1 t && r)))
+    (none_of true (bytes_eq (member_view y).0 n) (same_tree (member_view y).1 u))

@@ -1,0 +1,178 @@
+// The members of a type.
+ghost use Rattle.std.specs.Prelude.{◌≡◌, option_map};
+ghost use Rattle.pvd_type.specs.View.{shape_view, members_view};
+ghost use Rattle.pvd_type.specs.Tree.{leaf, plain, list as list_leaf};
+ghost use Rattle.pvd_type.specs.Tree as tree;
+ghost use Rattle.pvd_type.specs.Same.{same_tree};
+ghost use Rattle.nt_types.specs.Kinds.{member_named, some_tree, is_scalar, is_list, all_lists, is_columns};
+ghost use Rattle.nt_types.specs.Types.{enum_value, list_of, scalar};
+
+use pvd_type::{Extent, Member, Scalar, Shape};
+
+/// The shape of the member of this name.
+fn shape_named<'a>(members: &'a [Member], name: &str) -> Option<&'a Shape>
+    ensures { option_map (λ s. shape_view s.now) result ≡ member_named name.now (members_view members.now) }
+{
+    for member in members {
+        if member.name.as_str() == name {
+            return Some(&member.shape);
+        }
+    }
+    None
+}
+
+/// Whether a member of this name is a scalar.
+pub(crate) fn has_scalar(members: &[Member], name: &str) -> bool
+    ensures { result ≡ some_tree is_scalar (member_named name.now (members_view members.now)) }
+{
+    match shape_named(members, name) {
+        Some(shape) => shape_is_scalar(shape),
+        None => false,
+    }
+}
+
+fn shape_is_scalar(shape: &Shape) -> bool
+    ensures { result ≡ is_scalar (shape_view shape.now) }
+{
+    match shape {
+        Shape::Plain(_) => true,
+        Shape::BoundText(_) | Shape::List(_, _) | Shape::Struct(_) => false,
+        Shape::Union(_) | Shape::StructList(_) | Shape::UnionList(_) => false,
+        Shape::Variant | Shape::VariantList => false,
+    }
+}
+
+/// Whether a member of this name is a list of scalars.
+pub(crate) fn has_list(members: &[Member], name: &str) -> bool
+    ensures { result ≡ some_tree is_list (member_named name.now (members_view members.now)) }
+{
+    match shape_named(members, name) {
+        Some(shape) => shape_is_list(shape),
+        None => false,
+    }
+}
+
+fn shape_is_list(shape: &Shape) -> bool
+    ensures { result ≡ is_list (shape_view shape.now) }
+{
+    match shape {
+        Shape::List(_, _) => true,
+        Shape::Plain(_) | Shape::BoundText(_) | Shape::Struct(_) => false,
+        Shape::Union(_) | Shape::StructList(_) | Shape::UnionList(_) => false,
+        Shape::Variant | Shape::VariantList => false,
+    }
+}
+
+/// Whether a member of this name is a text.
+pub(crate) fn has_text(members: &[Member], name: &str) -> bool
+    ensures { result ≡ some_tree (λ t. same_tree t (scalar Scalar.Text)) (member_named name.now (members_view members.now)) }
+{
+    match shape_named(members, name) {
+        Some(shape) => is_plain(shape, Scalar::Text),
+        None => false,
+    }
+}
+
+/// Whether a shape is this scalar.
+fn is_plain(shape: &Shape, scalar: Scalar) -> bool
+    ensures { result ≡ same_tree (shape_view shape.now) (leaf (plain scalar)) }
+{
+    match shape {
+        Shape::Plain(other) => *other == scalar,
+        Shape::BoundText(_) | Shape::List(_, _) | Shape::Struct(_) => false,
+        Shape::Union(_) | Shape::StructList(_) | Shape::UnionList(_) => false,
+        Shape::Variant | Shape::VariantList => false,
+    }
+}
+
+/// Whether a member of this name is a list of any number of texts.
+pub(crate) fn has_texts(members: &[Member], name: &str) -> bool
+    ensures { result ≡ some_tree (λ t. same_tree t (list_of Scalar.Text)) (member_named name.now (members_view members.now)) }
+{
+    match shape_named(members, name) {
+        Some(shape) => is_texts(shape),
+        None => false,
+    }
+}
+
+fn is_texts(shape: &Shape) -> bool
+    ensures { result ≡ same_tree (shape_view shape.now) (list_of Scalar.Text) }
+{
+    match shape {
+        Shape::List(Scalar::Text, Extent::Variable) => true,
+        Shape::List(_, _) => false,
+        Shape::Plain(_) | Shape::BoundText(_) | Shape::Struct(_) => false,
+        Shape::Union(_) | Shape::StructList(_) | Shape::UnionList(_) => false,
+        Shape::Variant | Shape::VariantList => false,
+    }
+}
+
+/// Whether a member of this name is an index and its choices.
+pub(crate) fn has_choice(members: &[Member], name: &str) -> bool
+    ensures { result ≡ some_tree (λ t. same_tree t enum_value) (member_named name.now (members_view members.now)) }
+{
+    match shape_named(members, name) {
+        Some(shape) => shape_is_choice(shape),
+        None => false,
+    }
+}
+
+fn shape_is_choice(shape: &Shape) -> bool
+    ensures { result ≡ same_tree (shape_view shape.now) enum_value }
+{
+    match shape {
+        Shape::Struct(node) => is_choice(node.id.as_str(), &node.members),
+        Shape::Plain(_) | Shape::BoundText(_) | Shape::List(_, _) => false,
+        Shape::Union(_) | Shape::StructList(_) | Shape::UnionList(_) => false,
+        Shape::Variant | Shape::VariantList => false,
+    }
+}
+
+/// Whether a structure is an index and its choices.
+fn is_choice(id: &str, members: &[Member]) -> bool
+    ensures { result ≡ same_tree (tree.node tree.struct id.now (members_view members.now)) enum_value }
+{
+    match members {
+        [index, choices] => {
+            id == "enum_t"
+                && index.name.as_str() == "index"
+                && is_plain(&index.shape, Scalar::I32)
+                && choices.name.as_str() == "choices"
+                && is_texts(&choices.shape)
+        }
+        _ => false,
+    }
+}
+
+/// Whether a member of this name is a structure of lists of scalars.
+pub(crate) fn has_columns(members: &[Member], name: &str) -> bool
+    ensures { result ≡ some_tree is_columns (member_named name.now (members_view members.now)) }
+{
+    match shape_named(members, name) {
+        Some(shape) => shape_is_columns(shape),
+        None => false,
+    }
+}
+
+fn shape_is_columns(shape: &Shape) -> bool
+    ensures { result ≡ is_columns (shape_view shape.now) }
+{
+    match shape {
+        Shape::Struct(node) => all_are_lists(&node.members),
+        Shape::Plain(_) | Shape::BoundText(_) | Shape::List(_, _) => false,
+        Shape::Union(_) | Shape::StructList(_) | Shape::UnionList(_) => false,
+        Shape::Variant | Shape::VariantList => false,
+    }
+}
+
+/// Whether each member is a list of scalars.
+fn all_are_lists(members: &[Member]) -> bool
+    ensures { result ≡ all_lists (members_view members.now) }
+{
+    for member in members {
+        if !shape_is_list(&member.shape) {
+            return false;
+        }
+    }
+    true
+}

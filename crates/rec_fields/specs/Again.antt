@@ -1,0 +1,33 @@
+-- A put of what a record shows.
+use Rattle.std.specs.Prelude.{◌≡◌, ◌<◌, ◌^◌, ⊤, Bool, true, false, Ok}
+use Rattle.std.specs.FinSet.{FinSet, contains}
+use Rattle.std.specs.Ordering.{nat_cmp}
+use Rattle.rec_kinds.specs.Configs.{Config}
+use Rattle.rec_kinds.specs.Moments.{Instant}
+use Rattle.rec_kinds.specs.Processing.{clamped, processed}
+use Rattle.rec_kinds.specs.Validity.{IsValid}
+use Rattle.rec_kinds.specs.declared.datum.Datum.{Datum}
+use Rattle.rec_kinds.specs.declared.datum.Datum.TheVariants.{Index}
+use Rattle.rec_kinds.specs.declared.datum.Action.TheVariants.{Put}
+use Rattle.rec_kinds.specs.declared.state.RecState.{RecState}
+use Rattle.rec_fields.specs.Puts.{action_for, value_leaf}
+use Rattle.rec_fields.specs.Shown.{shown, value_shown}
+
+-- an index is a number of 16 bits
+abbrev pub IsWord : Datum → Type 0
+IsWord (Index i) = i < 2 ^ 16
+IsWord _ = ⊤
+
+-- The record takes puts, the value's leaf is marked, and the record's limits leave what it holds.
+pub record MayBePutAgain (config : Config) (state : RecState) (mask : FinSet nat_cmp) : Type 0 where
+  pub valid : IsValid config state
+  pub enabled : config.disabled ≡ false
+  pub marked : contains mask (value_leaf config.kind) ≡ true
+  pub word : IsWord state.datum
+  pub kept : clamped config state.datum ≡ state.datum
+
+-- A put of what is shown puts what the record holds, and the record then shows the same value.
+pub record IsPutAgain (config : Config) (state : RecState) (mask : FinSet nat_cmp) : Type 0 where
+  pub action : action_for config (shown config state) mask ≡ Ok (Put state.datum)
+  pub same : (moment : Instant) (drove : Bool) →
+      value_shown config (processed config state (Put state.datum) moment drove).datum ≡ value_shown config state.datum

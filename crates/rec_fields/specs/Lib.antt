@@ -1,0 +1,5 @@
+pub mod Types
+pub mod Shown
+pub mod Puts
+pub mod Given
+pub mod Again

@@ -1,0 +1,254 @@
+// The fields of records, and how their texts are read.
+ghost use Rattle.std.specs.Prelude.{◌≡◌};
+ghost use Rattle.std.specs.Option.{is_some};
+ghost use Rattle.rec_kinds.specs.Fields.{own_rule, rule_of};
+
+use crate::kind::Kind;
+use crate::named::named;
+
+/// How the text of a field is read (EPICS record reference).
+#[derive(Clone, Copy, Debug, PartialEq, Eq)]
+pub enum Rule {
+    /// The field has no effect, and its text isn't read.
+    Unread,
+    /// Any text.
+    Any,
+    /// A text of at most so many bytes.
+    Text(u32),
+    /// A number from the first to the second.
+    Number(i64, i64),
+    /// A count from the first to the second.
+    Count(i64, i64),
+    /// The index of one of the record's choices.
+    Index,
+    /// One of the four severities.
+    Severity,
+    /// The type of a list's elements.
+    Element,
+    /// The device; `File` makes a port.
+    Device,
+    /// Where the port leads: `@file` and a path.
+    Path,
+}
+
+// The fields that every kind has.
+const COMMON: [(&str, Rule); 2] = [("DESC", Rule::Text(40)), ("DISP", Rule::Number(0, 1))];
+
+// The fields that every kind takes without effect.
+const UNREAD: [(&str, Rule); 57] = [
+    ("DTYP", Rule::Unread),
+    ("OUT", Rule::Unread),
+    ("SCAN", Rule::Unread),
+    ("PINI", Rule::Unread),
+    ("PHAS", Rule::Unread),
+    ("EVNT", Rule::Unread),
+    ("PRIO", Rule::Unread),
+    ("TSE", Rule::Unread),
+    ("TSEL", Rule::Unread),
+    ("DISV", Rule::Unread),
+    ("DISA", Rule::Unread),
+    ("SDIS", Rule::Unread),
+    ("DISS", Rule::Unread),
+    ("FLNK", Rule::Unread),
+    ("INP", Rule::Unread),
+    ("EGU", Rule::Unread),
+    ("PREC", Rule::Unread),
+    ("HOPR", Rule::Unread),
+    ("LOPR", Rule::Unread),
+    ("HYST", Rule::Unread),
+    ("ADEL", Rule::Unread),
+    ("MDEL", Rule::Unread),
+    ("ASG", Rule::Unread),
+    ("OMSL", Rule::Unread),
+    ("DOL", Rule::Unread),
+    ("IVOA", Rule::Unread),
+    ("IVOV", Rule::Unread),
+    ("SIOL", Rule::Unread),
+    ("SIML", Rule::Unread),
+    ("SIMS", Rule::Unread),
+    ("SVAL", Rule::Unread),
+    ("NOBT", Rule::Unread),
+    ("SHFT", Rule::Unread),
+    ("MASK", Rule::Unread),
+    ("TPRO", Rule::Unread),
+    ("ACKT", Rule::Unread),
+    ("APST", Rule::Unread),
+    ("MPST", Rule::Unread),
+    ("COSV", Rule::Unread),
+    ("UNSV", Rule::Unread),
+    ("RVAL", Rule::Unread),
+    ("ZRVL", Rule::Unread),
+    ("ONVL", Rule::Unread),
+    ("TWVL", Rule::Unread),
+    ("THVL", Rule::Unread),
+    ("FRVL", Rule::Unread),
+    ("FVVL", Rule::Unread),
+    ("SXVL", Rule::Unread),
+    ("SVVL", Rule::Unread),
+    ("EIVL", Rule::Unread),
+    ("NIVL", Rule::Unread),
+    ("TEVL", Rule::Unread),
+    ("ELVL", Rule::Unread),
+    ("TVVL", Rule::Unread),
+    ("TTVL", Rule::Unread),
+    ("FTVL", Rule::Unread),
+    ("FFVL", Rule::Unread),
+];
+
+// The value of a number of 32 bits and its alarms.
+const INTEGER: [(&str, Rule); 9] = [
+    ("VAL", Rule::Number(-2_147_483_648, 2_147_483_647)),
+    ("HIHI", Rule::Number(-2_147_483_648, 2_147_483_647)),
+    ("HIGH", Rule::Number(-2_147_483_648, 2_147_483_647)),
+    ("LOW", Rule::Number(-2_147_483_648, 2_147_483_647)),
+    ("LOLO", Rule::Number(-2_147_483_648, 2_147_483_647)),
+    ("HHSV", Rule::Severity),
+    ("HSV", Rule::Severity),
+    ("LSV", Rule::Severity),
+    ("LLSV", Rule::Severity),
+];
+
+// The limits of what is put into a number of 32 bits.
+const INTEGER_DRIVE: [(&str, Rule); 2] = [
+    ("DRVH", Rule::Number(-2_147_483_648, 2_147_483_647)),
+    ("DRVL", Rule::Number(-2_147_483_648, 2_147_483_647)),
+];
+
+// The value of a number of 64 bits and its alarms.
+const LONG: [(&str, Rule); 9] = [
+    (
+        "VAL",
+        Rule::Number(-9_223_372_036_854_775_808, 9_223_372_036_854_775_807),
+    ),
+    (
+        "HIHI",
+        Rule::Number(-9_223_372_036_854_775_808, 9_223_372_036_854_775_807),
+    ),
+    (
+        "HIGH",
+        Rule::Number(-9_223_372_036_854_775_808, 9_223_372_036_854_775_807),
+    ),
+    (
+        "LOW",
+        Rule::Number(-9_223_372_036_854_775_808, 9_223_372_036_854_775_807),
+    ),
+    (
+        "LOLO",
+        Rule::Number(-9_223_372_036_854_775_808, 9_223_372_036_854_775_807),
+    ),
+    ("HHSV", Rule::Severity),
+    ("HSV", Rule::Severity),
+    ("LSV", Rule::Severity),
+    ("LLSV", Rule::Severity),
+];
+
+// The limits of what is put into a number of 64 bits.
+const LONG_DRIVE: [(&str, Rule); 2] = [
+    (
+        "DRVH",
+        Rule::Number(-9_223_372_036_854_775_808, 9_223_372_036_854_775_807),
+    ),
+    (
+        "DRVL",
+        Rule::Number(-9_223_372_036_854_775_808, 9_223_372_036_854_775_807),
+    ),
+];
+
+// The value and the choices of one of two.
+const TWO: [(&str, Rule); 5] = [
+    ("VAL", Rule::Number(0, 1)),
+    ("ZNAM", Rule::Any),
+    ("ONAM", Rule::Any),
+    ("ZSV", Rule::Severity),
+    ("OSV", Rule::Severity),
+];
+
+// What a bo takes without effect besides.
+const BO_UNREAD: [(&str, Rule); 1] = [("HIGH", Rule::Unread)];
+
+// The value and the choices of one of up to sixteen.
+const SIXTEEN: [(&str, Rule); 33] = [
+    ("VAL", Rule::Index),
+    ("ZRST", Rule::Any),
+    ("ONST", Rule::Any),
+    ("TWST", Rule::Any),
+    ("THST", Rule::Any),
+    ("FRST", Rule::Any),
+    ("FVST", Rule::Any),
+    ("SXST", Rule::Any),
+    ("SVST", Rule::Any),
+    ("EIST", Rule::Any),
+    ("NIST", Rule::Any),
+    ("TEST", Rule::Any),
+    ("ELST", Rule::Any),
+    ("TVST", Rule::Any),
+    ("TTST", Rule::Any),
+    ("FTST", Rule::Any),
+    ("FFST", Rule::Any),
+    ("ZRSV", Rule::Severity),
+    ("ONSV", Rule::Severity),
+    ("TWSV", Rule::Severity),
+    ("THSV", Rule::Severity),
+    ("FRSV", Rule::Severity),
+    ("FVSV", Rule::Severity),
+    ("SXSV", Rule::Severity),
+    ("SVSV", Rule::Severity),
+    ("EISV", Rule::Severity),
+    ("NISV", Rule::Severity),
+    ("TESV", Rule::Severity),
+    ("ELSV", Rule::Severity),
+    ("TVSV", Rule::Severity),
+    ("TTSV", Rule::Severity),
+    ("FTSV", Rule::Severity),
+    ("FFSV", Rule::Severity),
+];
+
+// The value of a text.
+const STRING: [(&str, Rule); 1] = [("VAL", Rule::Text(39))];
+
+// The elements of a list.
+const LIST: [(&str, Rule); 2] = [("FTVL", Rule::Element), ("NELM", Rule::Count(1, 16_384))];
+
+// The port of a record that has one.
+const PORT: [(&str, Rule); 2] = [("DTYP", Rule::Device), ("OUT", Rule::Path)];
+
+/// How the text of a kind's own field is read; none where it has no field of its own of this name.
+fn own_rule_of(kind: Kind, name: &str) -> Option<Rule>
+    ensures { result ≡ own_rule kind name.now }
+{
+    match kind {
+        Kind::Longin => named(&INTEGER, name),
+        Kind::Longout => named(&INTEGER, name)
+            .or(named(&INTEGER_DRIVE, name))
+            .or(named(&PORT, name)),
+        Kind::Int64in => named(&LONG, name),
+        Kind::Int64out => named(&LONG, name)
+            .or(named(&LONG_DRIVE, name))
+            .or(named(&PORT, name)),
+        Kind::Bi => named(&TWO, name),
+        Kind::Bo => named(&TWO, name)
+            .or(named(&BO_UNREAD, name))
+            .or(named(&PORT, name)),
+        Kind::Mbbi => named(&SIXTEEN, name),
+        Kind::Mbbo => named(&SIXTEEN, name).or(named(&PORT, name)),
+        Kind::Stringin => named(&STRING, name),
+        Kind::Stringout => named(&STRING, name).or(named(&PORT, name)),
+        Kind::Waveform => named(&LIST, name),
+    }
+}
+
+/// How the text of a kind's field is read; none where the kind doesn't know the field.
+pub(crate) fn rule_named(kind: Kind, name: &str) -> Option<Rule>
+    ensures { result ≡ rule_of kind name.now }
+{
+    own_rule_of(kind, name)
+        .or(named(&COMMON, name))
+        .or(named(&UNREAD, name))
+}
+
+/// Whether a record of this kind takes a field of this name, with or without effect.
+pub fn field_known(kind: Kind, name: &str) -> bool
+    ensures { result ≡ is_some (rule_of kind name.now) }
+{
+    rule_named(kind, name).is_some()
+}

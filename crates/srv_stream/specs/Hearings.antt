@@ -1,0 +1,79 @@
+-- What hearing an event gives.
+use Rattle.std.specs.Prelude.{◌≡◌, ℕ, true, ⊤, Option, None, Some, Result, Ok, Err, IsTrue}
+use Rattle.std.specs.FinSet.{FinSet}
+use Rattle.std.specs.Ordering.{nat_cmp}
+use Rattle.pvd_type.specs.Tree.{Tree}
+use Rattle.pvd_value.specs.Fits.{fits_of}
+use Rattle.pvd_value.specs.View.{view}
+use Rattle.pvd_desc.specs.Types.{Types}
+use Rattle.pvd_codec.specs.declared.fault.ValueFault.{ValueFault}
+use Rattle.pvd_codec.specs.declared.fault.ValueFault.TheVariants as values
+use Rattle.pva_messages.specs.Subcommands.{begins}
+use Rattle.pva_messages.specs.declared.fault.MessageFault.{MessageFault}
+use Rattle.desk_api.specs.Sites.{is_channel}
+use Rattle.desk_api.specs.Types.{type_of, HoldsLeaves}
+use Rattle.desk_api.specs.declared.channel.Channel.{Channel}
+use Rattle.desk_api.specs.declared.history.SiteData.{SiteData}
+use Rattle.srv_stream.specs.State.{State}
+use Rattle.srv_stream.specs.Turns.{Turn, pass_over, echo_control, validate, echo, create, begin_get, begin_put, get, put, mistake, Hearing, asks, not_built, unreadable}
+use Rattle.srv_stream.specs.declared.turn.Turn as heard
+use Rattle.srv_stream.specs.declared.turn.Turn.TheVariants as turns
+use Rattle.srv_stream.specs.declared.turn.Putting.{Putting}
+use Rattle.srv_stream.specs.declared.turn.SessionStop.{SessionStop}
+use Rattle.srv_stream.specs.declared.turn.SessionStop.TheVariants as stops
+
+abbrev pub putting : Putting → Turn
+putting asked = put asked.req asked.channel asked.mask (view asked.value)
+
+abbrev pub turn_view : heard.Turn → Turn
+turn_view turns.PassOver = pass_over
+turn_view (turns.EchoControl number) = echo_control number
+turn_view (turns.Validate buffer) = validate buffer
+turn_view (turns.Echo payload) = echo payload.now
+turn_view (turns.Create cid name) = create cid name
+turn_view (turns.BeginGet req sub channel) = begin_get req sub channel
+turn_view (turns.BeginPut req sub channel) = begin_put req sub channel
+turn_view (turns.Get req channel) = get req channel
+turn_view (turns.Put asked) = putting asked
+turn_view (turns.Mistake command req) = mistake command req
+
+-- a message that wasn't read: for want of memory, or for its fault
+abbrev pub stop_with : MessageFault → ValueFault → SessionStop
+stop_with fault values.NoMemory = stops.NoMemory
+stop_with fault other = stops.Message fault
+
+abbrev pub stop_by : MessageFault → SessionStop
+stop_by fault = stop_with fault fault.cause
+
+-- What a function heard, and the client's types behind it, is this, unless memory ran out.
+abbrev pub Hears : Types → Result heard.Turn SessionStop → Hearing → Type 0
+Hears types (Ok turn) hearing = hearing ≡ asks (turn_view turn) types
+Hears types (Err stops.NotBuilt) hearing = hearing ≡ not_built
+Hears types (Err (stops.Message fault)) hearing = hearing ≡ unreadable fault
+Hears types (Err stops.NoMemory) hearing = ⊤
+
+-- The channel of a turn is one of the site.
+abbrev pub IsOnSite : SiteData → Option Channel → Type 0
+IsOnSite site None = ⊤
+IsOnSite site (Some channel) = IsTrue (is_channel site channel)
+
+abbrev pub IsOf : SiteData → State → Type 0
+IsOf site s = IsOnSite site s.channel
+
+-- a request begins by its subcommand
+pub record IsBegun (site : SiteData) (sub : ℕ) (channel : Channel) : Type 0 where
+  pub channel_is : IsTrue (is_channel site channel)
+  pub begins_it : begins sub ≡ true
+
+-- what is put is of the channel's type
+pub record IsPut (site : SiteData) (asked : Putting) : Type 0 where
+  pub channel : IsTrue (is_channel site asked.channel)
+  pub fits : fits_of 16 (view asked.value) (type_of site asked.channel) ≡ true
+  pub leaves : HoldsLeaves (type_of site asked.channel) asked.mask
+
+abbrev pub IsTurnOf : SiteData → heard.Turn → Type 0
+IsTurnOf site (turns.BeginGet req sub channel) = IsBegun site sub channel
+IsTurnOf site (turns.BeginPut req sub channel) = IsBegun site sub channel
+IsTurnOf site (turns.Get req channel) = IsTrue (is_channel site channel)
+IsTurnOf site (turns.Put asked) = IsPut site asked
+IsTurnOf site other = ⊤

@@ -1,0 +1,299 @@
+// What a session hears in a message.
+ghost use Rattle.std.specs.Prelude.{◌≡◌};
+ghost use Rattle.pva_messages.specs.Views.{valued_view};
+ghost use Rattle.pva_messages.specs.Subcommands.{begins};
+ghost use Rattle.srv_stream.specs.Turns.{is_id, is_of_all, is_of_value};
+
+use crate::session::Session;
+use crate::turn::{Putting, SessionStop, Turn};
+use desk_api::{Channel, Desk};
+use pva_frames::Lent;
+use pva_messages::{PutPart, ToServer, read_request, read_request_part};
+use pvd_type::{BitSet, Name, PvType, Shape};
+use pvd_value::PvValue;
+use std::alloc::Global;
+
+const VALIDATION: u8 = 0x01;
+
+const ECHO: u8 = 0x02;
+
+const GET: u8 = 0x0A;
+
+const PUT: u8 = 0x0B;
+
+/// The number of the leaf `value` (Normative Types 1.0, "NTScalar").
+const VALUE: u32 = 1;
+
+/// Bit 08 of a subcommand: a request is begun.
+fn begins(sub: u8) -> bool
+    ensures { result ≡ begins sub }
+{
+    (sub >> 3) & 1 == 1
+}
+
+/// Whether a request has begun under this id.
+fn is_id(req: u32, begun: Option<u32>) -> bool
+    ensures { result ≡ is_id req begun }
+{
+    begun == Some(req)
+}
+
+/// Whether a request structure is for all fields: it is null, or a structure without members.
+fn is_of_all(request: &Option<(PvType, PvValue)>) -> bool
+    ensures { result ≡ is_of_all (valued_view request.now) }
+{
+    let Some((ty, _)) = request else {
+        return true;
+    };
+    match ty.shape() {
+        Shape::Struct(node) => node.members.is_empty(),
+        _ => false,
+    }
+}
+
+/// Whether the leaf `value` alone is marked.
+fn is_of_value(mask: &BitSet) -> bool
+    ensures { result ≡ is_of_value mask.now }
+{
+    mask.first_from(0) == Some(VALUE) && mask.first_from(VALUE + 1).is_none()
+}
+
+impl Session {
+    ghost use Rattle.std.specs.Prelude.{IfOk, IsTrue, length};
+    ghost use Rattle.pva_frames.specs.LentView.{whole_of};
+    ghost use Rattle.pva_messages.specs.Faults.{IsWithin, PartWithin};
+    ghost use Rattle.pva_messages.specs.Views.{request_view, put_part_view};
+    ghost use Rattle.desk_api.specs.Sites.{is_channel};
+    ghost use Rattle.desk_api.specs.declared.history.SiteData.{SiteData};
+    ghost use Rattle.srv_stream.specs.Hearings.{Hears, IsOf, IsTurnOf};
+    ghost use Rattle.srv_stream.specs.Steps.{knowing};
+    ghost use Rattle.srv_stream.specs.Turns.{is_heard, heard_whole, heard_message, heard_validation, heard_creation, heard_get, heard_put, heard_unread, channel_at};
+    ghost use Rattle.srv_stream.specs.Views.{state_of, output_of};
+
+    /// Whether a message of this command is heard. Before a validation was answered all but validations and echoes are
+    /// passed over.
+    fn is_heard(&self, command: u8) -> bool
+        ensures { result ≡ is_heard (state_of self.now) command }
+    {
+        self.validated || command == VALIDATION || command == ECHO
+    }
+
+    /// Reads a message, and looks up what it names. What its descriptions define is known from then on.
+    pub(crate) fn hear<'a, D: Desk>(
+        &mut self,
+        alloc: Global,
+        message: &Lent<'a>,
+        desk: &D,
+    ) -> Result<Turn<'a>, SessionStop>
+        requires { IsOf (D.seat desk.now).seen.base.site (state_of self.old) }
+        ensures heard { Hears (state_of self.new).types result (heard_whole (D.seat desk.now).seen.base.site (state_of self.old) (whole_of message.now)) }
+        ensures state { state_of self.new ≡ knowing (state_of self.old) (state_of self.new).types }
+        ensures output { output_of self.new ≡ output_of self.old }
+        ensures turn { IfOk result (IsTurnOf (D.seat desk.now).seen.base.site) }
+    {
+        if message.command == ECHO {
+            return Ok(Turn::Echo(message.payload));
+        }
+        if !self.is_heard(message.command) {
+            return Ok(Turn::PassOver);
+        }
+        let request = read_request(
+            alloc,
+            message.order,
+            message.command,
+            message.payload,
+            &mut self.types,
+        )?;
+        self.hear_request(alloc, message, &request, desk)
+    }
+
+    fn hear_request<'a, D: Desk>(
+        &mut self,
+        alloc: Global,
+        message: &Lent<'a>,
+        request: &ToServer,
+        desk: &D,
+    ) -> Result<Turn<'a>, SessionStop>
+        requires site { IsOf (D.seat desk.now).seen.base.site (state_of self.old) }
+        requires part { PartWithin (request_view request.now) (length message.now.payload.now) }
+        ensures heard { Hears (state_of self.new).types result (heard_message (D.seat desk.now).seen.base.site (state_of self.old) (whole_of message.now) (state_of self.old).types (request_view request.now)) }
+        ensures state { state_of self.new ≡ knowing (state_of self.old) (state_of self.new).types }
+        ensures output { output_of self.new ≡ output_of self.old }
+        ensures turn { IfOk result (IsTurnOf (D.seat desk.now).seen.base.site) }
+    {
+        match request {
+            ToServer::Validation { buffer, method, .. } => self.hear_validation(*buffer, method),
+            ToServer::Echo { .. } => Ok(Turn::Echo(message.payload)),
+            ToServer::Create { channels } => self.hear_creation(alloc, channels),
+            ToServer::Get {
+                sid,
+                req,
+                sub,
+                request,
+            } => self.hear_get(*sid, *req, *sub, request),
+            ToServer::Put {
+                sid,
+                req,
+                sub,
+                request,
+                part,
+            } => self.hear_put(alloc, message, *sid, *req, *sub, request, part, desk),
+            ToServer::Skipped(_) => Ok(Turn::PassOver),
+            ToServer::DestroyChannel { .. } => Err(SessionStop::NotBuilt),
+            ToServer::PutGet { .. } => Err(SessionStop::NotBuilt),
+            ToServer::Monitor { .. } => Err(SessionStop::NotBuilt),
+            ToServer::DestroyRequest { .. } => Err(SessionStop::NotBuilt),
+            ToServer::Cancel { .. } => Err(SessionStop::NotBuilt),
+            ToServer::GetField { .. } => Err(SessionStop::NotBuilt),
+            ToServer::Message { .. } => Err(SessionStop::NotBuilt),
+            ToServer::Rpc { .. } => Err(SessionStop::NotBuilt),
+        }
+    }
+
+    /// A validation is answered once, and by the method `anonymous`.
+    fn hear_validation(&self, buffer: u32, method: &Name) -> Result<Turn<'static>, SessionStop>
+        ensures heard { Hears (state_of self.now).types result (heard_validation (state_of self.now) (state_of self.now).types buffer method.now) }
+        ensures turn { (site : SiteData) → IfOk result (IsTurnOf site) }
+    {
+        if self.validated || method.as_str() != "anonymous" {
+            return Err(SessionStop::NotBuilt);
+        }
+        Ok(Turn::Validate(buffer))
+    }
+
+    /// One channel is created, and while none is open.
+    fn hear_creation(
+        &self,
+        alloc: Global,
+        channels: &[(u32, Name)],
+    ) -> Result<Turn<'static>, SessionStop>
+        ensures heard { Hears (state_of self.now).types result (heard_creation (state_of self.now) (state_of self.now).types channels.now) }
+        ensures turn { (site : SiteData) → IfOk result (IsTurnOf site) }
+    {
+        let [(cid, name)] = channels else {
+            return Err(SessionStop::NotBuilt);
+        };
+        if self.channel.is_some() {
+            return Err(SessionStop::NotBuilt);
+        }
+        Ok(Turn::Create(*cid, name.clone_in(alloc)?))
+    }
+
+    /// The channel that has this id of the server. The one channel has the id 0.
+    fn channel_at(&self, sid: u32) -> Option<Channel>
+        ensures { result ≡ channel_at (state_of self.now) sid }
+    {
+        if sid == 0 { self.channel } else { None }
+    }
+
+    fn hear_get(
+        &self,
+        sid: u32,
+        req: u32,
+        sub: u8,
+        request: &Option<(PvType, PvValue)>,
+    ) -> Result<Turn<'static>, SessionStop>
+        ensures heard { Hears (state_of self.now).types result (heard_get (state_of self.now) (state_of self.now).types req sub (valued_view request.now) (channel_at (state_of self.now) sid)) }
+        ensures turn { (site : SiteData) → IsOf site (state_of self.now) → IfOk result (IsTurnOf site) }
+    {
+        let Some(channel) = self.channel_at(sid) else {
+            return Err(SessionStop::NotBuilt);
+        };
+        if begins(sub) {
+            if self.get.is_some() || is_id(req, self.put) || !is_of_all(request) {
+                return Err(SessionStop::NotBuilt);
+            }
+            return Ok(Turn::BeginGet(req, sub, channel));
+        }
+        if sub != 0 {
+            return Err(SessionStop::NotBuilt);
+        }
+        if is_id(req, self.get) {
+            return Ok(Turn::Get(req, channel));
+        }
+        if is_id(req, self.put) {
+            return Ok(Turn::Mistake(GET, req));
+        }
+        Err(SessionStop::NotBuilt)
+    }
+
+    fn hear_put<D: Desk>(
+        &mut self,
+        alloc: Global,
+        message: &Lent<'_>,
+        sid: u32,
+        req: u32,
+        sub: u8,
+        request: &Option<(PvType, PvValue)>,
+        part: &PutPart,
+        desk: &D,
+    ) -> Result<Turn<'static>, SessionStop>
+        requires site { IsOf (D.seat desk.now).seen.base.site (state_of self.old) }
+        requires part { IsWithin (put_part_view part.now) (length message.now.payload.now) }
+        ensures heard { Hears (state_of self.new).types result (heard_put (D.seat desk.now).seen.base.site (state_of self.old) (whole_of message.now) (state_of self.old).types req sub (valued_view request.now) (put_part_view part.now) (channel_at (state_of self.old) sid)) }
+        ensures state { state_of self.new ≡ knowing (state_of self.old) (state_of self.new).types }
+        ensures output { output_of self.new ≡ output_of self.old }
+        ensures turn { IfOk result (IsTurnOf (D.seat desk.now).seen.base.site) }
+    {
+        let Some(channel) = self.channel_at(sid) else {
+            return Err(SessionStop::NotBuilt);
+        };
+        if begins(sub) {
+            if self.put.is_some() || is_id(req, self.get) || !is_of_all(request) {
+                return Err(SessionStop::NotBuilt);
+            }
+            return Ok(Turn::BeginPut(req, sub, channel));
+        }
+        if sub != 0 {
+            return Err(SessionStop::NotBuilt);
+        }
+        if is_id(req, self.put) {
+            return self.hear_part(alloc, message, req, channel, part, desk);
+        }
+        if is_id(req, self.get) {
+            return Ok(Turn::Mistake(PUT, req));
+        }
+        Err(SessionStop::NotBuilt)
+    }
+
+    /// Reads the part of a put, which is of the leaf `value` alone.
+    fn hear_part<D: Desk>(
+        &mut self,
+        alloc: Global,
+        message: &Lent<'_>,
+        req: u32,
+        channel: Channel,
+        part: &PutPart,
+        desk: &D,
+    ) -> Result<Turn<'static>, SessionStop>
+        requires channel { IsTrue (is_channel (D.seat desk.now).seen.base.site channel) }
+        requires part { IsWithin (put_part_view part.now) (length message.now.payload.now) }
+        ensures heard { Hears (state_of self.new).types result (heard_unread (D.seat desk.now).seen.base.site (whole_of message.now) (state_of self.old).types req channel (put_part_view part.now)) }
+        ensures state { state_of self.new ≡ knowing (state_of self.old) (state_of self.new).types }
+        ensures output { output_of self.new ≡ output_of self.old }
+        ensures turn { IfOk result (IsTurnOf (D.seat desk.now).seen.base.site) }
+    {
+        let PutPart::Unread(place) = part else {
+            return Err(SessionStop::NotBuilt);
+        };
+        let ty = desk.type_of(channel).unwrap();
+        let (mask, value) = read_request_part(
+            alloc,
+            message.order,
+            message.command,
+            message.payload,
+            *place,
+            &mut self.types,
+            ty,
+        )?;
+        if !is_of_value(&mask) {
+            return Err(SessionStop::NotBuilt);
+        }
+        Ok(Turn::Put(Putting {
+            req,
+            channel,
+            mask,
+            value,
+        }))
+    }
+}
