@@ -1,0 +1,6 @@
+pub mod Within
+pub mod Kept
+pub mod Lists
+pub mod Loadings
+pub mod RecordsRead
+pub mod Relations

@@ -1,0 +1,17 @@
+pub mod Defaults
+pub mod Values
+pub mod Making
+pub mod Texts
+pub mod Whole
+pub mod Quotes
+pub mod JsonTexts
+pub mod Cuts
+pub mod Plains
+pub mod Runs
+pub mod Quoting
+pub mod Bracing
+pub mod Befores
+pub mod PiecesRead
+pub mod Sequences
+pub mod Slices
+pub mod Told

@@ -1,0 +1,5 @@
+use Rattle.db_text.proofs.Slices.{tokens_are_slices}
+use Rattle.db_text.proofs.laws.tokens_are_slices.Goals as goal
+
+pub returns : goal.returns
+returns c = tokens_are_slices

@@ -1,0 +1,19 @@
+//! EPICS database texts: macros are replaced, comments dropped, and the text that is left is cut into tokens.
+#![tactic(auto)]
+
+mod cutting;
+mod expanding;
+mod fault;
+mod laws;
+mod macros;
+mod pieces;
+#[cfg(test)]
+mod tests;
+mod token;
+
+pub use cutting::{cut, tokens};
+pub use expanding::expand;
+pub use fault::TextFault;
+pub use laws::{one_cut, plain_text_stays, tokens_are_slices};
+pub use pvd_type::{Name, NoMemory};
+pub use token::{Token, TokenKind};
