@@ -104,6 +104,14 @@ fn payload(out: &mut Vec<u8>, case: &str) -> Result<(), AllocError> {
             size(out, SIZE)?;
             repeat(out, &[0], SIZE)
         }
+        "words" => {
+            size(out, SIZE / 2)?;
+            repeat(out, &[1, b'a'], SIZE / 2)
+        }
+        "types" => {
+            let new = [1, 0x80, 0, 3, 1, b'a', 0x20, 1, b'b', 0x20, 1, b'c', 0x20, 7, 7, 7];
+            list(out, &new, SIZE / 16)
+        }
         "structures" => {
             size(out, SIZE / 2)?;
             repeat(out, &[1, 7], SIZE / 2)
@@ -167,7 +175,7 @@ fn siblings(out: &mut Vec<u8>) -> Result<(), AllocError> {
 /// The type of the value of a case.
 fn shape(case: &str) -> Shape {
     match case {
-        "texts" => Shape::List(Scalar::Text, Extent::Variable),
+        "texts" | "words" => Shape::List(Scalar::Text, Extent::Variable),
         "part" => Shape::List(Scalar::I32, Extent::Fixed(0x7FFF_FFFE)),
         "zeros" => Shape::Plain(Scalar::I32),
         _ => Shape::VariantList,
@@ -233,7 +241,7 @@ fn main(rt: HostRuntime) -> io::Result<()> {
 RT
 cd "$work/crates/hostile_bench"
 rt run 2>"$work/log" >/dev/null || { cat "$work/log"; exit 1; }
-for case in copy deep nulls bytes defined cached empty nested named chain siblings texts structures zeros part; do
+for case in copy deep nulls bytes defined cached empty nested named chain siblings texts words types structures zeros part; do
     (ulimit -v 8000000; ulimit -s 2048; /usr/bin/time -f '%M' -o "$work/peak" out/hostile_bench "$case" || echo "$case: ended with no answer")
     echo "    at most $(($(tail -1 "$work/peak") / 1024)) MiB"
 done
