@@ -52,13 +52,18 @@ fn part_of(alloc: Global, ty: PvType, value: PvValue) -> Option<Part>
     ensures { IfSome result (λ p. FitsField (field.part (part_data p))) }
 {
     if !fits(&ty, &value) {
+        discard(value);
         return None;
     }
     let Ok(mask) = ty.leaves(alloc) else {
+        discard(value);
         return None;
     };
     Some(Part { ty, mask, value })
 }
+
+/// Lets a value go in a function of its own, since its many variants would else be let go one by one in each proof.
+fn discard<T: Drop>(_value: T) {}
 
 /// An update with this part and these overruns.
 fn update_of(part: Part, overrun: BitSet) -> ToClient
@@ -302,6 +307,7 @@ fn whole_part(alloc: Global, ty: &PvType, put: &[u8]) -> Option<Part>
 {
     let value = value_of(alloc, ty, put)?;
     let Ok(again) = ty.clone_in(alloc) else {
+        discard(value);
         return None;
     };
     part_of(alloc, again, value)
@@ -322,17 +328,27 @@ fn measure_update(
         return rt.println("no part");
     };
     let message = update_of(part, BitSet::new(alloc));
-    let all = size.wrapping_add(8).wrapping_mul(count);
-    let mut out: Vec<u8> = Vec::new(alloc);
+    let taken = time_updates(rt, &message, count);
+    discard(message);
+    show(rt, "update written", size, count, taken?, copy)
+}
+
+/// How long the best run takes that writes an update so many times.
+fn time_updates(rt: &HostRuntime, message: &ToClient, count: u64) -> io::Result<u64>
+    requires can { CanReply (reply_view message.now) }
+    requires fits { CanEach FitsField (reply_fields (reply_view message.now)) }
+{
+    let mut out: Vec<u8> = Vec::new(rt.alloc());
+    let all = write_updates(&mut out, message, 1).wrapping_mul(count);
     let mut best = u64::MAX;
     for _ in 0..RUNS {
         let start = Instant::now(rt)?;
-        if write_updates(&mut out, &message, count) != all {
-            return rt.println("an update wasn't written");
+        if write_updates(&mut out, message, count) != all {
+            rt.println("an update wasn't written")?;
         }
         best = best.min(nanoseconds(rt, start)?);
     }
-    show(rt, "update written", size, count, best, copy)
+    Ok(best)
 }
 
 fn measure_put(
@@ -350,17 +366,27 @@ fn measure_put(
         return rt.println("no part");
     };
     let message = put_of(part);
-    let all = size.wrapping_add(8).wrapping_mul(count);
-    let mut out: Vec<u8> = Vec::new(alloc);
+    let taken = time_puts(rt, &message, count);
+    discard(message);
+    show(rt, "put written", size, count, taken?, copy)
+}
+
+/// How long the best run takes that writes a put so many times.
+fn time_puts(rt: &HostRuntime, message: &ToServer, count: u64) -> io::Result<u64>
+    requires can { CanSend (request_view message.now) }
+    requires fits { CanEach FitsField (request_fields (request_view message.now)) }
+{
+    let mut out: Vec<u8> = Vec::new(rt.alloc());
+    let all = write_puts(&mut out, message, 1).wrapping_mul(count);
     let mut best = u64::MAX;
     for _ in 0..RUNS {
         let start = Instant::now(rt)?;
-        if write_puts(&mut out, &message, count) != all {
-            return rt.println("a put wasn't written");
+        if write_puts(&mut out, message, count) != all {
+            rt.println("a put wasn't written")?;
         }
         best = best.min(nanoseconds(rt, start)?);
     }
-    show(rt, "put written", size, count, best, copy)
+    Ok(best)
 }
 
 /// Measures messages of a value of the described type, whose part is these bytes and so many zeros.
