@@ -21,8 +21,3 @@ pub use same::same_shape;
 pub use set::BitSet;
 pub use shape::{Extent, Member, Node, Scalar, Shape};
 pub use siblings::Siblings;
-
-#[cfg(test)]
-mod meeting_tests;
-#[cfg(test)]
-mod tests;

@@ -22,8 +22,3 @@ pub use moving::take_leaves;
 pub use pvd_type::NoMemory;
 pub use same::same_value;
 pub use value::{Items, PvValue};
-
-#[cfg(test)]
-mod marked_tests;
-#[cfg(test)]
-mod tests;

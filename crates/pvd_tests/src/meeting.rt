@@ -1,4 +1,4 @@
-use super::*;
+use pvd_type::BitSet;
 use std::test::Fail;
 
 #[test]

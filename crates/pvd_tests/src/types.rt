@@ -1,4 +1,4 @@
-use super::*;
+use pvd_type::*;
 use std::alloc::Global;
 use std::test::Fail;
 
