@@ -1,6 +1,7 @@
 #!/bin/sh
-# Reads and writes a waveform of 1,000 ints 100,000 times, and copies its bytes as often, into one buffer beside writing and into fresh
-# memory beside reading. Prints the nanoseconds of one round, of the best of five runs, and the hundredths of the copy's speed.
+# Reads and writes a waveform of 1,000 ints, and copies its bytes as often, into one buffer beside writing and into fresh memory beside
+# reading. Prints the nanoseconds of one round and the hundredths of the copy's speed, each of the best of 400 runs of 1,000 rounds: a run is
+# shorter than a turn on a processor, so that other work on the machine tells little.
 # It works in a copy of the crates, since a program of this kind is no part of the repository. Needs `rt` and some minutes.
 set -eu
 top=$(cd "$(dirname "$0")/.." && pwd)
@@ -10,6 +11,8 @@ mkdir -p "$work/crates/values_bench/src"
 for name in pvd_type pvd_value pva_wire pvd_desc pvd_codec; do
     mkdir -p "$work/crates/$name"
     (cd "$top/crates/$name" && cp -r src specs proofs "$work/crates/$name/")
+    # what is proved already isn't proved again
+    [ ! -d "$top/crates/$name/out/rlib" ] || { mkdir "$work/crates/$name/out" && cp -r "$top/crates/$name/out/rlib" "$work/crates/$name/out/"; }
     grep -E "^$name:" "$top/crates.txt" >> "$work/crates.txt"
 done
 echo 'values_bench: pvd_codec pvd_desc pvd_value pva_wire pvd_type' >> "$work/crates.txt"
@@ -27,7 +30,7 @@ use std::alloc::{AllocError, Global};
 use std::io;
 use std::time::Instant;
 
-const ROUNDS: u32 = 100_000;
+const ROUNDS: u32 = 1_000;
 
 /// A list of 1,000 ints.
 fn ints(alloc: Global) -> Result<PvValue, AllocError> {
@@ -71,7 +74,7 @@ fn copy_fresh(alloc: Global, bytes: &[u8]) -> u64 {
     let mut count = 0u64;
     for _ in 0..ROUNDS {
         if let Ok(copy) = Vec::from_slice(alloc, bytes) {
-            count = count.wrapping_add(u64::from(copy.len() as u32));
+            count = count.wrapping_add(copy.len() as u64);
         }
     }
     count
@@ -97,7 +100,7 @@ fn nanoseconds(rt: &HostRuntime, start: Instant) -> io::Result<u64> {
 
 /// How many nanoseconds one round took.
 fn each(total: u64) -> u64 {
-    total / 100_000
+    total / 1_000
 }
 
 /// So many hundredths of a's speed is b's, by their times.
@@ -117,7 +120,7 @@ fn measure(rt: &HostRuntime, order: Order, name: &str) -> io::Result<()> {
     let mut warm: Vec<u8> = Vec::new(alloc);
     let mut best = [u64::MAX, u64::MAX, u64::MAX, u64::MAX];
     let mut sum = 0u64;
-    for _ in 0..5 {
+    for _ in 0..400 {
         let start = Instant::now(rt)?;
         sum = sum.wrapping_add(write_all(&mut out, &ty, order, &value));
         best[0] = best[0].min(nanoseconds(rt, start)?);
