@@ -1,7 +1,8 @@
 #!/bin/sh
 # Reads the worst payloads of 64 MiB that we know of, one after another, each in a process of its own, and copies a payload of that size.
-# Prints for each whether it was read or refused, the seconds that the reading took and the greatest memory of the process in MiB, the payload
-# and the making of it included. The stack has 2 MiB. It works in a copy of the crates. Needs `rt`, `/usr/bin/time` and some minutes.
+# Prints for each whether it was read or refused, the seconds that passed while it was read, the seconds of a processor that the reading took
+# (those of the process, less those of one that only makes the payload), and the memory in MiB that the process needed beyond that of one
+# that only makes the payload. The stack has 2 MiB. It works in a copy of the crates. Needs `rt`, `/usr/bin/time` and some minutes.
 set -eu
 top=$(cd "$(dirname "$0")/.." && pwd)
 work=$(mktemp -d)
@@ -10,6 +11,8 @@ mkdir -p "$work/crates/hostile_bench/src"
 for name in pvd_type pvd_value pva_wire pvd_desc pvd_codec; do
     mkdir -p "$work/crates/$name"
     (cd "$top/crates/$name" && cp -r src specs proofs "$work/crates/$name/")
+    # what is proved already isn't proved again
+    [ ! -d "$top/crates/$name/out/rlib" ] || { mkdir "$work/crates/$name/out" && cp -r "$top/crates/$name/out/rlib" "$work/crates/$name/out/"; }
     grep -E "^$name:" "$top/crates.txt" >> "$work/crates.txt"
 done
 echo 'hostile_bench: pvd_codec pvd_desc pvd_value pva_wire pvd_type' >> "$work/crates.txt"
@@ -108,6 +111,10 @@ fn payload(out: &mut Vec<u8>, case: &str) -> Result<(), AllocError> {
             size(out, SIZE / 2)?;
             repeat(out, &[1, b'a'], SIZE / 2)
         }
+        "letters" => {
+            size(out, SIZE / 4)?;
+            repeat(out, &[3, b'a', b'b', b'c'], SIZE / 4)
+        }
         "types" => {
             let new = [1, 0x80, 0, 3, 1, b'a', 0x20, 1, b'b', 0x20, 1, b'c', 0x20, 7, 7, 7];
             list(out, &new, SIZE / 16)
@@ -139,15 +146,21 @@ fn named(out: &mut Vec<u8>) -> Result<(), AllocError> {
     Ok(())
 }
 
-/// Sixteen variants inside one another, each but the last of 31 lists inside one another.
+/// That many lists inside one another, of structures of one member, and a leaf of this code: a type of 32 levels.
+fn levels(out: &mut Vec<u8>, leaf: u8) -> Result<(), AllocError> {
+    repeat(out, &[0x88, 0x80, 0, 1, 1, b'a'], 31)?;
+    out.push(leaf)?;
+    Ok(())
+}
+
+/// A value of such a type with a variant as its leaf: sixteen variants inside one another, each with a type of 32 levels.
 fn deep(out: &mut Vec<u8>) -> Result<(), AllocError> {
-    out.extend_from_slice(&[1, 1])?;
-    for _ in 0..15 {
-        repeat(out, &[0x88, 0x80, 0, 1, 1, b'a'], 31)?;
-        out.extend_from_slice(&[0x82])?;
+    repeat(out, &[1, 1], 31)?;
+    for number in 0..16u32 {
+        levels(out, if number < 15 { 0x82 } else { 0x20 })?;
         repeat(out, &[1, 1], 31)?;
     }
-    out.extend_from_slice(&[0x20, 7])?;
+    out.push(7)?;
     Ok(())
 }
 
@@ -175,19 +188,27 @@ fn siblings(out: &mut Vec<u8>) -> Result<(), AllocError> {
 /// The type of the value of a case.
 fn shape(case: &str) -> Shape {
     match case {
-        "texts" | "words" => Shape::List(Scalar::Text, Extent::Variable),
+        "texts" | "words" | "letters" => Shape::List(Scalar::Text, Extent::Variable),
         "part" => Shape::List(Scalar::I32, Extent::Fixed(0x7FFF_FFFE)),
         "zeros" => Shape::Plain(Scalar::I32),
         _ => Shape::VariantList,
     }
 }
 
-/// A list of structures of one byte.
-fn small_structures(alloc: Global) -> Option<PvType> {
-    let bytes = [0x88, 0x80, 0, 1, 1, b'a', 0x20];
-    let mut from = Cursor::new(&bytes, Order::Big);
+/// The type that these bytes describe.
+fn described(alloc: Global, bytes: &[u8]) -> Option<PvType> {
+    let mut from = Cursor::new(bytes, Order::Big);
     match read_desc(alloc, &mut from, &mut Registry::new(alloc)) {
         Ok(ty) => ty,
+        Err(_) => None,
+    }
+}
+
+/// The type of the greatest depth with a variant as its leaf.
+fn deepest_type(alloc: Global) -> Option<PvType> {
+    let mut bytes: Vec<u8> = Vec::new(alloc);
+    match levels(&mut bytes, 0x82) {
+        Ok(()) => described(alloc, &bytes),
         Err(_) => None,
     }
 }
@@ -203,7 +224,7 @@ fn read(alloc: Global, case: &str, ty: &PvType, known: &mut Registry, bytes: &[u
     }
 }
 
-fn measure(rt: &HostRuntime, case: &str) -> io::Result<()> {
+fn measure(rt: &HostRuntime, case: &str, reads: bool) -> io::Result<()> {
     let alloc = rt.alloc();
     let mut known = Registry::new(alloc);
     let mut first: Vec<u8> = Vec::new(alloc);
@@ -214,12 +235,16 @@ fn measure(rt: &HostRuntime, case: &str) -> io::Result<()> {
     let mut bytes: Vec<u8> = Vec::with_capacity(alloc, 70_000_000)?;
     payload(&mut bytes, case)?;
     let made = match case {
-        "structures" => small_structures(alloc),
+        "structures" => described(alloc, &[0x88, 0x80, 0, 1, 1, b'a', 0x20]),
+        "deep" => deepest_type(alloc),
         _ => PvType::check(alloc, shape(case)).ok(),
     };
     let Some(ty) = made else {
         return rt.println("no type");
     };
+    if !reads {
+        return Ok(());
+    }
     let start = Instant::now(rt)?;
     let whole = read(alloc, case, &ty, &mut known, &bytes);
     let taken = start.elapsed(rt)?;
@@ -234,14 +259,16 @@ fn main(rt: HostRuntime) -> io::Result<()> {
     let _name = arguments.next();
     let words: Vec<String> = arguments.collect(rt.alloc())?;
     match words.first() {
-        Some(word) => measure(&rt, word.as_str()),
-        None => measure(&rt, "copy"),
+        Some(word) => measure(&rt, word.as_str(), words.len() < 2),
+        None => measure(&rt, "copy", true),
     }
 }
 RT
 cd "$work/crates/hostile_bench"
 rt run 2>"$work/log" >/dev/null || { cat "$work/log"; exit 1; }
-for case in copy deep nulls bytes defined cached empty nested named chain siblings texts words types structures zeros part; do
-    (ulimit -v 8000000; ulimit -s 2048; /usr/bin/time -f '%M' -o "$work/peak" out/hostile_bench "$case" || echo "$case: ended with no answer")
-    echo "    at most $(($(tail -1 "$work/peak") / 1024)) MiB"
+for case in copy deep nulls bytes defined cached empty nested named chain siblings texts words letters types structures zeros part; do
+    (ulimit -v 8000000; /usr/bin/time -f '%M %U %S' -o "$work/made" out/hostile_bench "$case" only)
+    (ulimit -v 8000000; ulimit -s 2048; /usr/bin/time -f '%M %U %S' -o "$work/peak" out/hostile_bench "$case" || echo "$case: ended with no answer")
+    cat "$work/made" "$work/peak" | grep -v '[A-Za-z]' | tr '\n' ' ' |
+        awk '{ printf "    %.2f s of a processor, %d MiB\n", $5 + $6 - $2 - $3, ($4 - $1) / 1024 }'
 done

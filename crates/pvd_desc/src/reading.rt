@@ -434,7 +434,7 @@ fn alone_at<'a>(
 }
 
 /// How many bytes a node of a type counts for, in memory and in the time to test it.
-const NODE: u64 = 64;
+const NODE: u64 = 128;
 
 /// A description and what follows it; None is the null description. What it defines goes into
 /// `changed`, which hides the types of `base`. After a refusal `changed` may hold a part of that.
