@@ -13,3 +13,4 @@ pub mod Heads
 pub mod Written
 pub mod Cuts
 pub mod ReadBack
+pub mod Filling

@@ -126,7 +126,7 @@ header-written order server kind command number rest is fits =
     ap (λ (o : Order). let h : Header = record { order = o; flags = flags; command = command; number = number_of o (number_bytes order number ++ rest) } in h) is
     ∙ ap (λ (n : ℕ). let h : Header = record { order = order; flags = flags; command = command; number = n } in h) (number-back order number rest fits)
 
-header-size : (order : Order) (server : Bool) (kind command number : ℕ) → length (header_bytes order server kind command number) ≡ 8
+pub header-size : (order : Order) (server : Bool) (kind command number : ℕ) → length (header_bytes order server kind command number) ≡ 8
 header-size order server kind command number = let e = number-size order number in omega (arith, e)
 
 -- what bytes bring

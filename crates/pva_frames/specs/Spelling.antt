@@ -21,6 +21,10 @@ abbrev pub header_bytes : Order → Bool → ℕ → ℕ → ℕ → List ℕ
 header_bytes order server kind command number =
     (magic ∷ version ∷ (order_flag order + server_flag server + kind) ∷ command ∷ []) ++ number_bytes order number
 
+-- the room for a header that is still to be written
+abbrev pub header_room : List ℕ
+header_room = 0 ∷ 0 ∷ 0 ∷ 0 ∷ 0 ∷ 0 ∷ 0 ∷ 0 ∷ []
+
 -- a control message
 abbrev pub control_bytes : Order → Bool → ℕ → ℕ → List ℕ
 control_bytes order server command number = header_bytes order server 1 command number

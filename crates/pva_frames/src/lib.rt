@@ -19,7 +19,7 @@ pub use laws::{
     control_reads_back, every_byte_has_its_frame, message_reads_back, pieces_do_not_matter,
 };
 pub use pva_wire::NoMemory;
-pub use writing::{write_control, write_message};
+pub use writing::{begin_message, end_message, write_control, write_message};
 
 #[cfg(test)]
 mod tests;

@@ -1,5 +1,6 @@
 use super::*;
 use pva_wire::Order;
+use std::alloc::Global;
 use std::test::Fail;
 
 /// A client's validation, little endian, 27 bytes.
@@ -187,6 +188,39 @@ fn a_long_echo_is_cut_into_segments(rt: HostRuntime) -> Result<(), Fail> {
     assembler.feed(out.as_slice())?;
     let whole = message_of(assembler.next()?).ok_or("the echo")?;
     assert_eq!(rt; whole.payload.as_slice(), payload.as_slice());
+    Ok(())
+}
+
+/// A message whose payload was written behind the room for its header, and what stands before it.
+fn made_in_place(
+    alloc: Global,
+    order: Order,
+    before: &[u8],
+    payload: &[u8],
+) -> Result<Vec<u8>, NoMemory> {
+    let mut out = Vec::from_slice(alloc, before)?;
+    let start = out.len();
+    begin_message(&mut out)?;
+    out.extend_from_slice(payload)?;
+    end_message(&mut out, start, order, true, 2, 1016)?;
+    Ok(out)
+}
+
+#[test]
+fn a_header_is_put_in_front_of_a_payload(rt: HostRuntime) -> Result<(), Fail> {
+    let alloc = rt.alloc();
+    let little = made_in_place(alloc, Order::Little, &[7, 8], &[1, 2, 3])?;
+    assert_eq!(rt;
+        little.as_slice(),
+        [7, 8, 0xCA, 2, 0x40, 2, 3, 0, 0, 0, 1, 2, 3].as_slice()
+    );
+    let big = made_in_place(alloc, Order::Big, &[], &[])?;
+    assert_eq!(rt; big.as_slice(), [0xCA, 2, 0xC0, 2, 0, 0, 0, 0].as_slice());
+    let payload = vec![in alloc; 5u8; 2000]?;
+    let cut = made_in_place(alloc, Order::Little, &[], payload.as_slice())?;
+    let mut out = Vec::new(alloc);
+    write_message(&mut out, Order::Little, true, 2, payload.as_slice(), 1016)?;
+    assert_eq!(rt; cut.as_slice(), out.as_slice());
     Ok(())
 }
 
