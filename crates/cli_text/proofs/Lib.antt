@@ -1,0 +1,3 @@
+pub mod Led
+pub mod Pieces
+pub mod LineParts
