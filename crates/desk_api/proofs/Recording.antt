@@ -107,7 +107,7 @@ both_true false b x y = absurd (false≢true x)
 pub kept_more : (es : Entries) (k : String Global) (v : Served) → AreKept es → IsTrue (is_record_name (string_bytes k)) → IsValid v.config v.opening → v.ty ≡ record_tree v.config → length es < 4000 → AreKept (es ++ (k, v) ∷ [])
 kept_more es k v all named valid ty few = (
   subst (λ (z : List Config × List RecState). AreValid z.0 z.1) (λ i. (sym (map-append (λ (e : String Global × Served). e.1.config) es ((k, v) ∷ [])) i, sym (map-append (λ (e : String Global × Served). e.1.opening) es ((k, v) ∷ [])) i))
-  (valid_more (map (λ e. e.1.config) es) (map (λ e. e.1.opening) es) v.config v.opening all.0 valid),
+      (valid_more (map (λ e. e.1.config) es) (map (λ e. e.1.opening) es) v.config v.opening all.0 valid),
   map-append (λ (e : String Global × Served). e.1.ty) es ((k, v) ∷ []) ∙ (λ i. all.1 i ++ ty i ∷ []) ∙ sym (map-append (λ (e : String Global × Served). record_tree e.1.config) es ((k, v) ∷ [])),
   ap (list_all is_record_name) (map-append (λ (e : String Global × Served). string_bytes e.0) es ((k, v) ∷ [])) ∙ list_all-append is_record_name (map (λ e. string_bytes e.0) es) (string_bytes k ∷ []) ∙ both_true (list_all is_record_name (map (λ e. string_bytes e.0) es)) (is_record_name (string_bytes k)) all.2 named,
   omega (arith, few, length-append es ((k, v) ∷ [])),

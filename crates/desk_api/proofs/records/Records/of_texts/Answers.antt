@@ -42,9 +42,10 @@ loop-stated-preserved c =
     let texts = c.args.texts.now in
     let i = c.loop-stated.stated-index in
     let here = there texts i c.stated-item.result c.loop-stated-test.true c.stated-item.is in
-    let added = c.in_default.ensures {u = tt} in
-    (none_more texts i c.stated-item.result here c.loop-stated.invariant.0 added.faultless,
-     site_more texts i c.stated-item.result c.loop-stated.records c.add.new.self here c.loop-stated.invariant.1 added.ok)
+    let added = c.in_default.ensures {u = tt} in (
+      none_more texts i c.stated-item.result here c.loop-stated.invariant.0 added.faultless,
+      site_more texts i c.stated-item.result c.loop-stated.records c.add.new.self here c.loop-stated.invariant.1 added.ok,
+    )
 
 pub returns-clause-ok : goal.returns-clause-ok
 returns-clause-ok c =
