@@ -1,3 +1,5 @@
 pub mod Naming
+pub mod Recording
+pub mod Stating
 pub mod Adding
 pub mod Showing

@@ -1,38 +1,59 @@
 -- The names of a site, the channels that they stand for, and the records that these read.
-use Rattle.std.specs.Prelude.{ℕ, ℤ, ◌+◌, Bool, false, ◌&&◌, ◌||◌, ◌==◌, not, nat_lt, nat_le, List, [], ◌∷◌, length, Option, None, Some, if◌then◌else◌, bytes_eq}
-use Rattle.std.specs.List.{list_all}
-use Rattle.rec_kinds.specs.Building.{config_of, opening}
+use Rattle.std.specs.Prelude.{ℕ, ℤ, ◌+◌, Bool, false, nat_lt, List, [], ◌∷◌, ◌++◌, length, map, Option, None, Some, if◌then◌else◌, bytes_eq, codes}
+use Rattle.db_load.specs.Forms.{is_record_name as may_name}
+use Rattle.rec_kinds.specs.Building.{config_of, opening, opening_of}
 use Rattle.rec_kinds.specs.declared.datum.Datum.TheVariants.{Num}
 use Rattle.rec_kinds.specs.declared.kind.Kind.TheVariants.{Longout}
+use Rattle.rec_kinds.specs.declared.record_text.RecText.{RecText}
 use Rattle.desk_api.specs.declared.channel.Channel.{Channel}
-use Rattle.desk_api.specs.declared.channel.ChannelKind.TheVariants.{Rec}
+use Rattle.desk_api.specs.declared.channel.ChannelKind.{ChannelKind}
+use Rattle.desk_api.specs.declared.channel.ChannelKind.TheVariants.{Rec, Desc}
 use Rattle.desk_api.specs.declared.history.SiteData.{SiteData}
 
--- a blank, a tab, a quote of either kind, a full stop or a dollar sign
-abbrev pub is_special : ℕ → Bool
-is_special b = b == 32 || b == 9 || b == 34 || b == 39 || b == 46 || b == 36
-
--- what may name a record: 1 to 60 bytes, none of them special (EPICS record reference, "Record names")
+-- what may name a record: 1 to 60 bytes, none of them a blank, a quote, a full stop or a dollar sign (EPICS record
+-- reference, "Record names")
 abbrev pub is_record_name : List ℕ → Bool
-is_record_name text = (nat_le 1 (length text) && nat_le (length text) 60) && list_all (λ b. not (is_special b)) text
+is_record_name = may_name
 
--- the record of this name, of those whose names these are, counted from n
-abbrev pub record_named : ℕ → List (List ℕ) → List ℕ → Option Channel
-record_named n [] name = None
-record_named n (x ∷ names) name =
-    if bytes_eq x name then Some (record { kind = Rec; number = n }) else record_named (n + 1) names name
+abbrev pub channel_of : ChannelKind → ℕ → Channel
+channel_of kind number = record { kind = kind; number = number }
+
+-- The names of channels, in order, of the records whose names these are, counted from n: of each record its name, alone or
+-- with its field VAL, and its description (EPICS Channel Access Reference Manual, "Channel names").
+abbrev pub names_from : ℕ → List (List ℕ) → List (List ℕ × Channel)
+names_from n [] = []
+names_from n (x ∷ names) =
+    (x, channel_of Rec n) ∷ (x ++ codes ".VAL", channel_of Rec n) ∷ (x ++ codes ".DESC", channel_of Desc n)
+    ∷ names_from (n + 1) names
+
+-- what the first of these that has this name stands for
+abbrev pub first_named : List ℕ → List (List ℕ × Channel) → Option Channel
+first_named name [] = None
+first_named name (x ∷ xs) = if bytes_eq name x.0 then Some x.1 else first_named name xs
 
 -- the channel of this name
 abbrev pub channel_named : SiteData → List ℕ → Option Channel
-channel_named site name = record_named 0 site.names name
+channel_named site name = first_named name (names_from 0 site.names)
 
 -- whether the site has this channel
 abbrev pub is_channel : SiteData → Channel → Bool
 is_channel site channel = nat_lt channel.number (length site.names)
 
 -- the records that a get of the channel reads
+abbrev pub footprint_for : ChannelKind → ℕ → List ℕ
+footprint_for Rec number = number ∷ []
+footprint_for Desc number = []
+
 abbrev pub footprint_of : SiteData → Channel → List ℕ
-footprint_of site channel = channel.number ∷ []
+footprint_of site channel = footprint_for channel.kind channel.number
+
+-- The site of these records, as a text states them.
+abbrev pub site_of : List RecText → SiteData
+site_of records = record {
+  names = map (λ r. r.name) records;
+  configs = map (λ r. config_of r.kind r.fields) records;
+  opening = map (λ r. opening_of r.kind r.fields) records;
+}
 
 -- The site of one longout without fields, with this name and the value that it opens with.
 abbrev pub single : List ℕ → ℤ → SiteData

@@ -1,12 +1,16 @@
 -- What a channel shows, as a function of the states of all records (Normative Types 1.0).
-use Rattle.std.specs.Prelude.{◌≡◌, ℕ, List, ◌∷◌, set, map, Option, Some, slice_get}
+use Rattle.std.specs.Prelude.{◌≡◌, ℕ, List, [], ◌∷◌, set, map, Option, None, Some, slice_get}
 use Rattle.pvd_value.specs.Blank.{blank_of}
 use Rattle.pvd_value.specs.Data.{Data}
+use Rattle.pvd_type.specs.declared.shape.Scalar.TheVariants.{Text}
+use Rattle.nt_types.specs.Types.{scalar_tree}
 use Rattle.rec_kinds.specs.Configs.{Config}
 use Rattle.rec_kinds.specs.declared.state.RecState.{RecState}
-use Rattle.rec_fields.specs.Shown.{shown}
+use Rattle.rec_fields.specs.Shown.{shown, desc_shown}
 use Rattle.desk_api.specs.Types.{type_shown}
 use Rattle.desk_api.specs.declared.channel.Channel.{Channel}
+use Rattle.desk_api.specs.declared.channel.ChannelKind.{ChannelKind}
+use Rattle.desk_api.specs.declared.channel.ChannelKind.TheVariants.{Rec, Desc}
 use Rattle.desk_api.specs.declared.history.SiteData.{SiteData}
 
 -- what a record shows, and a blank value where there is no such record or state
@@ -14,15 +18,33 @@ abbrev pub shown_or_blank : Option Config → Option RecState → Data
 shown_or_blank (Some config) (Some state) = shown config state
 shown_or_blank config _ = blank_of (type_shown config)
 
+-- the description of a record, and a blank value where there is no such record
+abbrev pub described : Option Config → Data
+described (Some config) = desc_shown config
+described None = blank_of (scalar_tree Text)
+
+abbrev pub value_for : ChannelKind → Option Config → Option RecState → Data
+value_for Rec config state = shown_or_blank config state
+value_for Desc config state = described config
+
 -- What the channel shows where the records have these states.
 abbrev pub value_of : SiteData → Channel → List RecState → Data
 value_of site channel states =
-    shown_or_blank (slice_get site.configs channel.number) (slice_get states channel.number)
+    value_for channel.kind (slice_get site.configs channel.number) (slice_get states channel.number)
 
 -- The states of these records, in order, laid over others.
 abbrev pub laid : List RecState → List ℕ → List RecState → List RecState
 laid states (rec ∷ recs) (s ∷ found) = laid (set states rec s) recs found
 laid states _ _ = states
+
+-- The states of these records, in order, of those that there are.
+abbrev pub before_found : Option RecState → List RecState → List RecState
+before_found None found = found
+before_found (Some state) found = state ∷ found
+
+abbrev pub found_in : List RecState → List ℕ → List RecState
+found_in states [] = []
+found_in states (rec ∷ recs) = before_found (slice_get states rec) (found_in states recs)
 
 -- The states are those of these records, in their order.
 abbrev pub AreStatesOf : List RecState → List ℕ → List RecState → Type 0

@@ -5,6 +5,8 @@
 pub enum ChannelKind {
     /// One record.
     Rec,
+    /// The description of a record: its field DESC, without an alarm.
+    Desc,
 }
 
 /// A channel of a site.

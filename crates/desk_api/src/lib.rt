@@ -3,16 +3,19 @@
 
 mod channel;
 mod desk;
+mod fault;
 mod history;
 mod laws;
 mod mark;
 mod put;
+mod records;
 mod site;
 #[cfg(test)]
 mod tests;
 
 pub use channel::{Channel, ChannelKind};
 pub use desk::Desk;
+pub use fault::SiteFault;
 pub use histories::{Deed, Story};
 pub use history::{Base, RollItem, SiteData};
 pub use journal_core::Entry;

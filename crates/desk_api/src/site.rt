@@ -1,13 +1,20 @@
 // The records that are served, as they are configured.
-ghost use Rattle.std.specs.Prelude.{◌≡◌, ◌<◌, ◌∷◌, [], IfOk, IsTrue, Some, length, option_map, slice_get};
-ghost use Rattle.journal_core.specs.Legality.{AreValid};
+ghost use Rattle.std.specs.Prelude.{◌≡◌, ◌<◌, ◌≤◌, [], IfErr, IfOk, IsTrue, Some, length, option_map, option_copied, slice_get};
+ghost use Rattle.db_load.specs.Forms.{is_special};
+ghost use Rattle.db_load.specs.Loading.{RecordsOf};
+ghost use Rattle.desk_api.specs.Loading.{Builds};
+ghost use Rattle.desk_api.specs.Records.{AreNew, IsLoadFault, unloaded};
 ghost use Rattle.desk_api.specs.Sites as sites;
 ghost use Rattle.desk_api.specs.Types as types;
+ghost use Rattle.journal_core.specs.Legality.{AreValid};
 
 use crate::channel::{Channel, ChannelKind};
+use crate::fault::SiteFault;
+use crate::records::Records;
+use db_load::{LoadFault, read_records};
 use pvd_type::{Name, NoMemory, PvType};
-use rec_fields::type_of;
-use rec_kinds::{RecConfig, RecState, longout};
+use rec_fields::desc_type;
+use rec_kinds::{RecConfig, RecState, RecText};
 use std::alloc::Global;
 use std::marker::Model;
 
@@ -25,47 +32,77 @@ pub fn is_record_name(text: &str) -> bool
 
 /// A byte that no record's name has.
 fn is_special(byte: u8) -> bool
-    ensures { result ≡ sites.is_special byte }
+    ensures { result ≡ is_special byte }
 {
     matches!(byte, b' ' | b'\t' | b'"' | b'\'' | b'.' | b'$')
 }
 
-/// The records of a server. So far it is one longout.
+/// The fault of a site whose text has this fault.
+fn unloaded(fault: LoadFault) -> SiteFault
+    ensures { result ≡ unloaded fault }
+{
+    match fault {
+        LoadFault::NoMemory => SiteFault::NoMemory,
+        fault => SiteFault::Load(fault),
+    }
+}
+
+/// The records that a text states.
+fn load(alloc: Global, text: &str, macros: &[(Name, Name)]) -> Result<Vec<RecText>, SiteFault>
+    ensures ok { IfOk result (λ records. RecordsOf macros.now text.now records.items) }
+    ensures new { IfOk result (λ records. AreNew [] records.items) }
+    ensures few { IfOk result (λ records. length records.items ≤ 4000) }
+    ensures fault { IfErr result (IsLoadFault macros.now text.now) }
+{
+    match read_records(alloc, text, macros) {
+        Ok(records) => Ok(records),
+        Err(fault) => Err(unloaded(fault)),
+    }
+}
+
+/// The records of a server, numbered from 0 in the order of their text.
 #[derive(Drop)]
 pub struct Site {
-    name: Name,
-    config: RecConfig,
-    opening: RecState,
-    ty: PvType,
+    records: Records,
+    /// The type of every description.
+    text: PvType,
 }
 
 impl Model for Site {
-    ghost use Rattle.std.specs.Prelude.{◌≡◌, ◌∷◌, []};
-    ghost use Rattle.rec_kinds.specs.Validity.{IsValid};
-    ghost use Rattle.rec_fields.specs.Types.{record_tree};
+    ghost use Rattle.std.specs.Prelude.{◌≡◌};
+    ghost use Rattle.nt_types.specs.Types.{scalar_tree};
+    ghost use Rattle.pvd_type.specs.declared.shape.Scalar.TheVariants.{Text};
     ghost use Rattle.desk_api.specs.declared.history.SiteData.{SiteData};
 
     ghost Value = { SiteData };
 
-    ghost view = { λ s. record { names = s.name ∷ []; configs = s.config ∷ []; opening = s.opening ∷ [] } };
+    ghost view = { λ s. s.records };
 
-    ghost invariant = { λ s. IsValid s.config s.opening × (s.ty ≡ record_tree s.config) };
+    ghost invariant = { λ s. s.text ≡ scalar_tree Text };
 }
 
 impl Site {
+    /// The site of the records of a database text with these macros, whose values hold no line feed. The text is loaded first;
+    /// then its records are built in their order, up to the first fault.
+    pub fn build(alloc: Global, text: &str, macros: &[(Name, Name)]) -> Result<Site, SiteFault>
+        ensures { Builds macros.now text.now result }
+    {
+        let texts = load(alloc, text, macros)?;
+        let records = Records::of_texts(alloc, texts.as_slice())?;
+        Ok(Site {
+            records,
+            text: desc_type(alloc)?,
+        })
+    }
+
     /// A site of one longout with this name, which opens with this value.
     pub fn single(alloc: Global, name: &str, value: i32) -> Result<Site, NoMemory>
         requires { IsTrue (sites.is_record_name name.now) }
         ensures { IfOk result (λ s. s ≡ sites.single name.now value) }
     {
-        let name = Name::of(alloc, name)?;
-        let (config, opening) = longout(alloc, value)?;
-        let ty = type_of(alloc, &config)?;
         Ok(Site {
-            name,
-            config,
-            opening,
-            ty,
+            records: Records::of_longout(alloc, name, value)?,
+            text: desc_type(alloc)?,
         })
     }
 
@@ -75,21 +112,21 @@ impl Site {
         ensures opening { result ≡ length self.now.opening }
         ensures valid { AreValid self.now.configs self.now.opening }
     {
-        let _ = &self.name;
-        1
+        self.records.len()
     }
 
-    /// The channel of this name. None exactly where no record has it. It takes no memory.
+    /// The channel of this name: a record, a record's name with `.VAL`, which is the same, or with `.DESC`, which is its
+    /// description. None exactly for every other name. It takes no memory, and a time that doesn't grow with the records.
     pub fn find(&self, name: &str) -> Option<Channel>
         ensures { result ≡ sites.channel_named self.now name.now }
     {
-        if self.name.as_str() != name {
-            return None;
+        if let Some(record) = name.strip_suffix(".DESC") {
+            return self.records.channel(ChannelKind::Desc, record);
         }
-        Some(Channel {
-            kind: ChannelKind::Rec,
-            number: 0,
-        })
+        if let Some(record) = name.strip_suffix(".VAL") {
+            return self.records.channel(ChannelKind::Rec, record);
+        }
+        self.records.channel(ChannelKind::Rec, name)
     }
 
     /// The type of a channel's values.
@@ -98,7 +135,8 @@ impl Site {
         ensures { option_map (λ t. t.now) result ≡ Some (types.type_of self.now channel) }
     {
         match channel.kind {
-            ChannelKind::Rec => Some(&self.ty),
+            ChannelKind::Rec => Some(self.records.type_at(channel.number as usize)),
+            ChannelKind::Desc => Some(&self.text),
         }
     }
 
@@ -107,8 +145,7 @@ impl Site {
         requires { rec < length self.now.names }
         ensures { slice_get self.now.names rec ≡ Some result.now }
     {
-        let _ = rec;
-        self.name.as_str()
+        self.records.name_at(rec)
     }
 
     /// The configuration of a record, by its number.
@@ -116,8 +153,7 @@ impl Site {
         requires { rec < length self.now.names }
         ensures { slice_get self.now.configs rec ≡ Some result.now }
     {
-        let _ = rec;
-        &self.config
+        self.records.config_at(rec)
     }
 
     /// The state of a record at the opening, by its number.
@@ -125,7 +161,15 @@ impl Site {
         requires { rec < length self.now.names }
         ensures { slice_get self.now.opening rec ≡ Some result.now }
     {
-        let _ = rec;
-        &self.opening
+        self.records.opening_at(rec)
+    }
+
+    /// Where the port of a record leads, by the record's number. None exactly where it has none (EPICS record reference, "DTYP",
+    /// "OUT").
+    pub fn port(&self, rec: usize) -> Option<&str>
+        requires { rec < length self.now.names }
+        ensures { Some (option_copied result) ≡ option_map (λ config. config.port) (slice_get self.now.configs rec) }
+    {
+        self.config(rec).port()
     }
 }

@@ -1,6 +1,7 @@
-use crate::{Channel, ChannelKind, Site, is_record_name};
-use pvd_type::PvType;
+use crate::{Channel, ChannelKind, Site, SiteFault, is_record_name};
+use pvd_type::{Name, NoMemory, PvType};
 use rec_kinds::{Kind, Moment};
+use std::alloc::Global;
 use std::test::Fail;
 
 /// 60 bytes, the most that a record's name may have.
@@ -13,6 +14,93 @@ const RECORD: Channel = Channel {
 
 /// Drops what it is given.
 fn discard<T: Drop>(_value: T) {}
+
+/// The site of a text without macros.
+fn site_of(alloc: Global, text: &str) -> Result<Site, NoMemory> {
+    match Site::build(alloc, text, &[]) {
+        Ok(site) => Ok(site),
+        Err(fault) => {
+            discard(fault);
+            Err(NoMemory)
+        }
+    }
+}
+
+/// Whether a text without macros can't be loaded, or the name of its first record that can't be built.
+fn fault_of(alloc: Global, text: &str) -> Result<Option<Name>, NoMemory> {
+    match Site::build(alloc, text, &[]) {
+        Ok(site) => {
+            discard(site);
+            Err(NoMemory)
+        }
+        Err(fault) => name_in(fault),
+    }
+}
+
+/// The name of the record that can't be built.
+fn name_in(fault: SiteFault) -> Result<Option<Name>, NoMemory> {
+    match fault {
+        SiteFault::Load(fault) => {
+            discard(fault);
+            Ok(None)
+        }
+        SiteFault::Build(name, fault) => {
+            discard(fault);
+            Ok(Some(name))
+        }
+        SiteFault::NoMemory => Err(NoMemory),
+    }
+}
+
+/// Two records, of which the first has a port.
+const TWO: &str = "\
+record(longout, \"A\") { field(VAL, \"7\") field(DTYP, \"File\") field(OUT, \"@file a.txt\") }
+record(stringin, \"B:1\") { field(DESC, \"a text\") }
+";
+
+/// A channel of a site.
+fn channel(kind: ChannelKind, number: u32) -> Option<Channel> {
+    Some(Channel { kind, number })
+}
+
+#[test]
+fn a_site_has_the_records_of_its_text_under_their_names(rt: HostRuntime) -> Result<(), Fail> {
+    let site = site_of(rt.alloc(), TWO)?;
+    let found = [
+        site.find("A"),
+        site.find("A.VAL"),
+        site.find("A.DESC"),
+        site.find("B:1"),
+        site.find("B:1.DESC"),
+        site.find("B:1.EGU"),
+        site.find(".VAL"),
+        site.find("A.VAL.VAL"),
+    ];
+    let count = site.records();
+    discard(site);
+    assert_eq!(rt; count, 2);
+    let first = channel(ChannelKind::Rec, 0);
+    let described = channel(ChannelKind::Desc, 0);
+    let second = channel(ChannelKind::Rec, 1);
+    let about_it = channel(ChannelKind::Desc, 1);
+    assert_eq!(rt;
+        found,
+        [first, first, described, second, about_it, None, None, None]
+    );
+    Ok(())
+}
+
+#[test]
+fn a_text_is_loaded_before_its_records_are_built(rt: HostRuntime) -> Result<(), Fail> {
+    let built = fault_of(rt.alloc(), "record(longin, \"A\") { field(VAL, \"1x\") }")?;
+    let loaded = fault_of(
+        rt.alloc(),
+        "record(longin, \"A\") { field(VAL, \"1x\") } record(",
+    )?;
+    assert_eq!(rt; built.is_some(), true);
+    assert_eq!(rt; loaded.is_none(), true);
+    Ok(())
+}
 
 /// Numbers of some leaves of a type, by their paths.
 fn numbers(ty: Option<&PvType>) -> Option<[Option<u32>; 4]> {

@@ -1,7 +1,8 @@
 -- What one call of a desk that nobody shares adds.
-use Rattle.std.proofs.Common.{◌≡◌, ℕ, ◌+◌, ◌≤◌, ◌<◌, List, [], ◌∷◌, ◌++◌, length, take, set, Option, Some, Ok, Err, refl, sym, ◌∙◌, ap, subst, arith, length-append}
+use Rattle.std.proofs.Common.{◌≡◌, ℕ, ◌+◌, ◌≤◌, ◌<◌, List, [], ◌∷◌, ◌++◌, length, take, set, map, Option, None, Some, Ok, Err, refl, sym, ◌∙◌, ap, subst, arith, length-append}
 use Rattle.std.specs.List.{slice_get}
 use Rattle.std.proofs.Math.Seq.{take-length}
+use Rattle.std.proofs.lemmas.Option.{none-some}
 use Rattle.std.specs.FinSet.{FinSet}
 use Rattle.std.specs.Ordering.{nat_cmp}
 use Rattle.std.specs.Prelude.{Result}
@@ -10,8 +11,6 @@ use Rattle.pvd_value.specs.View.{view}
 use Rattle.pvd_value.specs.declared.value.PvValue.{PvValue}
 use Rattle.rec_kinds.specs.Configs.{Config}
 use Rattle.rec_kinds.specs.declared.datum.Action.{Action}
-use Rattle.rec_fields.specs.Shown.{shown}
-use Rattle.rec_fields.specs.Puts.{action_for, IsAction}
 use Rattle.rec_fields.specs.declared.puts.FieldAnswer.{FieldAnswer}
 use Rattle.rec_fields.specs.declared.puts.FieldAnswer.TheVariants.{Refused, NoMemory}
 use Rattle.rec_kinds.specs.declared.state.RecState.{RecState}
@@ -28,13 +27,15 @@ use Rattle.journal_core.proofs.Growing.{next_state, kept_append, legal_push, rep
 use Rattle.journal_core.proofs.Keeping.{valid_entry}
 use Rattle.journal_core.specs.declared.entry.Entry.{Entry}
 use Rattle.desk_api.specs.History.{entries, commits, state_at, kept_at, IsLegal}
-use Rattle.desk_api.specs.Sites.{footprint_of}
-use Rattle.desk_api.specs.Views.{shown_or_blank, AreStatesOf}
-use Rattle.desk_api.specs.Puts.{actions_of, to_record, to_configured, written_by}
+use Rattle.desk_api.specs.Sites.{footprint_for, footprint_of}
+use Rattle.desk_api.specs.Views.{value_for, value_of, laid, before_found, found_in, AreStatesOf}
+use Rattle.desk_api.specs.Puts.{actions_for, actions_of, to_record, written_by}
 use Rattle.desk_api.specs.Calls.{Asked, asked_actions, ArePut, Calls, AreGet, first_seat, with_mark, now, EndsAtLastMark}
 use Rattle.desk_api.proofs.Adding.{as_many, adds_nothing}
-use Rattle.desk_api.proofs.Showing.{got_set}
+use Rattle.desk_api.proofs.Showing.{footprint_shows}
 use Rattle.desk_api.specs.declared.channel.Channel.{Channel}
+use Rattle.desk_api.specs.declared.channel.ChannelKind.{ChannelKind}
+use Rattle.desk_api.specs.declared.channel.ChannelKind.TheVariants.{Rec, Desc}
 use Rattle.desk_api.specs.declared.history.Base.{Base}
 use Rattle.desk_api.specs.declared.history.RollItem.{RollItem}
 use Rattle.desk_api.specs.declared.history.SiteData.{SiteData}
@@ -44,7 +45,7 @@ use Rattle.desk_api.specs.declared.mark.Seat.{Seat}
 use Rattle.desk_api.specs.declared.put.Done.{Done}
 use Rattle.desk_api.specs.declared.put.PutAnswer.{PutAnswer}
 use Rattle.desk_api.specs.declared.put.PutAnswer.TheVariants as answers
-use Rattle.desk_core.specs.Standing.{Stands, AreEntered, answer_of}
+use Rattle.desk_core.specs.Standing.{Stands, AreEntered, answer_of, asked_for, AreAsked}
 use Rattle.desk_core.proofs.Marking.{entries_now, adds_mark, ends_at, looks, looks_end, still, same_seen}
 
 -- a call that adds nothing
@@ -56,16 +57,11 @@ pub in_opening : {base : Base} {cells : List RecState} {journal : Journal} (s : 
 in_opening s x rec less =
     omega (arith, less, ap length x.cells_are, replayed_count s.seen.base.site.opening (take (now s) (commits s.seen)), ap (λ (b : Base). length b.site.opening) x.base_is, ap length x.opening_is)
 
--- what is shown of a configuration and a state that are there
-shows : (c : Option Config) (o : Option RecState) (config : Config) (state : RecState) → c ≡ Some config → o ≡ Some state → shown_or_blank c o ≡ shown config state
-shows c o config state configured found =
-    ap (λ (d : Option Config). shown_or_blank d o) configured ∙ ap (shown_or_blank (Some config)) found
-
 -- a get's mark, whatever it found
-module _ {base : Base} {cells : List RecState} {journal : Journal} (s t : Seat) (x : Stands base cells journal s) (legal : IsLegal s.seen) (channel : Channel) (state : RecState)
-    (same : t ≡ with_mark s (λ at. Read at channel (footprint_of base.site channel) (state ∷ []))) where
+module _ {base : Base} {cells : List RecState} {journal : Journal} (s t : Seat) (x : Stands base cells journal s) (legal : IsLegal s.seen) (channel : Channel)
+    (same : t ≡ with_mark s (λ at. Read at channel (footprint_of base.site channel) (found_in cells (footprint_of base.site channel)))) where
   abbrev reads : ℕ → Mark
-  reads at = Read at channel (footprint_of base.site channel) (state ∷ [])
+  reads at = Read at channel (footprint_of base.site channel) (found_in cells (footprint_of base.site channel))
 
   pub get_ends : EndsAtLastMark t
   get_ends = subst EndsAtLastMark (sym same) (looks_end s reads refl refl)
@@ -76,31 +72,45 @@ module _ {base : Base} {cells : List RecState} {journal : Journal} (s t : Seat) 
   pub get_legal : IsLegal t.seen
   get_legal = subst (λ (z : Seat). IsLegal z.seen) (sym same) (subst IsLegal (sym (same_seen s reads refl)) legal)
 
+-- a state that is there is found
+found_one : (o : Option RecState) (state : RecState) → o ≡ Some state → map Some (before_found o []) ≡ o ∷ []
+found_one None state is = absurd (none-some state is)
+found_one (Some found) state is = refl
+
+found_for : (kind : ChannelKind) (n : ℕ) (cells : List RecState) (state : RecState) → slice_get cells n ≡ Some state → AreStatesOf cells (footprint_for kind n) (found_in cells (footprint_for kind n))
+found_for Rec n cells state is = found_one (slice_get cells n) state is
+found_for Desc n cells state is = refl
+
 -- what a get found
-module _ {base : Base} {cells : List RecState} {journal : Journal} (s t : Seat) (x : Stands base cells journal s) (legal : IsLegal s.seen) (channel : Channel) (state : RecState)
-    (found : slice_get cells channel.number ≡ Some state) (less : channel.number < length cells)
-    (same : t ≡ with_mark s (λ at. Read at channel (footprint_of base.site channel) (state ∷ []))) where
+module _ {base : Base} {cells : List RecState} {journal : Journal} (s t : Seat) (x : Stands base cells journal s) (legal : IsLegal s.seen) (channel : Channel) (config : Config) (state : RecState)
+    (configured : slice_get base.site.configs channel.number ≡ Some config) (found : slice_get cells channel.number ≡ Some state)
+    (same : t ≡ with_mark s (λ at. Read at channel (footprint_of base.site channel) (found_in cells (footprint_of base.site channel)))) where
   abbrev marks_read : ℕ → Mark
-  marks_read at = Read at channel (footprint_of base.site channel) (state ∷ [])
+  marks_read at = Read at channel (footprint_of base.site channel) (found_in cells (footprint_of base.site channel))
 
-  found_is : AreStatesOf (state_at s.seen (now s)) (footprint_of base.site channel) (state ∷ [])
-  found_is = ap (λ (o : Option RecState). o ∷ []) (sym found ∙ ap (λ (l : List RecState). slice_get l channel.number) x.cells_are)
+  abbrev held : List RecState
+  held = found_in cells (footprint_of base.site channel)
 
-  -- the record's state, laid over the opening states, is shown
-  laid_is : slice_get (set s.seen.base.site.opening channel.number state) channel.number ≡ Some state
-  laid_is = got_set s.seen.base.site.opening channel.number state (omega (arith, in_opening s x channel.number less, ap length x.opening_is, ap (λ (b : Base). length b.site.opening) x.base_is))
+  held_is : AreStatesOf cells (footprint_of base.site channel) held
+  held_is = found_for channel.kind channel.number cells state found
 
-  pub gets : (config : Config) → slice_get base.site.configs channel.number ≡ Some config → (value : PvValue) → view value ≡ shown config state → Calls s t (AreGet s.seen.base.site channel (Ok value))
-  gets config configured value is = subst (λ (z : Seat). Calls s z (AreGet s.seen.base.site channel (Ok value))) (sym same) (record {
+  found_is : AreStatesOf (state_at s.seen (now s)) (footprint_of base.site channel) held
+  found_is = subst (λ (l : List RecState). AreStatesOf l (footprint_of base.site channel) held) x.cells_are held_is
+
+  as_long : length s.seen.base.site.opening ≡ length cells
+  as_long = omega (arith, ap length x.cells_are, replayed_count s.seen.base.site.opening (take (now s) (commits s.seen)))
+
+  shown_is : value_of s.seen.base.site channel (laid s.seen.base.site.opening (footprint_of base.site channel) held) ≡ value_for channel.kind (Some config) (Some state)
+  shown_is =
+      footprint_shows channel.kind (slice_get s.seen.base.site.configs channel.number) s.seen.base.site.opening cells channel.number held as_long held_is
+      ∙ ap (λ (c : Option Config). value_for channel.kind c (slice_get cells channel.number)) (ap (λ (b : Base). slice_get b.site.configs channel.number) x.base_is ∙ configured)
+      ∙ ap (value_for channel.kind (Some config)) found
+
+  pub gets : (value : PvValue) → view value ≡ value_for channel.kind (Some config) (Some state) → Calls s t (AreGet s.seen.base.site channel (Ok value))
+  gets value is = subst (λ (z : Seat). Calls s z (AreGet s.seen.base.site channel (Ok value))) (sym same) (record {
     marks = marks_read (now s) ∷ [];
     adds = looks s marks_read refl refl refl (record { within = omega arith; footprint_is = refl; found_is = found_is }) legal;
-    named = record {
-      at = now s;
-      found = state ∷ [];
-      marks_are = refl;
-      value_is = is ∙ sym (shows (slice_get s.seen.base.site.configs channel.number) (slice_get (set s.seen.base.site.opening channel.number state) channel.number) config state
-          (ap (λ (b : Base). slice_get b.site.configs channel.number) x.base_is ∙ configured) laid_is);
-    };
+    named = record { at = now s; found = held; marks_are = refl; value_is = is ∙ sym shown_is };
   })
 
 -- an entry that is too heavy
@@ -241,13 +251,18 @@ calls_put s t asked entry action result asks actions footprint moment c = record
   named = answers_put asked entry action result c.marks asks actions footprint moment c.named;
 }
 
--- what is asked of a record with this configuration
-pub asks_record : (site : SiteData) (channel : Channel) (config : Config) (mask : FinSet nat_cmp) (value : Data) (outcome : Result Action FieldAnswer) → slice_get site.configs channel.number ≡ Some config → action_for config value mask ≡ outcome → actions_of site channel mask value ≡ to_record channel.number outcome
+-- what is asked of a channel of this kind, whose record has this configuration
+asks_kind : (kind : ChannelKind) (number : ℕ) (config : Config) (mask : FinSet nat_cmp) (value : Data) (outcome : Result Action FieldAnswer) → asked_for kind config value mask ≡ outcome
+    → actions_for kind number mask value (Some config) ≡ to_record number outcome
+asks_kind Rec number config mask value outcome is = ap (to_record number) is
+asks_kind Desc number config mask value outcome is = ap (to_record number) is
+
+pub asks_record : (site : SiteData) (channel : Channel) (config : Config) (mask : FinSet nat_cmp) (value : Data) (outcome : Result Action FieldAnswer) → slice_get site.configs channel.number ≡ Some config → asked_for channel.kind config value mask ≡ outcome → actions_of site channel mask value ≡ to_record channel.number outcome
 asks_record site channel config mask value outcome configured is =
-    ap (to_configured channel.number mask value) configured ∙ ap (to_record channel.number) is
+    ap (actions_for channel.kind channel.number mask value) configured ∙ asks_kind channel.kind channel.number config mask value outcome is
 
 -- a put that gives no action
-pub stops_put : (asked : Asked) (config : Config) (answer : FieldAnswer) → slice_get asked.site.configs asked.channel.number ≡ Some config → IsAction config asked.value asked.mask (Err answer) → ArePut asked (Err (answer_of answer)) []
+pub stops_put : (asked : Asked) (config : Config) (answer : FieldAnswer) → slice_get asked.site.configs asked.channel.number ≡ Some config → AreAsked asked.channel.kind config asked.value asked.mask (Err answer) → ArePut asked (Err (answer_of answer)) []
 stops_put asked config (Refused refusal) configured is = record {
   refusal_is = asks_record asked.site asked.channel config asked.mask asked.value (Err (Refused refusal)) configured is;
   marks_are = refl;

@@ -1,19 +1,25 @@
 // A desk that nobody shares.
-ghost use Rattle.std.specs.Prelude.{◌≡◌, ◌<◌, ◌≤◌, ◌^◌, ◌++◌, drop, length, slice_get, Some, IfOk, IsTrue, OnOk};
+ghost use Rattle.std.specs.Prelude.{◌≡◌, ◌<◌, ◌≤◌, ◌^◌, ◌++◌, drop, length, slice_get, Some, true, IfOk, IsTrue, OnOk};
 ghost use Rattle.desk_api.specs.History.{IsLegal, commits};
 ghost use Rattle.desk_api.specs.Calls.{first_seat, Calls, OnMarked, EndsAtLastMark};
-ghost use Rattle.desk_core.specs.Standing.{Stands, answer_of, base_of};
+ghost use Rattle.desk_api.specs.Types.{type_for};
+ghost use Rattle.desk_api.specs.Views.{value_for};
+ghost use Rattle.desk_core.specs.Standing.{AreAsked, Stands, answer_of, base_of};
 ghost use Rattle.journal_core.proofs.Facts.{are_legal_prop, are_valid_prop};
 ghost use Rattle.journal_core.specs.Legality.{AreValid};
-ghost use Rattle.rec_kinds.specs.Validity.{IsValid};
+ghost use Rattle.pvd_value.specs.Fits.{fits_of};
+ghost use Rattle.pvd_value.specs.View.{view};
+ghost use Rattle.rec_kinds.specs.Validity.{IsValid, MayBeDone};
 
 use crate::draft::{Draft, draft_of};
 use crate::log::{Log, Terms, note_entered, note_overweight, note_read};
-use desk_api::{Channel, Desk, Done, Moment, NoMemory, PutAnswer, PvType, PvValue, RecState, Site};
+use desk_api::{
+    Channel, ChannelKind, Desk, Done, Moment, NoMemory, PutAnswer, PutRefusal, PvType, PvValue, RecState, Site,
+};
 use journal_core::{History, weight};
 use pvd_type::BitSet;
-use rec_fields::{FieldAnswer, action_of, view};
-use rec_kinds::RecConfig;
+use rec_fields::{FieldAnswer, action_of, desc_view, view};
+use rec_kinds::{Action, RecConfig};
 use std::alloc::Global;
 use std::marker::Brand;
 
@@ -36,7 +42,8 @@ pub struct SoloDesk {
 
 /// The states that the records of a site open with.
 fn opening_of(alloc: Global, site: &Site) -> Result<Vec<RecState>, NoMemory>
-    ensures { IfOk result (λ states. states.items ≡ site.now.opening) }
+    ensures states { IfOk result (λ states. states.items ≡ site.now.opening) }
+    ensures valid { AreValid site.now.configs site.now.opening }
 {
     let count = site.records();
     let mut states = Vec::with_capacity(alloc, count)?;
@@ -70,6 +77,41 @@ fn has_few_elements(config: &RecConfig)
     ensures { config.now.nelm < 2 ^ 32 }
 {
     let _ = config.nelm();
+}
+
+/// What a channel of this kind shows of a record.
+fn shown(
+    alloc: Global,
+    kind: ChannelKind,
+    config: &RecConfig,
+    state: &RecState,
+) -> Result<PvValue, NoMemory>
+    requires { IsValid config.now state.now }
+    ensures shown { IfOk result (λ v. view v ≡ value_for kind (Some config.now) (Some state.now)) }
+    ensures fits { IfOk result (λ v. fits_of 16 (view v) (type_for kind (Some config.now)) ≡ true) }
+{
+    match kind {
+        ChannelKind::Rec => view(alloc, config, state),
+        ChannelKind::Desc => desc_view(alloc, config),
+    }
+}
+
+/// The action that a put to a channel of this kind asks of its record. A description can't be written.
+fn asked_of(
+    alloc: Global,
+    kind: ChannelKind,
+    config: &RecConfig,
+    value: &PvValue,
+    mask: &BitSet,
+) -> Result<Action, FieldAnswer>
+    requires { fits_of 16 (view value.now) (type_for kind (Some config.now)) ≡ true }
+    ensures answer { AreAsked kind config.now (view value.now) mask.now result }
+    ensures may { IfOk result (MayBeDone config.now) }
+{
+    match kind {
+        ChannelKind::Rec => action_of(alloc, config, value, mask),
+        ChannelKind::Desc => Err(FieldAnswer::Refused(PutRefusal::NothingWritable)),
+    }
 }
 
 /// Why a put isn't done that gives no action.
@@ -159,8 +201,8 @@ impl Desk for SoloDesk {
     fn get(&mut self, alloc: Global, channel: Channel) -> Result<PvValue, NoMemory> {
         let rec = channel.number as usize;
         let (config, state) = record_at(&self.terms.site, &self.cells, rec);
-        let value = view(alloc, config, state)?;
-        note_read::<Brand>(&mut self.log, &self.terms.site, channel, state);
+        let value = shown(alloc, channel.kind, config, state)?;
+        note_read::<Brand>(&mut self.log, &self.terms.site, channel, &self.cells);
         Ok(value)
     }
 
@@ -174,7 +216,7 @@ impl Desk for SoloDesk {
     ) -> Result<Done, PutAnswer> {
         let rec = channel.number as usize;
         let (config, state) = record_at(&self.terms.site, &self.cells, rec);
-        let action = match action_of(alloc, config, value, mask) {
+        let action = match asked_of(alloc, channel.kind, config, value, mask) {
             Ok(action) => action,
             Err(answer) => return Err(not_done(answer)),
         };

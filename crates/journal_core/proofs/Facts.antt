@@ -1,5 +1,5 @@
 -- That states are valid and that a history is legal are facts: each holds in one way at most.
-use Rattle.std.specs.Prelude.{◌≡◌, ◌==◌, ℕ, Bool, true, List, [], ◌∷◌, set, Option, Some, None, slice_get, IsTrue}
+use Rattle.std.specs.Prelude.{◌≡◌, ◌==◌, ◌||◌, ℕ, Bool, true, List, [], ◌∷◌, set, Option, Some, None, is_some, slice_get, IsTrue}
 use Rattle.std.specs.List.{list_all, list_any}
 use Rattle.std.proofs.Props.{props}
 use Rattle.rec_kinds.specs.Processing.{processed}
@@ -43,7 +43,7 @@ may_prop config Process = hlevel props
 
 processed_prop : (config : Config) (old : RecState) (moment : Moment) (action : ℕ × Action) (drove : Bool) (write : ℕ × RecState) → IsProp (IsProcessed config old moment action drove write)
 processed_prop config old moment action drove write x y =
-    let driven : IsProp (drove ≡ true) = hlevel props in
+    let driven : IsProp ((drove || is_some config.port) ≡ true) = hlevel props in
     let write_is : IsProp (write ≡ (action.0, processed config old action.1 moment drove)) = hlevel props in
     λ i. record { may = may_prop config action.1 x.may y.may i; driven = driven x.driven y.driven i; write_is = write_is x.write_is y.write_is i }
 

@@ -1,5 +1,5 @@
 -- Which histories are legal.
-use Rattle.std.specs.Prelude.{◌≡◌, ◌==◌, ℕ, Bool, true, List, [], ◌∷◌, set, Option, Some, slice_get, ⊤, IsTrue}
+use Rattle.std.specs.Prelude.{◌≡◌, ◌==◌, ◌||◌, ℕ, Bool, true, List, [], ◌∷◌, set, Option, Some, is_some, slice_get, ⊤, IsTrue}
 use Rattle.std.specs.List.{list_all, list_any}
 use Rattle.rec_kinds.specs.Processing.{processed}
 use Rattle.rec_kinds.specs.Validity.{IsValid, MayBeDone}
@@ -17,12 +17,12 @@ AreValid [] [] = ⊤
 AreValid (config ∷ configs) (state ∷ states) = IsValid config state × AreValid configs states
 AreValid _ _ = ⊥
 
--- The action may be done to a record of this configuration, and the write is what processing makes of its state. No
--- record has a port so far, so that every `drove` is true.
+-- The action may be done to a record of this configuration, and the write is what processing makes of its state. Only of
+-- a record with a port may the entry tell that it wasn't driven.
 pub record IsProcessed (config : Config) (old : RecState) (moment : Moment) (action : ℕ × Action) (drove : Bool)
     (write : ℕ × RecState) : Type 0 where
   pub may : MayBeDone config action.1
-  pub driven : drove ≡ true
+  pub driven : (drove || is_some config.port) ≡ true
   pub write_is : write ≡ (action.0, processed config old action.1 moment drove)
 
 -- the same of the record with this number, if there is one

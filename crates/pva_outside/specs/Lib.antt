@@ -4,9 +4,12 @@ pub mod Moment
 pub mod PlainLink
 pub mod MemoryLink
 pub mod MemorySink
+pub mod MemoryPort
+pub mod Ports
 pub mod Refusal
 pub mod Sinks
 pub mod StreamLink
 pub mod StreamSink
 pub mod SystemClock
 pub mod Turns
+pub mod WriterPort

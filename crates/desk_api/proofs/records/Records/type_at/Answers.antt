@@ -1,0 +1,12 @@
+use Rattle.std.specs.Prelude.{◌≡◌, Some, slice_get}
+use Rattle.std.proofs.Common.{sym, ◌∙◌, ap, rules}
+use Rattle.desk_api.proofs.Recording.{shows_type}
+use Rattle.desk_api.specs.Types.{type_shown}
+use Rattle.desk_api.specs.declared.history.SiteData.{SiteData}
+use Rattle.desk_api.proofs.records.Records.type_at.Goals as goal
+
+pub returns : goal.returns
+returns c =
+    let es = c.self.inside.by_name.entries in
+    let found : slice_get es c.args.rec ≡ Some (c.unwrap.result.0.now, c.unwrap.result.1.now) = search rules in
+    shows_type es c.args.rec _ found c.self.invariant.1 ∙ ap (λ (s : SiteData). type_shown (slice_get s.configs c.args.rec)) c.self.view_is

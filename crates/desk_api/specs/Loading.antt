@@ -1,0 +1,44 @@
+-- What building a site from a database text answers.
+use Rattle.std.specs.Prelude.{◌≡◌, ℕ, List, [], ◌∷◌, Option, None, Some, Result, Ok, Err, ⊤}
+use Rattle.std.specs.Option.{option_or, option_map}
+use Rattle.db_text.specs.Macros.{Macros}
+use Rattle.db_load.specs.Loading.{RecordsOf, FirstFaultOf}
+use Rattle.db_load.specs.declared.fault.LoadFault.TheVariants as loads
+use Rattle.rec_kinds.specs.Building.{build_fault}
+use Rattle.rec_kinds.specs.declared.fault.BuildFault.{BuildFault}
+use Rattle.rec_kinds.specs.declared.record_text.RecText.{RecText}
+use Rattle.desk_api.specs.Sites.{site_of}
+use Rattle.desk_api.specs.declared.fault.SiteFault.{SiteFault}
+use Rattle.desk_api.specs.declared.fault.SiteFault.TheVariants.{Load, Build, NoMemory}
+use Rattle.desk_api.specs.declared.history.SiteData.{SiteData}
+
+-- why this record can't be built, with its name
+abbrev pub fault_in : RecText → Option (List ℕ × BuildFault)
+fault_in r = option_map (λ fault. (r.name, fault)) (build_fault r.kind r.fields)
+
+-- the first of these records that can't be built, and why
+abbrev pub first_fault : List RecText → Option (List ℕ × BuildFault)
+first_fault [] = None
+first_fault (r ∷ records) = option_or (fault_in r) (first_fault records)
+
+-- The text has these records, all of which can be built, and the site is theirs.
+pub record IsBuilt (macros : Macros) (text : List ℕ) (site : SiteData) : Type 0 where
+  pub records : List RecText
+  pub loaded : RecordsOf macros text records
+  pub faultless : first_fault records ≡ None
+  pub site_is : site ≡ site_of records
+
+-- The text has records, the first of which that can't be built is the one of this name, for this reason.
+pub record IsUnbuilt (macros : Macros) (text : List ℕ) (name : List ℕ) (fault : BuildFault) : Type 0 where
+  pub records : List RecText
+  pub loaded : RecordsOf macros text records
+  pub fault_is : first_fault records ≡ Some (name, fault)
+
+-- The site that a text with these macros gives, or its first fault: that of the text, then of its records in order. Want of
+-- memory has an answer of its own, and is free.
+abbrev pub Builds : Macros → List ℕ → Result SiteData SiteFault → Type 0
+Builds macros text (Ok site) = IsBuilt macros text site
+Builds macros text (Err (Load loads.NoMemory)) = ⊥
+Builds macros text (Err (Load fault)) = FirstFaultOf macros text fault
+Builds macros text (Err (Build name fault)) = IsUnbuilt macros text name fault
+Builds macros text (Err NoMemory) = ⊤
