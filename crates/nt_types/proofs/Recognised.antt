@@ -1,9 +1,8 @@
 -- The types that are made are recognised.
-use Rattle.std.proofs.Common.{◌≡◌, ℕ, true, List, [], ◌∷◌, Option, None, Some, if◌then◌else◌, refl, ap}
+use Rattle.std.proofs.Common.{◌≡◌, ℕ, true, List, [], ◌∷◌, None, Some, if◌then◌else◌, refl, ap}
 use Rattle.pvd_type.specs.declared.shape.Scalar.{Scalar}
 use Rattle.nt_types.specs.Kinds.{recognised, all_lists}
 use Rattle.nt_types.specs.Types.{scalar_tree, scalar_array_tree, enum_tree, table_tree, uri_tree, fields_by, list_of}
-use Rattle.nt_types.specs.declared.kind.NtKind.{NtKind}
 use Rattle.nt_types.specs.declared.kind.NtKind.TheVariants.{NtScalar, NtScalarArray, NtEnum, NtTable, NtUri}
 
 columns_are_lists : (columns : List (List ℕ × Scalar)) → all_lists (fields_by list_of columns) ≡ true
