@@ -5,7 +5,7 @@ use Rattle.std.proofs.lemmas.Option.{none-some}
 use Rattle.std.proofs.lemmas.List.Sums.{fold-append}
 use Rattle.rec_kinds.specs.Processing.{processed}
 use Rattle.rec_kinds.specs.Validity.{IsValid}
-use Rattle.rec_kinds.specs.Keeping.{valid_after}
+use Rattle.rec_kinds.proofs.Keeping.{valid_after}
 use Rattle.histories.proofs.Judged.{legal_at}
 use Rattle.rec_kinds.specs.Configs.{Config}
 use Rattle.rec_kinds.specs.declared.datum.Action.{Action}

@@ -3,11 +3,13 @@
 #![tactic(auto)]
 
 mod kind;
+mod laws;
 mod members;
 mod parts;
 mod types;
 
 pub use kind::{NtKind, kind_of};
+pub use laws::types_are_recognised;
 pub use types::{nt_enum, nt_scalar, nt_scalar_array, nt_table, nt_uri};
 
 #[cfg(test)]

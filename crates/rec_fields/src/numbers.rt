@@ -1,6 +1,7 @@
 // Lists of numbers of each width.
-ghost use Rattle.std.specs.Prelude.{◌≡◌, ℤ, pos, negsuc, true, map, IfOk};
+ghost use Rattle.std.specs.Prelude.{◌≡◌, ℤ, pos, true, map, IfOk};
 ghost use Rattle.std.specs.List.{list_all};
+ghost use Rattle.rec_kinds.specs.Ranges.{int8, uint8, int16, uint16, int32, uint32, int64, uint64};
 ghost use Rattle.rec_kinds.specs.Sorts.{within};
 
 use pvd_type::NoMemory;
@@ -52,9 +53,9 @@ pub(crate) fn widened<T: Number>(alloc: Global, numbers: &[T]) -> Result<Vec<i12
 impl Number for i8 {
     ghost value = { λ n. n };
 
-    ghost low = { negsuc 127 };
+    ghost low = { int8.0 };
 
-    ghost high = { pos 127 };
+    ghost high = { int8.1 };
 
     fn narrow(number: i128) -> i8 {
         number as i8
@@ -68,9 +69,9 @@ impl Number for i8 {
 impl Number for u8 {
     ghost value = { λ n. pos n };
 
-    ghost low = { pos 0 };
+    ghost low = { uint8.0 };
 
-    ghost high = { pos 255 };
+    ghost high = { uint8.1 };
 
     fn narrow(number: i128) -> u8 {
         number as u8
@@ -84,9 +85,9 @@ impl Number for u8 {
 impl Number for i16 {
     ghost value = { λ n. n };
 
-    ghost low = { negsuc 32767 };
+    ghost low = { int16.0 };
 
-    ghost high = { pos 32767 };
+    ghost high = { int16.1 };
 
     fn narrow(number: i128) -> i16 {
         number as i16
@@ -100,9 +101,9 @@ impl Number for i16 {
 impl Number for u16 {
     ghost value = { λ n. pos n };
 
-    ghost low = { pos 0 };
+    ghost low = { uint16.0 };
 
-    ghost high = { pos 65535 };
+    ghost high = { uint16.1 };
 
     fn narrow(number: i128) -> u16 {
         number as u16
@@ -116,9 +117,9 @@ impl Number for u16 {
 impl Number for i32 {
     ghost value = { λ n. n };
 
-    ghost low = { negsuc 2147483647 };
+    ghost low = { int32.0 };
 
-    ghost high = { pos 2147483647 };
+    ghost high = { int32.1 };
 
     fn narrow(number: i128) -> i32 {
         number as i32
@@ -132,9 +133,9 @@ impl Number for i32 {
 impl Number for u32 {
     ghost value = { λ n. pos n };
 
-    ghost low = { pos 0 };
+    ghost low = { uint32.0 };
 
-    ghost high = { pos 4294967295 };
+    ghost high = { uint32.1 };
 
     fn narrow(number: i128) -> u32 {
         number as u32
@@ -148,9 +149,9 @@ impl Number for u32 {
 impl Number for i64 {
     ghost value = { λ n. n };
 
-    ghost low = { negsuc 9223372036854775807 };
+    ghost low = { int64.0 };
 
-    ghost high = { pos 9223372036854775807 };
+    ghost high = { int64.1 };
 
     fn narrow(number: i128) -> i64 {
         number as i64
@@ -164,9 +165,9 @@ impl Number for i64 {
 impl Number for u64 {
     ghost value = { λ n. pos n };
 
-    ghost low = { pos 0 };
+    ghost low = { uint64.0 };
 
-    ghost high = { pos 18446744073709551615 };
+    ghost high = { uint64.1 };
 
     fn narrow(number: i128) -> u64 {
         number as u64

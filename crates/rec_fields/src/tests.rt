@@ -1,14 +1,15 @@
 ghost use Rattle.std.specs.Prelude.{◌<◌, IfOk};
 ghost use Rattle.rec_kinds.specs.Validity.{IsValid, MayBeDone};
 
+use crate::numbers::Number;
 use crate::parts::{alarm_of, three_of, time_of};
 use crate::{
     Action, FieldAnswer, PutRefusal, RecConfig, RecState, action_of, desc_type, desc_view, type_of,
     view,
 };
-use pvd_type::{BitSet, Name, NoMemory};
+use pvd_type::{BitSet, Name, NoMemory, PvType};
 use pvd_value::{Items, PvValue, fits};
-use rec_kinds::{Element, FieldText, Kind, Moment, build, plain_text, process};
+use rec_kinds::{BuildFault, Element, FieldText, Kind, Moment, build, plain_text, process};
 use std::alloc::Global;
 use std::test::Fail;
 
@@ -123,28 +124,106 @@ fn words_after(
     words_in(alloc, config, &new)
 }
 
-/// What the record holds, its alarm, and whether what it shows fits its type.
+/// What the record's port is driven with, and what the record shows, in words.
 fn words_in(alloc: Global, config: &RecConfig, state: &RecState) -> Result<String, NoMemory>
     requires { IsValid config.now state.now }
 {
-    let fitting = fits_its_type(alloc, config, state)?;
     let text = plain_text(alloc, state)?;
-    let text = text.as_str();
-    let severity = state.severity.number();
-    let status = state.status.number();
-    let message = state.message.as_str();
-    let words = format!(in alloc; "{text} {severity} {status} {message} {fitting}")?;
+    let shown = shown_words(alloc, config, state)?;
+    let (text, shown) = (text.as_str(), shown.as_str());
+    let words = format!(in alloc; "{text} as{shown}")?;
     Ok(words)
 }
 
-fn fits_its_type(alloc: Global, config: &RecConfig, state: &RecState) -> Result<bool, NoMemory>
+fn shown_words(alloc: Global, config: &RecConfig, state: &RecState) -> Result<String, NoMemory>
     requires { IsValid config.now state.now }
 {
     let ty = type_of(alloc, config)?;
     let shown = view(alloc, config, state)?;
-    let fitting = fits(&ty, &shown);
+    let words = typed_words(alloc, &ty, &shown);
     discard(shown);
-    Ok(fitting)
+    words
+}
+
+/// A structure of a type in words, with a semicolon behind each member.
+fn typed_words(alloc: Global, ty: &PvType, value: &PvValue) -> Result<String, NoMemory> {
+    let mut text = String::new(alloc);
+    if !fits(ty, value) {
+        text.push_str("another type")?;
+    }
+    for member in value.members() {
+        let words = member_words(alloc, member)?;
+        text.push_str(words.as_str())?;
+        text.push(';')?;
+    }
+    Ok(text)
+}
+
+/// A value without structures in it, in words, with a blank before each.
+fn member_words(alloc: Global, value: &PvValue) -> Result<String, NoMemory> {
+    let mut text = leaf_words(alloc, value)?;
+    for member in value.members() {
+        let words = leaf_words(alloc, member)?;
+        text.push_str(words.as_str())?;
+    }
+    Ok(text)
+}
+
+/// A leaf in words; nothing for a structure.
+fn leaf_words(alloc: Global, value: &PvValue) -> Result<String, NoMemory> {
+    match value {
+        PvValue::I32(number) => Ok(format!(in alloc; " int {number}")?),
+        PvValue::I64(number) => Ok(format!(in alloc; " long {number}")?),
+        PvValue::Text(text) => text_words(alloc, text),
+        PvValue::List(items) => list_words(alloc, items),
+        PvValue::Struct(_) => Ok(String::new(alloc)),
+        PvValue::Bool(_) | PvValue::I8(_) | PvValue::I16(_) => Err(NoMemory),
+        PvValue::U8(_) | PvValue::U16(_) | PvValue::U32(_) | PvValue::U64(_) => Err(NoMemory),
+        PvValue::F32(_) | PvValue::F64(_) => Err(NoMemory),
+        PvValue::Union(_) | PvValue::Variant(_) => Err(NoMemory),
+        PvValue::StructList(_) | PvValue::UnionList(_) | PvValue::VariantList(_) => Err(NoMemory),
+    }
+}
+
+fn text_words(alloc: Global, text: &Name) -> Result<String, NoMemory> {
+    let text = text.as_str();
+    let words = format!(in alloc; " '{text}'")?;
+    Ok(words)
+}
+
+/// A list in words: its type and its elements.
+fn list_words(alloc: Global, items: &Items) -> Result<String, NoMemory> {
+    match items {
+        Items::I8(numbers) => numbers_words(alloc, " byte[]", numbers),
+        Items::U8(numbers) => numbers_words(alloc, " ubyte[]", numbers),
+        Items::I16(numbers) => numbers_words(alloc, " short[]", numbers),
+        Items::U16(numbers) => numbers_words(alloc, " ushort[]", numbers),
+        Items::I32(numbers) => numbers_words(alloc, " int[]", numbers),
+        Items::U32(numbers) => numbers_words(alloc, " uint[]", numbers),
+        Items::I64(numbers) => numbers_words(alloc, " long[]", numbers),
+        Items::U64(numbers) => numbers_words(alloc, " ulong[]", numbers),
+        Items::Text(texts) => texts_words(alloc, texts),
+        Items::Bool(_) | Items::F32(_) | Items::F64(_) => Err(NoMemory),
+    }
+}
+
+fn numbers_words<T: Number>(alloc: Global, word: &str, numbers: &[T]) -> Result<String, NoMemory> {
+    let mut text = String::from_str(alloc, word)?;
+    for number in numbers {
+        let number = number.wide();
+        let words = format!(in alloc; " {number}")?;
+        text.push_str(words.as_str())?;
+    }
+    Ok(text)
+}
+
+fn texts_words(alloc: Global, texts: &[Name]) -> Result<String, NoMemory> {
+    let mut text = String::from_str(alloc, " string[]")?;
+    for item in texts {
+        let words = text_words(alloc, item)?;
+        text.push_str(words.as_str())?;
+    }
+    Ok(text)
 }
 
 /// The answer to a put of a value, which is of the record's type, with one marked leaf.
@@ -225,43 +304,189 @@ fn put_extremes(alloc: Global, given: &str, element: Element) -> Result<String, 
     put(alloc, Kind::Waveform, given, value, 1)
 }
 
+/// What a record of these fields shows when it opens, in words.
+fn opened(alloc: Global, kind: Kind, given: &str) -> Result<String, NoMemory> {
+    let fields = fields(alloc, given)?;
+    let answer = build(alloc, kind, fields.as_slice());
+    let words = opened_words(alloc, &answer);
+    discard(answer);
+    words
+}
+
+fn opened_words(
+    alloc: Global,
+    answer: &Result<(RecConfig, RecState), BuildFault>,
+) -> Result<String, NoMemory>
+    requires { IfOk answer.now (λ built. IsValid built.0 built.1) }
+{
+    match answer {
+        Ok((config, state)) => shown_words(alloc, config, state),
+        Err(_) => Err(NoMemory),
+    }
+}
+
+/// What the description of a record of these fields shows, in words.
+fn described(alloc: Global, kind: Kind, given: &str) -> Result<String, NoMemory> {
+    let fields = fields(alloc, given)?;
+    let answer = build(alloc, kind, fields.as_slice());
+    let words = described_words(alloc, &answer);
+    discard(answer);
+    words
+}
+
+fn described_words(
+    alloc: Global,
+    answer: &Result<(RecConfig, RecState), BuildFault>,
+) -> Result<String, NoMemory> {
+    match answer {
+        Ok((config, _)) => desc_words(alloc, config),
+        Err(_) => Err(NoMemory),
+    }
+}
+
+fn desc_words(alloc: Global, config: &RecConfig) -> Result<String, NoMemory> {
+    let ty = desc_type(alloc)?;
+    let shown = desc_view(alloc, config)?;
+    let words = typed_words(alloc, &ty, &shown);
+    discard(shown);
+    words
+}
+
+#[test]
+fn each_kind_shows_its_value_its_alarm_and_its_time(rt: HostRuntime) -> Result<(), Fail> {
+    let quiet = " int 0 int 0 '';";
+    let undefined = " int 3 int 6 'UDF';";
+    let table = [
+        (Kind::Longin, "VAL=0x10", " int 16;", quiet),
+        (Kind::Longin, "", " int 0;", undefined),
+        (
+            Kind::Longout,
+            "VAL=-2147483648;LOW=0;LSV=MINOR",
+            " int -2147483648;",
+            " int 1 int 1 'LOW';",
+        ),
+        (
+            Kind::Int64in,
+            "VAL=-9223372036854775808",
+            " long -9223372036854775808;",
+            quiet,
+        ),
+        (
+            Kind::Int64out,
+            "VAL=9223372036854775807",
+            " long 9223372036854775807;",
+            quiet,
+        ),
+        (
+            Kind::Bi,
+            "VAL=1;ZNAM=off;ONAM=on;OSV=MAJOR",
+            " int 1 string[] 'off' 'on';",
+            " int 2 int 1 'STATE';",
+        ),
+        (Kind::Bo, "VAL=0", " int 0 string[] '' '';", quiet),
+        (
+            Kind::Mbbi,
+            "VAL=2;ZRST=a;TWST=c",
+            " int 2 string[] 'a' '' 'c';",
+            quiet,
+        ),
+        (Kind::Mbbo, "VAL=15", " int 15 string[];", quiet),
+        (Kind::Stringin, "VAL=some words", " 'some words';", quiet),
+        (Kind::Stringout, "", " '';", undefined),
+        (Kind::Waveform, "", " string[];", quiet),
+        (Kind::Waveform, "FTVL=UCHAR", " ubyte[];", quiet),
+    ];
+    for (kind, given, value, alarm) in table {
+        let words = opened(rt.alloc(), kind, given)?;
+        let want = format!(in rt.alloc(); "{value}{alarm} long 0 int 0 int 0;")?;
+        assert_eq!(rt; words.as_str(), want.as_str());
+    }
+    Ok(())
+}
+
+#[test]
+fn a_description_shows_its_text_alone(rt: HostRuntime) -> Result<(), Fail> {
+    let table = [
+        (Kind::Longout, "DESC=Position", "Position"),
+        (Kind::Longin, "DESC=Alarmed;VAL=1;HHSV=MAJOR", "Alarmed"),
+        (Kind::Waveform, "FTVL=LONG", ""),
+        (
+            Kind::Mbbi,
+            "DESC=1234567890123456789012345678901234567890",
+            "1234567890123456789012345678901234567890",
+        ),
+    ];
+    for (kind, given, want) in table {
+        let words = described(rt.alloc(), kind, given)?;
+        let want = format!(in rt.alloc(); " '{want}'; int 0 int 0 ''; long 0 int 0 int 0;")?;
+        assert_eq!(rt; words.as_str(), want.as_str());
+    }
+    Ok(())
+}
+
+// What a record without an alarm shows behind its value where it was processed at 1 second and 2 nanoseconds.
+const QUIET: &str = " int 0 int 0 ''; long 1 int 2 int 0;";
+
 #[test]
 fn numbers_are_put_and_clamped(rt: HostRuntime) -> Result<(), Fail> {
     let limits = "DRVL=0;DRVH=10;HIHI=10;HHSV=MAJOR";
+    let high = " int 2 int 1 'HIHI'; long 1 int 2 int 0;";
     let table = [
-        (limits, 11, 1, "10 2 1 HIHI true"),
-        (limits, 10, 1, "10 2 1 HIHI true"),
-        (limits, 9, 1, "9 0 0  true"),
-        (limits, -1, 1, "0 0 0  true"),
-        (limits, 11, 3, "NothingWritable"),
-        ("DRVL=5;DRVH=5", 11, 1, "11 0 0  true"),
-        ("DRVL=10;DRVH=0", 11, 1, "11 0 0  true"),
-        ("", i32::MIN, 1, "-2147483648 0 0  true"),
-        ("", i32::MAX, 1, "2147483647 0 0  true"),
-        ("DISP=1", 7, 1, "Disabled"),
+        (limits, 11, "10 as int 10;", high),
+        (limits, 10, "10 as int 10;", high),
+        (limits, 9, "9 as int 9;", QUIET),
+        (limits, -1, "0 as int 0;", QUIET),
+        ("DRVL=5;DRVH=5", 11, "11 as int 11;", QUIET),
+        ("DRVL=10;DRVH=0", 11, "11 as int 11;", QUIET),
+        ("", i32::MIN, "-2147483648 as int -2147483648;", QUIET),
+        ("", i32::MAX, "2147483647 as int 2147483647;", QUIET),
     ];
-    for (given, number, leaf, want) in table {
-        let words = put(rt.alloc(), Kind::Longout, given, PvValue::I32(number), leaf)?;
+    for (given, number, value, rest) in table {
+        let words = put(rt.alloc(), Kind::Longout, given, PvValue::I32(number), 1)?;
+        let want = format!(in rt.alloc(); "{value}{rest}")?;
+        assert_eq!(rt; words.as_str(), want.as_str());
+    }
+    let table = [
+        (Kind::Longout, limits, 3, "NothingWritable"),
+        (Kind::Longout, "DISP=1", 3, "NothingWritable"),
+        (Kind::Longout, "DISP=1", 1, "Disabled"),
+        (Kind::Int64in, "", 1, "another type"),
+    ];
+    for (kind, given, leaf, want) in table {
+        let words = put(rt.alloc(), kind, given, PvValue::I32(7), leaf)?;
         assert_eq!(rt; words.as_str(), want);
     }
-    let words = put(rt.alloc(), Kind::Int64in, "", PvValue::I64(i64::MIN), 1)?;
-    assert_eq!(rt; words.as_str(), "-9223372036854775808 0 0  true");
-    let words = put(rt.alloc(), Kind::Longin, "", PvValue::I64(7), 1)?;
-    assert_eq!(rt; words.as_str(), "another type");
+    for number in [i64::MIN, i64::MAX] {
+        let words = put(rt.alloc(), Kind::Int64in, "", PvValue::I64(number), 1)?;
+        let want = format!(in rt.alloc(); "{number} as long {number};{QUIET}")?;
+        assert_eq!(rt; words.as_str(), want.as_str());
+    }
     Ok(())
 }
 
 #[test]
 fn indices_are_held_against_the_choices(rt: HostRuntime) -> Result<(), Fail> {
+    let three = "ZRST=a;ONST=b;TWST=c";
     let table = [
-        (Kind::Mbbo, "ZRST=a;ONST=b;TWST=c", 2, "2 0 0  true"),
-        (Kind::Mbbo, "ZRST=a;ONST=b;TWST=c", 3, "IndexOutside"),
-        (Kind::Mbbo, "ZRST=a;TWST=c", 2, "2 0 0  true"),
-        (Kind::Mbbo, "", 15, "15 0 0  true"),
+        (three, 2, "2 as int 2 string[] 'a' 'b' 'c';"),
+        ("ZRST=a;TWST=c", 1, "1 as int 1 string[] 'a' '' 'c';"),
+        ("ZRST=a;TWST=c", 2, "2 as int 2 string[] 'a' '' 'c';"),
+        ("", 15, "15 as int 15 string[];"),
+    ];
+    for (given, index, value) in table {
+        let words = put_index(rt.alloc(), Kind::Mbbo, given, index)?;
+        let want = format!(in rt.alloc(); "{value}{QUIET}")?;
+        assert_eq!(rt; words.as_str(), want.as_str());
+    }
+    let table = [
+        (Kind::Mbbo, three, 3, "IndexOutside"),
+        (Kind::Mbbo, "ZRST=a;TWST=c", 3, "IndexOutside"),
         (Kind::Mbbo, "", 16, "IndexOutside"),
         (Kind::Mbbo, "DISP=1", 16, "Disabled"),
+        (Kind::Bo, "", 2, "IndexOutside"),
         (Kind::Bo, "", -1, "IndexOutside"),
-        (Kind::Bo, "DISP=1", 65536, "Disabled"),
+        (Kind::Bo, "", 65_536, "IndexOutside"),
+        (Kind::Bo, "DISP=1", 65_536, "Disabled"),
     ];
     for (kind, given, index, want) in table {
         let words = put_index(rt.alloc(), kind, given, index)?;
@@ -273,14 +498,13 @@ fn indices_are_held_against_the_choices(rt: HostRuntime) -> Result<(), Fail> {
 #[test]
 fn texts_and_lists_have_their_limits(rt: HostRuntime) -> Result<(), Fail> {
     let words = put_text(rt.alloc(), TEXT_OF_39)?;
-    assert_eq!(rt;
-        words.as_str(),
-        "123456789012345678901234567890123456789 0 0  true"
-    );
+    let want = format!(in rt.alloc(); "{TEXT_OF_39} as '{TEXT_OF_39}';{QUIET}")?;
+    assert_eq!(rt; words.as_str(), want.as_str());
     let words = put_text(rt.alloc(), "1234567890123456789012345678901234567890")?;
     assert_eq!(rt; words.as_str(), "TextTooLong");
     let words = put_numbers(rt.alloc(), "FTVL=LONG;NELM=4", &[1, -2, 3, 4])?;
-    assert_eq!(rt; words.as_str(), "1 -2 3 4 0 0  true");
+    let want = format!(in rt.alloc(); "1 -2 3 4 as int[] 1 -2 3 4;{QUIET}")?;
+    assert_eq!(rt; words.as_str(), want.as_str());
     let words = put_numbers(rt.alloc(), "FTVL=LONG;NELM=4", &[1, 2, 3, 4, 5])?;
     assert_eq!(rt; words.as_str(), "TooManyElements");
     Ok(())
@@ -289,42 +513,28 @@ fn texts_and_lists_have_their_limits(rt: HostRuntime) -> Result<(), Fail> {
 #[test]
 fn a_list_has_elements_of_its_type(rt: HostRuntime) -> Result<(), Fail> {
     let table = [
-        (
-            Element::Text,
-            "STRING",
-            " 123456789012345678901234567890123456789",
-        ),
-        (Element::I8, "CHAR", "-128 127"),
-        (Element::U8, "UCHAR", "0 255"),
-        (Element::I16, "SHORT", "-32768 32767"),
-        (Element::U16, "USHORT", "0 65535"),
-        (Element::I32, "LONG", "-2147483648 2147483647"),
-        (Element::U32, "ULONG", "0 4294967295"),
+        (Element::I8, "CHAR", "byte[]", "-128 127"),
+        (Element::U8, "UCHAR", "ubyte[]", "0 255"),
+        (Element::I16, "SHORT", "short[]", "-32768 32767"),
+        (Element::U16, "USHORT", "ushort[]", "0 65535"),
+        (Element::I32, "LONG", "int[]", "-2147483648 2147483647"),
+        (Element::U32, "ULONG", "uint[]", "0 4294967295"),
         (
             Element::I64,
             "INT64",
+            "long[]",
             "-9223372036854775808 9223372036854775807",
         ),
-        (Element::U64, "UINT64", "0 18446744073709551615"),
+        (Element::U64, "UINT64", "ulong[]", "0 18446744073709551615"),
     ];
-    for (element, name, want) in table {
+    for (element, name, word, want) in table {
         let given = format!(in rt.alloc(); "FTVL={name};NELM=2")?;
         let words = put_extremes(rt.alloc(), given.as_str(), element)?;
-        let want = format!(in rt.alloc(); "{want} 0 0  true")?;
+        let want = format!(in rt.alloc(); "{want} as {word} {want};{QUIET}")?;
         assert_eq!(rt; words.as_str(), want.as_str());
     }
-    Ok(())
-}
-
-#[test]
-fn a_description_is_shown(rt: HostRuntime) -> Result<(), Fail> {
-    let fields = fields(rt.alloc(), "DESC=Position")?;
-    let Ok((config, _)) = build(rt.alloc(), Kind::Longout, fields.as_slice()) else {
-        assert!(rt; false);
-        return Ok(());
-    };
-    let ty = desc_type(rt.alloc())?;
-    let value = desc_view(rt.alloc(), &config)?;
-    assert!(rt; fits(&ty, &value));
+    let words = put_extremes(rt.alloc(), "NELM=2", Element::Text)?;
+    let want = format!(in rt.alloc(); " {TEXT_OF_39} as string[] '' '{TEXT_OF_39}';{QUIET}")?;
+    assert_eq!(rt; words.as_str(), want.as_str());
     Ok(())
 }

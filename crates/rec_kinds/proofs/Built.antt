@@ -11,6 +11,7 @@ use Rattle.rec_kinds.specs.Configs.{Config}
 use Rattle.rec_kinds.specs.Fields.{rule_of}
 use Rattle.rec_kinds.specs.Given.{text_of, choices_told, element_told}
 use Rattle.rec_kinds.specs.Numbers.{number_of, number_in}
+use Rattle.rec_kinds.specs.Ranges.{int32, int64}
 use Rattle.rec_kinds.specs.Sorts.{within, is_of, element_sort}
 use Rattle.rec_kinds.specs.Validity.{IsValid, index_bound, is_short, refused_unless, own_refusal, drive_fits}
 use Rattle.rec_kinds.specs.declared.kind.Kind.{Kind}
@@ -98,7 +99,7 @@ told_short : (o : Option (List ℕ)) → ((t : List ℕ) → o ≡ Some t → is
 told_short None h = refl
 told_short (Some t) h = h t refl
 
-taken : (good : Bool) (r : PutRefusal) → good ≡ true → refused_unless good r None ≡ None
+pub taken : (good : Bool) (r : PutRefusal) → good ≡ true → refused_unless good r None ≡ None
 taken true r h = refl
 taken false r h = absurd (false≢true h)
 
@@ -110,7 +111,7 @@ below_bound : (n : ℤ) (bound : ℕ) → 0 < bound → within (pos 0) (pos (bou
 below_bound (pos m) bound some h = grind (arith, ints, nat_tests)
 below_bound (negsuc m) bound some h = absurd (false≢true h)
 
-bound_some : (choices : List (List ℕ)) → 0 < index_bound choices
+pub bound_some : (choices : List (List ℕ)) → 0 < index_bound choices
 bound_some [] = omega arith
 bound_some (c ∷ cs) = grind (arith, nat_tests)
 
@@ -118,16 +119,16 @@ zero_fits : (bound : ℕ) → within (pos 0) (pos bound) (pos 0) ≡ true
 zero_fits bound = grind (arith, ints, nat_tests)
 
 abbrev low32 : ℤ
-low32 = negsuc 2147483647
+low32 = int32.0
 
 abbrev high32 : ℤ
-high32 = pos 2147483647
+high32 = int32.1
 
 abbrev lowest : ℤ
-lowest = negsuc 9223372036854775807
+lowest = int64.0
 
 abbrev highest : ℤ
-highest = pos 9223372036854775807
+highest = int64.1
 
 list_suits : (e : Element) → is_of (element_sort e) (empty_list e) ≡ true
 list_suits elements.Text = refl

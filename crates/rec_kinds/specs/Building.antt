@@ -1,15 +1,17 @@
 -- What a text's fields make of a record, and which of them is at fault first (EPICS record reference).
-use Rattle.std.specs.Prelude.{ℕ, ◌-◌, ℤ, pos, negsuc, nat_le, unsigned_abs, Bool, true, false, not, ◌||◌, List, [], ◌∷◌, length, map, Option, None, Some, codes, ⊤, ◌≡◌, if◌then◌else◌}
+use Rattle.std.specs.Prelude.{ℕ, ◌-◌, ℤ, pos, nat_le, unsigned_abs, Bool, true, false, not, ◌||◌, List, [], ◌∷◌, length, map, Option, None, Some, codes, ⊤, ◌≡◌, if◌then◌else◌}
 use Rattle.std.specs.Option.{option_or, option_map, is_some}
 use Rattle.std.specs.Ordering.{int_eq}
 use Rattle.rec_kinds.specs.Alarms.{alarm_of}
+use Rattle.rec_kinds.specs.ChoiceFields.{severity_names}
 use Rattle.rec_kinds.specs.Choices.{severity_of, element_of}
 use Rattle.rec_kinds.specs.Configs.{Config}
 use Rattle.rec_kinds.specs.Fields.{rule_of}
-use Rattle.rec_kinds.specs.Given.{text_of, told, text_told, number_told, severity_told, element_told, severity_names, choices_told, path_in, is_file, port_told}
+use Rattle.rec_kinds.specs.Given.{text_of, told, text_told, number_told, severity_told, element_told, choices_told, path_in, is_file, port_told}
 use Rattle.rec_kinds.specs.Moments.{never}
 use Rattle.rec_kinds.specs.Numbers.{number_of, number_in}
 use Rattle.rec_kinds.specs.Processing.{state_with}
+use Rattle.rec_kinds.specs.Ranges.{int64, uint16, flag, element_count}
 use Rattle.rec_kinds.specs.Validity.{index_bound}
 use Rattle.rec_kinds.specs.declared.kind.Kind.{Kind}
 use Rattle.rec_kinds.specs.declared.kind.Kind.TheVariants as kinds
@@ -28,15 +30,14 @@ use Rattle.rec_kinds.specs.declared.fault.BuildFault.TheVariants.{BadNumber, Bad
 
 -- a number of 64 bits, and 0 where none is told
 abbrev pub limit_told : Kind → List FieldText → List ℕ → ℤ
-limit_told kind fields name =
-    number_told kind fields name (negsuc 9223372036854775807) (pos 9223372036854775807) (pos 0)
+limit_told kind fields name = number_told kind fields name int64.0 int64.1 (pos 0)
 
 -- The configuration that the fields make. What isn't given is 0, empty, no alarm, texts, or one element.
 abbrev pub config_of : Kind → List FieldText → Config
 config_of kind fields = record {
   kind = kind;
   desc = text_told kind fields (codes "DESC");
-  disabled = int_eq (number_told kind fields (codes "DISP") (pos 0) (pos 1) (pos 0)) (pos 1);
+  disabled = int_eq (number_told kind fields (codes "DISP") flag.0 flag.1 (pos 0)) (pos 1);
   port = port_told kind fields;
   hihi = limit_told kind fields (codes "HIHI");
   high = limit_told kind fields (codes "HIGH");
@@ -51,7 +52,7 @@ config_of kind fields = record {
   choices = choices_told kind fields;
   severities = map (severity_told kind fields) (severity_names kind);
   ftvl = element_told kind fields;
-  nelm = unsigned_abs (number_told kind fields (codes "NELM") (pos 1) (pos 16384) (pos 1));
+  nelm = unsigned_abs (number_told kind fields (codes "NELM") element_count.0 element_count.1 (pos 1));
 }
 
 -- an empty list of elements of this type
@@ -60,7 +61,7 @@ empty_list elements.Text = Texts []
 empty_list _ = Nums []
 
 abbrev pub index_told : Kind → List FieldText → ℕ
-index_told kind fields = unsigned_abs (number_told kind fields (codes "VAL") (pos 0) (pos 65535) (pos 0))
+index_told kind fields = unsigned_abs (number_told kind fields (codes "VAL") uint16.0 uint16.1 (pos 0))
 
 -- what the record opens with: its field VAL, or else 0 or the empty text; a list is empty
 abbrev pub opening_datum : Kind → List FieldText → Datum

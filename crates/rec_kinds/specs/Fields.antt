@@ -1,7 +1,10 @@
 -- The fields of records, and how their texts are read (EPICS record reference).
-use Rattle.std.specs.Prelude.{ℕ, pos, negsuc, List, [], ◌∷◌, Option, codes}
+use Rattle.std.specs.Prelude.{ℕ, List, [], ◌∷◌, Option, None, Some, codes, if◌then◌else◌}
 use Rattle.std.specs.Option.{option_or}
+use Rattle.std.specs.Str.{bytes_eq}
+use Rattle.rec_kinds.specs.ChoiceFields.{choice_names, severity_names}
 use Rattle.rec_kinds.specs.Named.{first_named}
+use Rattle.rec_kinds.specs.Ranges.{Range, int32, int64, flag, element_count, text_bytes}
 use Rattle.rec_kinds.specs.declared.kind.Kind.{Kind}
 use Rattle.rec_kinds.specs.declared.kind.Kind.TheVariants.{Longin, Longout, Int64in, Int64out, Bi, Bo, Mbbi, Mbbo, Stringin, Stringout, Waveform}
 use Rattle.rec_kinds.specs.declared.field.Rule.{Rule}
@@ -10,17 +13,14 @@ use Rattle.rec_kinds.specs.declared.field.Rule.TheVariants.{Unread, Any, Text, N
 abbrev pub Rows : Type 0
 Rows = List (List ℕ × Rule)
 
--- a number of 32 bits, and one of 64
-abbrev pub int : Rule
-int = Number (negsuc 2147483647) (pos 2147483647)
-
-abbrev pub int64 : Rule
-int64 = Number (negsuc 9223372036854775807) (pos 9223372036854775807)
+-- a number of a range
+abbrev pub ranged : Range → Rule
+ranged range = Number range.0 range.1
 
 -- the fields that every kind has
 abbrev pub every : Rows
 every =
-    (codes "DESC", Text 40) ∷ (codes "DISP", Number (pos 0) (pos 1)) ∷ []
+    (codes "DESC", Text 40) ∷ (codes "DISP", ranged flag) ∷ []
 
 -- the fields that every kind takes without effect
 abbrev pub unread : Rows
@@ -41,79 +41,71 @@ unread =
     (codes "ELVL", Unread) ∷ (codes "TVVL", Unread) ∷ (codes "TTVL", Unread) ∷ (codes "FTVL", Unread) ∷
     (codes "FFVL", Unread) ∷ []
 
--- the value of a number of 32 bits and its alarms
-abbrev pub integer : Rows
-integer =
-    (codes "VAL", int) ∷ (codes "HIHI", int) ∷ (codes "HIGH", int) ∷ (codes "LOW", int) ∷ (codes "LOLO", int) ∷
-    (codes "HHSV", Severity) ∷ (codes "HSV", Severity) ∷ (codes "LSV", Severity) ∷ (codes "LLSV", Severity) ∷ []
+-- the value of a number of this range and its alarms
+abbrev pub numeric : Range → Rows
+numeric range =
+    (codes "VAL", ranged range) ∷ (codes "HIHI", ranged range) ∷ (codes "HIGH", ranged range) ∷
+    (codes "LOW", ranged range) ∷ (codes "LOLO", ranged range) ∷ (codes "HHSV", Severity) ∷ (codes "HSV", Severity) ∷
+    (codes "LSV", Severity) ∷ (codes "LLSV", Severity) ∷ []
 
--- the limits of what is put into a number of 32 bits
-abbrev pub integer_drive : Rows
-integer_drive =
-    (codes "DRVH", int) ∷ (codes "DRVL", int) ∷ []
+-- the limits of what is put into such a number
+abbrev pub drive : Range → Rows
+drive range =
+    (codes "DRVH", ranged range) ∷ (codes "DRVL", ranged range) ∷ []
 
--- the value of a number of 64 bits and its alarms
-abbrev pub long : Rows
-long =
-    (codes "VAL", int64) ∷ (codes "HIHI", int64) ∷ (codes "HIGH", int64) ∷ (codes "LOW", int64) ∷
-    (codes "LOLO", int64) ∷ (codes "HHSV", Severity) ∷ (codes "HSV", Severity) ∷ (codes "LSV", Severity) ∷
-    (codes "LLSV", Severity) ∷ []
-
--- the limits of what is put into a number of 64 bits
-abbrev pub long_drive : Rows
-long_drive =
-    (codes "DRVH", int64) ∷ (codes "DRVL", int64) ∷ []
-
--- the value and the choices of one of two
+-- the value of one of two
 abbrev pub two : Rows
 two =
-    (codes "VAL", Number (pos 0) (pos 1)) ∷ (codes "ZNAM", Any) ∷ (codes "ONAM", Any) ∷ (codes "ZSV", Severity) ∷
-    (codes "OSV", Severity) ∷ []
+    (codes "VAL", ranged flag) ∷ []
 
 -- what a bo takes without effect besides
 abbrev pub bo_unread : Rows
 bo_unread =
     (codes "HIGH", Unread) ∷ []
 
--- the value and the choices of one of up to sixteen
+-- the value of one of up to sixteen
 abbrev pub sixteen : Rows
 sixteen =
-    (codes "VAL", Index) ∷ (codes "ZRST", Any) ∷ (codes "ONST", Any) ∷ (codes "TWST", Any) ∷
-    (codes "THST", Any) ∷ (codes "FRST", Any) ∷ (codes "FVST", Any) ∷ (codes "SXST", Any) ∷ (codes "SVST", Any) ∷
-    (codes "EIST", Any) ∷ (codes "NIST", Any) ∷ (codes "TEST", Any) ∷ (codes "ELST", Any) ∷ (codes "TVST", Any) ∷
-    (codes "TTST", Any) ∷ (codes "FTST", Any) ∷ (codes "FFST", Any) ∷ (codes "ZRSV", Severity) ∷
-    (codes "ONSV", Severity) ∷ (codes "TWSV", Severity) ∷ (codes "THSV", Severity) ∷ (codes "FRSV", Severity) ∷
-    (codes "FVSV", Severity) ∷ (codes "SXSV", Severity) ∷ (codes "SVSV", Severity) ∷ (codes "EISV", Severity) ∷
-    (codes "NISV", Severity) ∷ (codes "TESV", Severity) ∷ (codes "ELSV", Severity) ∷ (codes "TVSV", Severity) ∷
-    (codes "TTSV", Severity) ∷ (codes "FTSV", Severity) ∷ (codes "FFSV", Severity) ∷ []
+    (codes "VAL", Index) ∷ []
 
 -- the value of a text
 abbrev pub text : Rows
 text =
-    (codes "VAL", Text 39) ∷ []
+    (codes "VAL", Text text_bytes) ∷ []
 
 -- the elements of a list
 abbrev pub elements : Rows
 elements =
-    (codes "FTVL", Element) ∷ (codes "NELM", Count (pos 1) (pos 16384)) ∷ []
+    (codes "FTVL", Element) ∷ (codes "NELM", Count element_count.0 element_count.1) ∷ []
 
 -- the port of a record that has one
 abbrev pub port : Rows
 port =
     (codes "DTYP", Device) ∷ (codes "OUT", Path) ∷ []
 
+-- a rule for each of these names
+abbrev pub listed : Rule → List (List ℕ) → List ℕ → Option Rule
+listed rule [] name = None
+listed rule (other ∷ others) name = if bytes_eq other name then Some rule else listed rule others name
+
+-- a kind's choices are any texts, and have severities
+abbrev pub choice_rule : Kind → List ℕ → Option Rule
+choice_rule kind name = option_or (listed Any (choice_names kind) name) (listed Severity (severity_names kind) name)
+
 -- a kind's own fields
 abbrev pub own_rule : Kind → List ℕ → Option Rule
-own_rule Longin name = first_named name integer
+own_rule Longin name = first_named name (numeric int32)
 own_rule Longout name =
-    option_or (option_or (first_named name integer) (first_named name integer_drive)) (first_named name port)
-own_rule Int64in name = first_named name long
+    option_or (option_or (first_named name (numeric int32)) (first_named name (drive int32))) (first_named name port)
+own_rule Int64in name = first_named name (numeric int64)
 own_rule Int64out name =
-    option_or (option_or (first_named name long) (first_named name long_drive)) (first_named name port)
-own_rule Bi name = first_named name two
-own_rule Bo name = option_or (option_or (first_named name two) (first_named name bo_unread)) (first_named name port)
-own_rule Mbbi name = first_named name sixteen
-own_rule Mbbo name = option_or (first_named name sixteen) (first_named name port)
+    option_or (option_or (first_named name (numeric int64)) (first_named name (drive int64))) (first_named name port)
+own_rule Bi name = option_or (first_named name two) (choice_rule Bi name)
+own_rule Bo name =
+    option_or (option_or (option_or (first_named name two) (choice_rule Bo name)) (first_named name bo_unread))
+    (first_named name port)
+own_rule Mbbi name = option_or (first_named name sixteen) (choice_rule Mbbi name)
+own_rule Mbbo name = option_or (option_or (first_named name sixteen) (choice_rule Mbbo name)) (first_named name port)
 own_rule Stringin name = first_named name text
 own_rule Stringout name = option_or (first_named name text) (first_named name port)
 own_rule Waveform name = first_named name elements

@@ -3,11 +3,12 @@ use Rattle.std.specs.Prelude.{ℕ, ◌+◌, ◌==◌, ◌&&◌, ℤ, nat_eq, nat
 use Rattle.std.specs.List.{starts_with}
 use Rattle.std.specs.Option.{option_or, option_and_then, unwrap_or}
 use Rattle.std.specs.Str.{bytes_eq}
+use Rattle.rec_kinds.specs.ChoiceFields.{choice_names}
 use Rattle.rec_kinds.specs.Fields.{rule_of}
 use Rattle.rec_kinds.specs.Numbers.{number_in}
 use Rattle.rec_kinds.specs.Choices.{severity_of, element_of}
 use Rattle.rec_kinds.specs.declared.kind.Kind.{Kind}
-use Rattle.rec_kinds.specs.declared.kind.Kind.TheVariants.{Bi, Bo, Mbbi, Mbbo}
+use Rattle.rec_kinds.specs.declared.kind.Kind.TheVariants.{Mbbi, Mbbo}
 use Rattle.rec_kinds.specs.declared.field.Rule.{Rule}
 use Rattle.rec_kinds.specs.declared.field.Rule.TheVariants.{Unread}
 use Rattle.rec_kinds.specs.declared.element.Element.{Element}
@@ -46,36 +47,6 @@ severity_told kind fields name = unwrap_or (option_and_then severity_of (told ki
 -- the type of this name, and else that of texts
 abbrev pub element_told : Kind → List FieldText → Element
 element_told kind fields = unwrap_or (option_and_then element_of (told kind fields (codes "FTVL"))) Text
-
--- the choices of one of up to sixteen, and their severities
-abbrev pub sixteen_choices : List (List ℕ)
-sixteen_choices =
-    codes "ZRST" ∷ codes "ONST" ∷ codes "TWST" ∷ codes "THST" ∷
-    codes "FRST" ∷ codes "FVST" ∷ codes "SXST" ∷ codes "SVST" ∷
-    codes "EIST" ∷ codes "NIST" ∷ codes "TEST" ∷ codes "ELST" ∷
-    codes "TVST" ∷ codes "TTST" ∷ codes "FTST" ∷ codes "FFST" ∷ []
-
-abbrev pub sixteen_severities : List (List ℕ)
-sixteen_severities =
-    codes "ZRSV" ∷ codes "ONSV" ∷ codes "TWSV" ∷ codes "THSV" ∷
-    codes "FRSV" ∷ codes "FVSV" ∷ codes "SXSV" ∷ codes "SVSV" ∷
-    codes "EISV" ∷ codes "NISV" ∷ codes "TESV" ∷ codes "ELSV" ∷
-    codes "TVSV" ∷ codes "TTSV" ∷ codes "FTSV" ∷ codes "FFSV" ∷ []
-
--- the fields of a kind's choices, and of the severities of these
-abbrev pub choice_names : Kind → List (List ℕ)
-choice_names Bi = codes "ZNAM" ∷ codes "ONAM" ∷ []
-choice_names Bo = codes "ZNAM" ∷ codes "ONAM" ∷ []
-choice_names Mbbi = sixteen_choices
-choice_names Mbbo = sixteen_choices
-choice_names _ = []
-
-abbrev pub severity_names : Kind → List (List ℕ)
-severity_names Bi = codes "ZSV" ∷ codes "OSV" ∷ []
-severity_names Bo = codes "ZSV" ∷ codes "OSV" ∷ []
-severity_names Mbbi = sixteen_severities
-severity_names Mbbo = sixteen_severities
-severity_names _ = []
 
 -- how many texts there are up to the last that isn't empty
 abbrev pub up_to_last : List (List ℕ) → ℕ

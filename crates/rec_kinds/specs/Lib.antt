@@ -1,6 +1,8 @@
 pub mod Named
 pub mod Kinds
 pub mod Choices
+pub mod ChoiceFields
+pub mod Ranges
 pub mod Fields
 pub mod Moments
 pub mod Severities
@@ -16,4 +18,4 @@ pub mod Numbers
 pub mod Clipping
 pub mod Given
 pub mod Building
-pub mod Keeping
+pub mod Told

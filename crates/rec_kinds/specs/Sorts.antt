@@ -1,7 +1,8 @@
 -- Which data a record may hold (EPICS record reference).
-use Rattle.std.specs.Prelude.{ℤ, pos, negsuc, Bool, true, false, ◌&&◌, int_le}
+use Rattle.std.specs.Prelude.{ℤ, Bool, true, false, ◌&&◌, int_le}
 use Rattle.std.specs.List.{list_all}
 use Rattle.rec_kinds.specs.Configs.{Config}
+use Rattle.rec_kinds.specs.Ranges.{int8, uint8, int16, uint16, int32, uint32, int64, uint64}
 use Rattle.rec_kinds.specs.declared.kind.Kind.{Kind}
 use Rattle.rec_kinds.specs.declared.kind.Kind.TheVariants.{Longin, Longout, Int64in, Int64out, Bi, Bo, Mbbi, Mbbo, Stringin, Stringout, Waveform}
 use Rattle.rec_kinds.specs.declared.element.Element.{Element}
@@ -19,21 +20,21 @@ pub data Sort : Type 0 where
 
 abbrev pub element_sort : Element → Sort
 element_sort elements.Text = texts
-element_sort elements.I8 = numbers (negsuc 127) (pos 127)
-element_sort elements.U8 = numbers (pos 0) (pos 255)
-element_sort elements.I16 = numbers (negsuc 32767) (pos 32767)
-element_sort elements.U16 = numbers (pos 0) (pos 65535)
-element_sort elements.I32 = numbers (negsuc 2147483647) (pos 2147483647)
-element_sort elements.U32 = numbers (pos 0) (pos 4294967295)
-element_sort elements.I64 = numbers (negsuc 9223372036854775807) (pos 9223372036854775807)
-element_sort elements.U64 = numbers (pos 0) (pos 18446744073709551615)
+element_sort elements.I8 = numbers int8.0 int8.1
+element_sort elements.U8 = numbers uint8.0 uint8.1
+element_sort elements.I16 = numbers int16.0 int16.1
+element_sort elements.U16 = numbers uint16.0 uint16.1
+element_sort elements.I32 = numbers int32.0 int32.1
+element_sort elements.U32 = numbers uint32.0 uint32.1
+element_sort elements.I64 = numbers int64.0 int64.1
+element_sort elements.U64 = numbers uint64.0 uint64.1
 
 -- the sort of what a record of the kind holds, a list with elements of this type
 abbrev pub sort_of : Kind → Element → Sort
-sort_of Longin ftvl = number (negsuc 2147483647) (pos 2147483647)
-sort_of Longout ftvl = number (negsuc 2147483647) (pos 2147483647)
-sort_of Int64in ftvl = number (negsuc 9223372036854775807) (pos 9223372036854775807)
-sort_of Int64out ftvl = number (negsuc 9223372036854775807) (pos 9223372036854775807)
+sort_of Longin ftvl = number int32.0 int32.1
+sort_of Longout ftvl = number int32.0 int32.1
+sort_of Int64in ftvl = number int64.0 int64.1
+sort_of Int64out ftvl = number int64.0 int64.1
 sort_of Bi ftvl = index
 sort_of Bo ftvl = index
 sort_of Mbbi ftvl = index

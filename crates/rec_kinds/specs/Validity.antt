@@ -2,6 +2,7 @@
 use Rattle.std.specs.Prelude.{◌≡◌, ℕ, ⊤, Bool, true, ◌&&◌, ◌==◌, nat_lt, nat_le, List, length, Option, None, Some, Result, Ok, Err, if◌then◌else◌}
 use Rattle.std.specs.List.{list_all}
 use Rattle.rec_kinds.specs.Configs.{Config}
+use Rattle.rec_kinds.specs.Ranges.{text_bytes}
 use Rattle.rec_kinds.specs.Sorts.{Sort, number, sort_of, within, suits}
 use Rattle.rec_kinds.specs.declared.datum.Datum.{Datum}
 use Rattle.rec_kinds.specs.declared.datum.Datum.TheVariants.{Num, Index, Text, Nums, Texts}
@@ -19,7 +20,7 @@ abbrev pub index_bound : List (List ℕ) → ℕ
 index_bound choices = if length choices == 0 then 16 else length choices
 
 abbrev pub is_short : List ℕ → Bool
-is_short text = nat_le (length text) 39
+is_short text = nat_le (length text) text_bytes
 
 abbrev pub refused_unless : Bool → PutRefusal → Option PutRefusal → Option PutRefusal
 refused_unless good refusal next = if good then next else Some refusal

@@ -4,10 +4,12 @@ ghost use Rattle.std.specs.Option.{is_some};
 ghost use Rattle.rec_kinds.specs.Raised.{limits_in};
 ghost use Rattle.rec_kinds.specs.Fields.{rule_of};
 ghost use Rattle.rec_kinds.specs.Numbers.{number_in};
-ghost use Rattle.rec_kinds.specs.Given.{choices_told, severity_told, severity_names, port_told};
+ghost use Rattle.rec_kinds.specs.ChoiceFields.{severity_names};
+ghost use Rattle.rec_kinds.specs.Given.{choices_told, severity_told, port_told};
 ghost use Rattle.rec_kinds.specs.Building.{config_of, opening_datum, opens_undefined, opening, opening_of, unless, misread, count_fault, build_fault, IsBuildFault, empty_list, limit_told};
 ghost use Rattle.rec_kinds.specs.Validity.{IsValid, index_bound};
 
+use crate::choice::{choice_fields, severity_fields};
 use crate::config::{Limits, RecConfig};
 use crate::datum::Datum;
 use crate::element::{Element, element_named};
@@ -189,7 +191,7 @@ fn choices_of(alloc: Global, given: &Given) -> Result<Items<Name>, NoMemory>
     ensures { IfOk result (λ choices. choices ≡ choices_told given.now.kind given.now.fields.now) }
 {
     let count = given.choice_count();
-    let names = &given.choice_fields()[..count];
+    let names = &choice_fields(given.kind)[..count];
     let mut choices = Vec::with_capacity(alloc, count)?;
     for name in names {
         choices.push(Name::of(alloc, given.text(name))?)?;
@@ -201,7 +203,7 @@ fn choices_of(alloc: Global, given: &Given) -> Result<Items<Name>, NoMemory>
 fn severities_of(alloc: Global, given: &Given) -> Result<Items<Severity>, NoMemory>
     ensures { IfOk result (λ severities. severities ≡ map (severity_told given.now.kind given.now.fields.now) (severity_names given.now.kind)) }
 {
-    let names = given.severity_fields();
+    let names = severity_fields(given.kind);
     let mut severities = Vec::with_capacity(alloc, names.len())?;
     for name in names {
         severities.push(given.severity(name))?;

@@ -1,8 +1,9 @@
 // The fields of records, and how their texts are read.
-ghost use Rattle.std.specs.Prelude.{◌≡◌};
+ghost use Rattle.std.specs.Prelude.{◌≡◌, map};
 ghost use Rattle.std.specs.Option.{is_some};
-ghost use Rattle.rec_kinds.specs.Fields.{own_rule, rule_of};
+ghost use Rattle.rec_kinds.specs.Fields.{listed, choice_rule, own_rule, rule_of};
 
+use crate::choice::{choice_fields, severity_fields};
 use crate::kind::Kind;
 use crate::named::named;
 
@@ -95,13 +96,19 @@ const UNREAD: [(&str, Rule); 57] = [
     ("FFVL", Rule::Unread),
 ];
 
+// A number of 32 bits.
+const INT32: Rule = Rule::Number(-2_147_483_648, 2_147_483_647);
+
+// A number of 64 bits.
+const INT64: Rule = Rule::Number(-9_223_372_036_854_775_808, 9_223_372_036_854_775_807);
+
 // The value of a number of 32 bits and its alarms.
 const INTEGER: [(&str, Rule); 9] = [
-    ("VAL", Rule::Number(-2_147_483_648, 2_147_483_647)),
-    ("HIHI", Rule::Number(-2_147_483_648, 2_147_483_647)),
-    ("HIGH", Rule::Number(-2_147_483_648, 2_147_483_647)),
-    ("LOW", Rule::Number(-2_147_483_648, 2_147_483_647)),
-    ("LOLO", Rule::Number(-2_147_483_648, 2_147_483_647)),
+    ("VAL", INT32),
+    ("HIHI", INT32),
+    ("HIGH", INT32),
+    ("LOW", INT32),
+    ("LOLO", INT32),
     ("HHSV", Rule::Severity),
     ("HSV", Rule::Severity),
     ("LSV", Rule::Severity),
@@ -109,33 +116,15 @@ const INTEGER: [(&str, Rule); 9] = [
 ];
 
 // The limits of what is put into a number of 32 bits.
-const INTEGER_DRIVE: [(&str, Rule); 2] = [
-    ("DRVH", Rule::Number(-2_147_483_648, 2_147_483_647)),
-    ("DRVL", Rule::Number(-2_147_483_648, 2_147_483_647)),
-];
+const INTEGER_DRIVE: [(&str, Rule); 2] = [("DRVH", INT32), ("DRVL", INT32)];
 
 // The value of a number of 64 bits and its alarms.
 const LONG: [(&str, Rule); 9] = [
-    (
-        "VAL",
-        Rule::Number(-9_223_372_036_854_775_808, 9_223_372_036_854_775_807),
-    ),
-    (
-        "HIHI",
-        Rule::Number(-9_223_372_036_854_775_808, 9_223_372_036_854_775_807),
-    ),
-    (
-        "HIGH",
-        Rule::Number(-9_223_372_036_854_775_808, 9_223_372_036_854_775_807),
-    ),
-    (
-        "LOW",
-        Rule::Number(-9_223_372_036_854_775_808, 9_223_372_036_854_775_807),
-    ),
-    (
-        "LOLO",
-        Rule::Number(-9_223_372_036_854_775_808, 9_223_372_036_854_775_807),
-    ),
+    ("VAL", INT64),
+    ("HIHI", INT64),
+    ("HIGH", INT64),
+    ("LOW", INT64),
+    ("LOLO", INT64),
     ("HHSV", Rule::Severity),
     ("HSV", Rule::Severity),
     ("LSV", Rule::Severity),
@@ -143,65 +132,16 @@ const LONG: [(&str, Rule); 9] = [
 ];
 
 // The limits of what is put into a number of 64 bits.
-const LONG_DRIVE: [(&str, Rule); 2] = [
-    (
-        "DRVH",
-        Rule::Number(-9_223_372_036_854_775_808, 9_223_372_036_854_775_807),
-    ),
-    (
-        "DRVL",
-        Rule::Number(-9_223_372_036_854_775_808, 9_223_372_036_854_775_807),
-    ),
-];
+const LONG_DRIVE: [(&str, Rule); 2] = [("DRVH", INT64), ("DRVL", INT64)];
 
-// The value and the choices of one of two.
-const TWO: [(&str, Rule); 5] = [
-    ("VAL", Rule::Number(0, 1)),
-    ("ZNAM", Rule::Any),
-    ("ONAM", Rule::Any),
-    ("ZSV", Rule::Severity),
-    ("OSV", Rule::Severity),
-];
+// The value of one of two.
+const TWO: [(&str, Rule); 1] = [("VAL", Rule::Number(0, 1))];
 
 // What a bo takes without effect besides.
 const BO_UNREAD: [(&str, Rule); 1] = [("HIGH", Rule::Unread)];
 
-// The value and the choices of one of up to sixteen.
-const SIXTEEN: [(&str, Rule); 33] = [
-    ("VAL", Rule::Index),
-    ("ZRST", Rule::Any),
-    ("ONST", Rule::Any),
-    ("TWST", Rule::Any),
-    ("THST", Rule::Any),
-    ("FRST", Rule::Any),
-    ("FVST", Rule::Any),
-    ("SXST", Rule::Any),
-    ("SVST", Rule::Any),
-    ("EIST", Rule::Any),
-    ("NIST", Rule::Any),
-    ("TEST", Rule::Any),
-    ("ELST", Rule::Any),
-    ("TVST", Rule::Any),
-    ("TTST", Rule::Any),
-    ("FTST", Rule::Any),
-    ("FFST", Rule::Any),
-    ("ZRSV", Rule::Severity),
-    ("ONSV", Rule::Severity),
-    ("TWSV", Rule::Severity),
-    ("THSV", Rule::Severity),
-    ("FRSV", Rule::Severity),
-    ("FVSV", Rule::Severity),
-    ("SXSV", Rule::Severity),
-    ("SVSV", Rule::Severity),
-    ("EISV", Rule::Severity),
-    ("NISV", Rule::Severity),
-    ("TESV", Rule::Severity),
-    ("ELSV", Rule::Severity),
-    ("TVSV", Rule::Severity),
-    ("TTSV", Rule::Severity),
-    ("FTSV", Rule::Severity),
-    ("FFSV", Rule::Severity),
-];
+// The value of one of up to sixteen.
+const SIXTEEN: [(&str, Rule); 1] = [("VAL", Rule::Index)];
 
 // The value of a text.
 const STRING: [(&str, Rule); 1] = [("VAL", Rule::Text(39))];
@@ -211,6 +151,26 @@ const LIST: [(&str, Rule); 2] = [("FTVL", Rule::Element), ("NELM", Rule::Count(1
 
 // The port of a record that has one.
 const PORT: [(&str, Rule); 2] = [("DTYP", Rule::Device), ("OUT", Rule::Path)];
+
+/// This rule where a name is one of these; none where it isn't.
+fn listed(rule: Rule, names: &[&str], name: &str) -> Option<Rule>
+    ensures { result ≡ listed rule (map (λ n. n.now) names.now) name.now }
+{
+    for other in names {
+        if *other == name {
+            return Some(rule);
+        }
+    }
+    None
+}
+
+/// How the text of a choice or of its severity is read; none of a field that is neither.
+fn choice_rule_of(kind: Kind, name: &str) -> Option<Rule>
+    ensures { result ≡ choice_rule kind name.now }
+{
+    let choice = listed(Rule::Any, choice_fields(kind), name);
+    choice.or(listed(Rule::Severity, severity_fields(kind), name))
+}
 
 /// How the text of a kind's own field is read; none where it has no field of its own of this name.
 fn own_rule_of(kind: Kind, name: &str) -> Option<Rule>
@@ -225,12 +185,15 @@ fn own_rule_of(kind: Kind, name: &str) -> Option<Rule>
         Kind::Int64out => named(&LONG, name)
             .or(named(&LONG_DRIVE, name))
             .or(named(&PORT, name)),
-        Kind::Bi => named(&TWO, name),
+        Kind::Bi => named(&TWO, name).or(choice_rule_of(kind, name)),
         Kind::Bo => named(&TWO, name)
+            .or(choice_rule_of(kind, name))
             .or(named(&BO_UNREAD, name))
             .or(named(&PORT, name)),
-        Kind::Mbbi => named(&SIXTEEN, name),
-        Kind::Mbbo => named(&SIXTEEN, name).or(named(&PORT, name)),
+        Kind::Mbbi => named(&SIXTEEN, name).or(choice_rule_of(kind, name)),
+        Kind::Mbbo => named(&SIXTEEN, name)
+            .or(choice_rule_of(kind, name))
+            .or(named(&PORT, name)),
         Kind::Stringin => named(&STRING, name),
         Kind::Stringout => named(&STRING, name).or(named(&PORT, name)),
         Kind::Waveform => named(&LIST, name),

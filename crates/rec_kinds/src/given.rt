@@ -3,8 +3,10 @@ ghost use Rattle.std.specs.Prelude.{◌≡◌, ◌==◌, ◌+◌, ◌<◌, ◌�
 ghost use Rattle.std.specs.Borrow.{Bor};
 ghost use Rattle.std.specs.Str.{bytes_eq};
 ghost use Rattle.std.specs.Option.{option_copied, is_some};
-ghost use Rattle.rec_kinds.specs.Given.{text_of, told, text_told, number_told, severity_told, element_told, all_choices, choices_kept, choice_names, severity_names, up_to_last, is_file, path_in, port_told};
+ghost use Rattle.rec_kinds.specs.ChoiceFields.{choice_names};
+ghost use Rattle.rec_kinds.specs.Given.{text_of, told, text_told, number_told, severity_told, element_told, all_choices, choices_kept, up_to_last, is_file, path_in, port_told};
 
+use crate::choice::choice_fields;
 use crate::element::{Element, element_named};
 use crate::field::{Rule, rule_named};
 use crate::kind::Kind;
@@ -18,20 +20,6 @@ pub(crate) struct Given<'a> {
     pub(crate) kind: Kind,
     pub(crate) fields: &'a [FieldText],
 }
-
-const TWO_CHOICES: [&str; 2] = ["ZNAM", "ONAM"];
-
-const TWO_SEVERITIES: [&str; 2] = ["ZSV", "OSV"];
-
-const SIXTEEN_CHOICES: [&str; 16] = [
-    "ZRST", "ONST", "TWST", "THST", "FRST", "FVST", "SXST", "SVST", "EIST", "NIST", "TEST", "ELST",
-    "TVST", "TTST", "FTST", "FFST",
-];
-
-const SIXTEEN_SEVERITIES: [&str; 16] = [
-    "ZRSV", "ONSV", "TWSV", "THSV", "FRSV", "FVSV", "SXSV", "SVSV", "EISV", "NISV", "TESV", "ELSV",
-    "TVSV", "TTSV", "FTSV", "FFSV",
-];
 
 /// The text that a field is given last.
 fn last_text<'a>(fields: &'a [FieldText], name: &str) -> Option<&'a str>
@@ -137,37 +125,12 @@ impl<'a> Given<'a> {
         }
     }
 
-    /// The fields of the choices.
-    pub(crate) fn choice_fields(&self) -> &'static [&'static str]
-        ensures names { map (λ name. name.now) result.now ≡ choice_names self.now.kind }
-        ensures len { length result.now ≡ length (choice_names self.now.kind) }
-    {
-        match self.kind {
-            Kind::Bi | Kind::Bo => &TWO_CHOICES,
-            Kind::Mbbi | Kind::Mbbo => &SIXTEEN_CHOICES,
-            Kind::Longin | Kind::Longout | Kind::Int64in | Kind::Int64out => &[],
-            Kind::Stringin | Kind::Stringout | Kind::Waveform => &[],
-        }
-    }
-
-    /// The fields of the choices' severities.
-    pub(crate) fn severity_fields(&self) -> &'static [&'static str]
-        ensures { map (λ name. name.now) result.now ≡ severity_names self.now.kind }
-    {
-        match self.kind {
-            Kind::Bi | Kind::Bo => &TWO_SEVERITIES,
-            Kind::Mbbi | Kind::Mbbo => &SIXTEEN_SEVERITIES,
-            Kind::Longin | Kind::Longout | Kind::Int64in | Kind::Int64out => &[],
-            Kind::Stringin | Kind::Stringout | Kind::Waveform => &[],
-        }
-    }
-
     /// How many choices there are: both of two, and of sixteen those up to the last whose text isn't empty.
     pub(crate) fn choice_count(&self) -> usize
         ensures same { result ≡ choices_kept self.now.kind (all_choices self.now.kind self.now.fields.now) }
         ensures most { result ≤ length (choice_names self.now.kind) }
     {
-        let names = self.choice_fields();
+        let names = choice_fields(self.kind);
         match self.kind {
             Kind::Mbbi | Kind::Mbbo => self.up_to_last(names),
             Kind::Bi | Kind::Bo => names.len(),

@@ -3,6 +3,7 @@
 
 mod alarm;
 mod building;
+mod choice;
 mod config;
 mod datum;
 mod element;
@@ -32,7 +33,7 @@ pub use fault::{BuildFault, FieldPlace};
 pub use field::{Rule, field_known};
 pub use items::Items;
 pub use kind::{Kind, kind_named};
-pub use laws::processing_keeps_states_valid;
+pub use laws::{processing_keeps_states_valid, val_takes_what_a_record_may_hold};
 pub use message::Message;
 pub use moment::Moment;
 pub use port_text::plain_text;

@@ -1,3 +1,6 @@
+ghost use Rattle.std.specs.Prelude.{IfOk};
+ghost use Rattle.rec_kinds.specs.Validity.{IsValid};
+
 use crate::{
     Action, BuildFault, Datum, FieldPlace, FieldText, Kind, Moment, PutRefusal, RecConfig,
     RecState, build, check_put, field_known, kind_named, longout, plain_text, process,
@@ -72,11 +75,57 @@ fn state_text(alloc: Global, state: &RecState) -> Result<String, NoMemory> {
     Ok(words)
 }
 
+/// What a record of these fields holds and its alarm once it was processed, in words; or its fault. `drove` says whether
+/// its port took the value.
+fn processed(alloc: Global, kind: Kind, given: &str, drove: bool) -> Result<String, NoMemory> {
+    let fields = fields(alloc, given)?;
+    let answer = build(alloc, kind, fields.as_slice());
+    let words = processed_text(alloc, &answer, drove);
+    discard(answer);
+    words
+}
+
+fn processed_text(
+    alloc: Global,
+    answer: &Result<(RecConfig, RecState), BuildFault>,
+    drove: bool,
+) -> Result<String, NoMemory>
+    requires { IfOk answer.now (λ built. IsValid built.0 built.1) }
+{
+    match answer {
+        Ok((config, state)) => text_after(alloc, config, state, drove),
+        Err(fault) => fault_text(alloc, fault),
+    }
+}
+
+fn text_after(
+    alloc: Global,
+    config: &RecConfig,
+    state: &RecState,
+    drove: bool,
+) -> Result<String, NoMemory>
+    requires { IsValid config.now state.now }
+{
+    let action = Action::Process;
+    let answer = process(alloc, config, state, &action, Moment::new(100, 5), drove);
+    discard(action);
+    let new = answer?;
+    let words = state_text(alloc, &new);
+    discard(new);
+    words
+}
+
 #[test]
 fn records_open_by_their_fields(rt: HostRuntime) -> Result<(), Fail> {
     let table = [
         (Kind::Longin, "VAL=0x10", "16 0 0 "),
+        (Kind::Longin, "VAL=0xFf", "255 0 0 "),
+        (Kind::Longin, "VAL=-007", "-7 0 0 "),
         (Kind::Longin, "VAL=1x", "BadNumber VAL 1"),
+        (Kind::Longin, "VAL=0X10", "BadNumber VAL 1"),
+        (Kind::Longin, "VAL=-0x10", "BadNumber VAL 1"),
+        (Kind::Longin, "VAL=0x", "BadNumber VAL 1"),
+        (Kind::Longin, "VAL=", "BadNumber VAL 1"),
         (Kind::Longin, "HIHI=0;HHSV=MAJOR", "0 3 6 UDF"),
         (Kind::Longin, "VAL=-2147483648", "-2147483648 0 0 "),
         (Kind::Longin, "VAL=-2147483649", "BadNumber VAL 1"),
@@ -98,17 +147,23 @@ fn records_open_by_their_fields(rt: HostRuntime) -> Result<(), Fail> {
             "VAL=-9223372036854775809",
             "BadNumber VAL 1",
         ),
+        (Kind::Longout, "DRVH=2147483648", "BadNumber DRVH 1"),
+        (Kind::Int64out, "DRVH=2147483648;VAL=1", "1 0 0 "),
         (Kind::Bi, "VAL=2", "BadNumber VAL 1"),
         (Kind::Bi, "DISP=2", "BadNumber DISP 1"),
         (Kind::Mbbo, "VAL=2;ZRST=a;TWST=c", "2 0 0 "),
         (Kind::Mbbo, "VAL=3;ZRST=a;TWST=c", "BadNumber VAL 1"),
         (Kind::Mbbo, "VAL=1;ZRST=a;ONST=", "BadNumber VAL 1"),
+        (Kind::Mbbi, "VAL=15;FFST=z", "15 0 0 "),
         (Kind::Mbbo, "VAL=15", "15 0 0 "),
         (Kind::Mbbo, "VAL=16", "BadNumber VAL 1"),
         (Kind::Stringin, "VAL=some words", "some words 0 0 "),
         (Kind::Waveform, "FTVL=LONG;NELM=4", " 0 0 "),
         (Kind::Waveform, "FTVL=FLOAT", "BadChoice FTVL 1"),
+        (Kind::Waveform, "NELM=16384", " 0 0 "),
         (Kind::Waveform, "NELM=16385", "BadLength NELM 1"),
+        (Kind::Waveform, "NELM=0", "BadLength NELM 1"),
+        (Kind::Waveform, "NELM=x", "BadNumber NELM 1"),
         (Kind::Longout, "DTYP=File;VAL=1", "BadPort DTYP 1"),
         (Kind::Longout, "DTYP=File;OUT=@file ", "BadPort OUT 2"),
         (Kind::Longin, "VAL=x;HHSV=LOUD;VAL=1", "BadChoice HHSV 2"),
@@ -150,6 +205,70 @@ fn the_alarm_is_that_of_the_first_row_that_holds(rt: HostRuntime) -> Result<(), 
     for (value, want) in [("0", "0 0 0 "), ("1", "1 1 1 STATE")] {
         let given = format!(in rt.alloc(); "VAL={value};{states}")?;
         let words = opened(rt.alloc(), Kind::Bo, given.as_str())?;
+        assert_eq!(rt; words.as_str(), want);
+    }
+    Ok(())
+}
+
+#[test]
+fn each_row_of_the_alarms_stands_above_the_next(rt: HostRuntime) -> Result<(), Fail> {
+    let table = [
+        (Kind::Longin, "HHSV=MAJOR", false, "0 3 6 UDF"),
+        (Kind::Longin, "HHSV=MAJOR", true, "0 3 6 UDF"),
+        (Kind::Mbbo, "ZRSV=MAJOR", true, "0 3 6 UDF"),
+        (
+            Kind::Longin,
+            "VAL=5;HIHI=5;HHSV=MAJOR",
+            false,
+            "5 3 2 WRITE",
+        ),
+        (Kind::Mbbo, "VAL=1;ONSV=MAJOR", false, "1 3 2 WRITE"),
+        (Kind::Stringout, "VAL=on", false, "on 3 2 WRITE"),
+        (Kind::Waveform, "", false, " 3 2 WRITE"),
+        (
+            Kind::Longin,
+            "VAL=5;HIHI=5;HHSV=MAJOR;LOLO=5;LLSV=INVALID",
+            true,
+            "5 2 1 HIHI",
+        ),
+        (
+            Kind::Longin,
+            "VAL=5;HIHI=5;HHSV=MINOR;HIGH=5;HSV=MAJOR",
+            true,
+            "5 1 1 HIHI",
+        ),
+        (
+            Kind::Longin,
+            "VAL=5;HIHI=5;HHSV=NO_ALARM;LOLO=5;LLSV=MINOR",
+            true,
+            "5 1 1 LOLO",
+        ),
+        (
+            Kind::Longin,
+            "VAL=5;LOLO=5;LLSV=MINOR;HIGH=5;HSV=MAJOR",
+            true,
+            "5 1 1 LOLO",
+        ),
+        (
+            Kind::Longin,
+            "VAL=5;LOLO=5;LLSV=MINOR;LOW=5;LSV=MAJOR",
+            true,
+            "5 1 1 LOLO",
+        ),
+        (
+            Kind::Longin,
+            "VAL=5;HIGH=5;HSV=MINOR;LOW=5;LSV=MAJOR",
+            true,
+            "5 1 1 HIGH",
+        ),
+        (Kind::Longin, "VAL=5;LOW=5;LSV=MAJOR", true, "5 2 1 LOW"),
+        (Kind::Longin, "VAL=0;LLSV=MINOR", true, "0 1 1 LOLO"),
+        (Kind::Longin, "VAL=1;LLSV=MINOR", true, "1 0 0 "),
+        (Kind::Mbbo, "VAL=1;ONSV=MAJOR", true, "1 2 1 STATE"),
+        (Kind::Mbbo, "VAL=0;ONSV=MAJOR", true, "0 0 0 "),
+    ];
+    for (kind, given, drove, want) in table {
+        let words = processed(rt.alloc(), kind, given, drove)?;
         assert_eq!(rt; words.as_str(), want);
     }
     Ok(())

@@ -1,4 +1,4 @@
-use Rattle.rec_kinds.specs.Keeping.{valid_after}
+use Rattle.rec_kinds.proofs.Keeping.{valid_after}
 use Rattle.rec_kinds.proofs.laws.processing_keeps_states_valid.Goals as goal
 
 pub returns : goal.returns

@@ -1,5 +1,5 @@
 use Rattle.std.proofs.Common.{◌≡◌, rules, sym, subst}
-use Rattle.rec_kinds.specs.Keeping.{valid_after}
+use Rattle.rec_kinds.proofs.Keeping.{valid_after}
 use Rattle.rec_kinds.specs.Processing.{processed}
 use Rattle.rec_kinds.specs.Validity.{IsValid}
 use Rattle.rec_kinds.specs.declared.state.RecState.{RecState}
