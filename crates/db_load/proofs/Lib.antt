@@ -4,3 +4,4 @@ pub mod Lists
 pub mod Loadings
 pub mod RecordsRead
 pub mod Relations
+pub mod Stopping

@@ -3,10 +3,12 @@ use Rattle.std.proofs.Common.{◌≡◌, ◌∙◌, ℕ, List, [], length, Optio
 use Rattle.rec_kinds.specs.declared.record_text.RecText.{RecText}
 use Rattle.db_text.specs.Macros.{Macros, MacroFault}
 use Rattle.db_text.specs.Expanding.{expanded}
+use Rattle.db_text.specs.Expansion.{ExpandsTo, Expanded}
 use Rattle.db_text.specs.Cutting.{Cut, cut}
 use Rattle.db_text.specs.Faults.{macro_fault, Expands}
 use Rattle.db_text.specs.declared.fault.TextFault.{TextFault}
 use Rattle.db_text.specs.declared.fault.TextFault.TheVariants as texts
+use Rattle.db_text.proofs.Expansions.{expansion_only}
 use Rattle.db_load.specs.declared.fault.LoadFault.{LoadFault}
 use Rattle.db_load.specs.declared.fault.LoadFault.TheVariants.{Text}
 use Rattle.db_load.specs.Forms.{Tokens, records_from}
@@ -40,14 +42,14 @@ unfolding loaded
 loaded_is ms text = refl
 
 pub load_done : (Z : Type 0) (ms : Macros) (text plain shown : List ℕ) (end : ℕ) (result : Result (Vec RecText Z) LoadFault)
-    → expanded ms text ≡ Ok plain → end ≡ last_line text → shown ≡ plain → IsLoaded result (loaded_cut end (cut shown)) → Scans ms text result
+    → Expanded ms text plain → end ≡ last_line text → shown ≡ plain → IsLoaded result (loaded_cut end (cut shown)) → Scans ms text result
 load_done Z ms text plain shown end result made line same h =
     let one : IsLoaded result (loaded_cut (last_line text) (cut plain)) =
     subst (λ (p : List ℕ). IsLoaded result (loaded_cut (last_line text) (cut p))) same (subst (λ (n : ℕ). IsLoaded result (loaded_cut n (cut shown))) line h) in
-    subst (λ (r : Loaded). IsLoaded result r) (sym (loaded_is ms text ∙ ap (loaded_plain text) made)) one
+    subst (λ (r : Loaded). IsLoaded result r) (sym (loaded_is ms text ∙ ap (loaded_plain text) (expansion_only ms text (Ok plain) made))) one
 
-stops : (ms : Macros) (text : List ℕ) (fault : TextFault) → (cause : MacroFault) × (line : ℕ) × (expanded ms text ≡ Err (cause, line)) × (fault ≡ macro_fault cause line) → loaded ms text ≡ Err (Text fault)
-stops ms text fault (cause, line, made, is) = loaded_is ms text ∙ ap (loaded_plain text) made ∙ ap (λ (f : TextFault). Err (Text f)) (sym is)
+stops : (ms : Macros) (text : List ℕ) (fault : TextFault) → (cause : MacroFault) × (line : ℕ) × ExpandsTo ms text (Err (cause, line)) × (fault ≡ macro_fault cause line) → loaded ms text ≡ Err (Text fault)
+stops ms text fault (cause, line, made, is) = loaded_is ms text ∙ ap (loaded_plain text) (expansion_only ms text (Err (cause, line)) made) ∙ ap (λ (f : TextFault). Err (Text f)) (sym is)
 
 pub load_fails : (Z : Type 0) (ms : Macros) (text : List ℕ) (fault : TextFault) → Expands ms text (Err fault) → Scans {Z = Z} ms text (Err (text_fault fault))
 load_fails Z ms text texts.NoMemory h = tt

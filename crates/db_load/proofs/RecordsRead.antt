@@ -1,5 +1,5 @@
 -- Records are read exactly where their forms are written.
-use Rattle.std.proofs.Common.{◌≡◌, ℕ, zero, suc, ◌+◌, ◌≤◌, ◌<◌, Bool, cond, true, false, List, [], ◌∷◌, ◌++◌, length, Option, Some, None, Result, Ok, Err, is_some, codes, refl, sym, ap, subst, ◌∙◌, arith, length-append}
+use Rattle.std.proofs.Common.{◌≡◌, ℕ, zero, suc, ◌+◌, ◌≤◌, Bool, cond, true, false, List, [], ◌∷◌, ◌++◌, length, Option, Some, None, Result, Ok, Err, is_some, codes, refl, sym, ap, subst, ◌∙◌, arith, length-append}
 use Rattle.std.proofs.lemmas.Bool.{true≢false}
 use Rattle.std.proofs.lemmas.Slice.Eq.{bytes_eq-Decides}
 use Rattle.std.specs.Str.{bytes_eq}
@@ -16,14 +16,14 @@ use Rattle.rec_kinds.specs.Fields.{rule_of}
 use Rattle.db_load.specs.declared.bodies.Item.{Item}
 use Rattle.db_load.specs.declared.fault.LoadFault.TheVariants as faults
 use Rattle.db_load.specs.declared.bodies.Item.TheVariants as items
-use Rattle.db_load.specs.Forms.{Stop, short, faulty, Tokens, Read, ◌>>=◌, bad, next, mark_in, mark_at, word_in, word_at, value_in, value_at, field_of, field_at, info_of, info_at, as_field, as_info, keyword_at, item_in, item_at, Body, with_items, after_item, body_at, last_given, is_record_name, is_among, name_in, kind_in, begin_in, begin_at, head_with, record_of, record_with, then_records, records_from}
-use Rattle.db_load.specs.Grammar.{IsWord, IsMark, IsText, is_value, is_json, Part, field, info, parts_tokens, AreParts, fields_of, infos_of, Form, form_tokens, IsForm, record_is, RecordsAfter, Records}
+use Rattle.db_load.specs.Forms.{Stop, short, faulty, Tokens, Read, ◌>>=◌, bad, next, mark_in, mark_at, word_in, word_at, value_in, value_at, field_of, field_at, info_of, info_at, as_field, as_info, keyword_at, item_in, item_at, Body, with_items, after_item, body_at, is_record_name, is_among, name_in, kind_in, begin_in, begin_at, head_with, record_of, record_with, then_records, records_from}
+use Rattle.db_load.specs.Grammar.{IsWord, IsMark, IsText, is_value, is_json, Part, field, info, parts_tokens, AreParts, fields_of, infos_of, Head, IsHead, Form, form_tokens, IsForm, record_is, RecordsAfter}
 
-same_bytes : (xs ys : List ℕ) → xs ≡ ys → bytes_eq xs ys ≡ true
+pub same_bytes : (xs ys : List ℕ) → xs ≡ ys → bytes_eq xs ys ≡ true
 same_bytes xs ys e = (bytes_eq-Decides xs ys).1 e
 
 -- each token that is written is read
-mark_only : (b : ℕ) (t : Token) (rest : Tokens) → IsMark b t → mark_at b (t ∷ rest) ≡ Ok rest
+pub mark_only : (b : ℕ) (t : Token) (rest : Tokens) → IsMark b t → mark_at b (t ∷ rest) ≡ Ok rest
 unfolding mark_at next
 mark_only b t rest is = ap (λ (k : TokenKind). mark_in b t k rest) is.0 ∙ rw (same_bytes t.text (b ∷ []) is.1) refl
 
@@ -51,40 +51,40 @@ value_only : (t : Token) (rest : Tokens) → is_value t.kind ≡ true → value_
 unfolding value_at next
 value_only t rest h = value_kind t rest t.kind h
 
-field_only : (kind : Kind) (o n c t e : Token) (rest : Tokens) → IsMark 40 o → IsText n → IsMark 44 c → IsText t → is_some (rule_of kind n.text) ≡ true → IsMark 41 e
+pub field_only : (kind : Kind) (o n c t e : Token) (rest : Tokens) → IsMark 40 o → IsText n → IsMark 44 c → IsText t → is_some (rule_of kind n.text) ≡ true → IsMark 41 e
     → field_at kind (o ∷ n ∷ c ∷ t ∷ e ∷ rest) ≡ Ok (record { name = n.text; text = t.text; line = t.line }, rest)
 unfolding field_at
 field_only kind o n c t e rest a b d f g h =
     rw (mark_only 40 o (n ∷ c ∷ t ∷ e ∷ rest) a, word_only n (c ∷ t ∷ e ∷ rest) b, mark_only 44 c (t ∷ e ∷ rest) d, word_only t (e ∷ rest) f, g, mark_only 41 e rest h) refl
 
-info_only : (o n c v e : Token) (rest : Tokens) → IsMark 40 o → IsText n → IsMark 44 c → is_value v.kind ≡ true → IsMark 41 e
+pub info_only : (o n c v e : Token) (rest : Tokens) → IsMark 40 o → IsText n → IsMark 44 c → is_value v.kind ≡ true → IsMark 41 e
     → info_at (o ∷ n ∷ c ∷ v ∷ e ∷ rest) ≡ Ok (record { name = n.text; text = v.text; json = is_json v.kind; line = v.line }, rest)
 unfolding info_at
 info_only o n c v e rest a b d f h =
     rw (mark_only 40 o (n ∷ c ∷ v ∷ e ∷ rest) a, word_only n (c ∷ v ∷ e ∷ rest) b, mark_only 44 c (v ∷ e ∷ rest) d, value_only v (e ∷ rest) f, mark_only 41 e rest h) refl
 
-item_bare : (kind : Kind) (w : Token) (rest : Tokens) → w.kind ≡ Bare → item_at kind (w ∷ rest) ≡ keyword_at kind w rest
+pub item_bare : (kind : Kind) (w : Token) (rest : Tokens) → w.kind ≡ Bare → item_at kind (w ∷ rest) ≡ keyword_at kind w rest
 unfolding item_at next
 item_bare kind w rest is = ap (λ (k : TokenKind). item_in kind w k rest) is
 
-item_close : (kind : Kind) (e : Token) (rest : Tokens) → IsMark 125 e → item_at kind (e ∷ rest) ≡ Ok (items.Close, rest)
+pub item_close : (kind : Kind) (e : Token) (rest : Tokens) → IsMark 125 e → item_at kind (e ∷ rest) ≡ Ok (items.Close, rest)
 unfolding item_at next
 item_close kind e rest is = ap (λ (k : TokenKind). item_in kind e k rest) is.0 ∙ rw (same_bytes e.text (125 ∷ []) is.1) refl
 
-word_field : (kind : Kind) (w : Token) (rest : Tokens) → w.text ≡ codes "field" → keyword_at kind w rest ≡ as_field (field_at kind rest)
+pub word_field : (kind : Kind) (w : Token) (rest : Tokens) → w.text ≡ codes "field" → keyword_at kind w rest ≡ as_field (field_at kind rest)
 unfolding keyword_at
 word_field kind w rest is = rw (same_bytes w.text (codes "field") is) refl
 
 info_other : bytes_eq (codes "info") (codes "field") ≡ false
 info_other = refl
 
-word_info : (kind : Kind) (w : Token) (rest : Tokens) → w.text ≡ codes "info" → keyword_at kind w rest ≡ as_info (info_at rest)
+pub word_info : (kind : Kind) (w : Token) (rest : Tokens) → w.text ≡ codes "info" → keyword_at kind w rest ≡ as_info (info_at rest)
 unfolding keyword_at
 word_info kind w rest is =
     let other : bytes_eq w.text (codes "field") ≡ false = ap (λ (t : List ℕ). bytes_eq t (codes "field")) is ∙ info_other in
     rw (other, same_bytes w.text (codes "info") is) refl
 
-body_step : (kind : Kind) (n : ℕ) (tokens : Tokens) → body_at kind (suc n) tokens ≡ (item_at kind tokens >>= λ x. after_item (body_at kind n) x.0 x.1)
+pub body_step : (kind : Kind) (n : ℕ) (tokens : Tokens) → body_at kind (suc n) tokens ≡ (item_at kind tokens >>= λ x. after_item (body_at kind n) x.0 x.1)
 unfolding body_at
 body_step kind n tokens = refl
 
@@ -109,7 +109,7 @@ body_only kind (info w o n c t x ∷ ps) e rest (suc m) enough are is =
     body_step kind m (w ∷ o ∷ n ∷ c ∷ t ∷ x ∷ after) ∙ ap (λ r. r >>= λ x. after_item (body_at kind m) x.0 x.1) here
     ∙ ap (with_items ([], record { name = n.text; text = t.text; json = is_json t.kind; line = t.line } ∷ [])) more
 
-head_only : (names : List (List ℕ)) (k : Kind) (f : Form) (rest : Tokens) → IsForm names k f
+pub head_only : (names : List (List ℕ)) (k : Kind) (f : Head) (rest : Tokens) → IsHead names k f
     → head_with (λ name. is_among name names) (f.word ∷ f.opens ∷ f.kind ∷ f.comma ∷ f.name ∷ f.closes ∷ rest) ≡ Ok ((k, f.name.text, f.word.line), rest)
 unfolding head_with
 head_only names k f rest is =
@@ -125,22 +125,22 @@ head_only names k f rest is =
       mark_only 41 f.closes rest is.closes_is,
     ) refl
 
-form_only : (names : List (List ℕ)) (k : Kind) (f : Form) (rest : Tokens) → IsForm names k f → record_with (λ name. is_among name names) (form_tokens f rest) ≡ Ok (record_is k f, rest)
+pub form_only : (names : List (List ℕ)) (k : Kind) (f : Form) (rest : Tokens) → IsForm names k f → record_with (λ name. is_among name names) (form_tokens f rest) ≡ Ok (record_is k f, rest)
 unfolding record_with
 form_only names k f rest is =
     let after : Tokens = parts_tokens f.parts ++ f.end ∷ rest in
     rw (
-      head_only names k f (f.brace ∷ (parts_tokens f.parts ++ f.end ∷ rest)) is,
-      mark_only 123 f.brace (parts_tokens f.parts ++ f.end ∷ rest) is.brace_is,
+      head_only names k f.head (f.head.brace ∷ (parts_tokens f.parts ++ f.end ∷ rest)) is.head_is,
+      mark_only 123 f.head.brace (parts_tokens f.parts ++ f.end ∷ rest) is.head_is.brace_is,
       body_only k f.parts f.end rest (length (parts_tokens f.parts ++ f.end ∷ rest) + 1) (omega arith) is.parts_are is.end_is,
     ) refl
 
-records_step : (n : ℕ) (names : List (List ℕ)) (t : Token) (rest : Tokens)
+pub records_step : (n : ℕ) (names : List (List ℕ)) (t : Token) (rest : Tokens)
     → records_from (suc n) names (t ∷ rest) ≡ (record_with (λ name. is_among name names) (t ∷ rest) >>= λ r. then_records r.0 (records_from n (r.0.name ∷ names) r.1))
 unfolding records_from
 records_step n names t rest = refl
 
-records_none : (n : ℕ) (names : List (List ℕ)) → records_from n names [] ≡ Ok []
+pub records_none : (n : ℕ) (names : List (List ℕ)) → records_from n names [] ≡ Ok []
 unfolding records_from
 records_none zero names = refl
 records_none (suc n) names = refl
@@ -151,9 +151,9 @@ records_only (r ∷ rs) names tokens zero enough (k, f, rest, same, is, made, mo
 records_only (r ∷ rs) names tokens (suc n) enough (k, f, rest, same, is, made, more) =
     let e = ap length same in
     let g = length-append (parts_tokens f.parts) (f.end ∷ rest) in
-    let on = records_only rs (f.name.text ∷ names) rest n (omega (arith, enough, e, g)) more in
+    let on = records_only rs (f.head.name.text ∷ names) rest n (omega (arith, enough, e, g)) more in
     ap (records_from (suc n) names) same
-    ∙ records_step n names f.word (f.opens ∷ f.kind ∷ f.comma ∷ f.name ∷ f.closes ∷ f.brace ∷ (parts_tokens f.parts ++ f.end ∷ rest))
+    ∙ records_step n names f.head.word (f.head.opens ∷ f.head.kind ∷ f.head.comma ∷ f.head.name ∷ f.head.closes ∷ f.head.brace ∷ (parts_tokens f.parts ++ f.end ∷ rest))
     ∙ ap (λ x. x >>= λ r. then_records r.0 (records_from n (r.0.name ∷ names) r.1)) (form_only names k f rest is)
     ∙ ap (then_records (record_is k f)) on ∙ ap (λ (x : RecText). Ok (x ∷ rs)) (sym made)
 
@@ -188,10 +188,10 @@ mark_in_found b t ts rest Bare is h = absurd (bad_ok t rest h)
 mark_in_found b t ts rest Quoted is h = absurd (bad_ok t rest h)
 mark_in_found b t ts rest Json is h = absurd (bad_ok t rest h)
 
-abbrev Marked : ℕ → Tokens → Tokens → Type 0
+abbrev pub Marked : ℕ → Tokens → Tokens → Type 0
 Marked b tokens rest = (t : Token) × (tokens ≡ t ∷ rest) × IsMark b t
 
-mark_found : (b : ℕ) (tokens rest : Tokens) → mark_at b tokens ≡ Ok rest → Marked b tokens rest
+pub mark_found : (b : ℕ) (tokens rest : Tokens) → mark_at b tokens ≡ Ok rest → Marked b tokens rest
 unfolding mark_at next
 mark_found b [] rest h = absurd cc
 mark_found b (t ∷ ts) rest h = let p = mark_in_found b t ts rest t.kind refl h in (t, ap (λ (xs : Tokens). t ∷ xs) p.1, p.0)
@@ -207,7 +207,7 @@ unfolding word_at next
 word_found [] x h = absurd cc
 word_found (t ∷ ts) x h = word_in_found t ts x t.kind refl h
 
-abbrev Valued : Tokens → (Token × Bool) × Tokens → Type 0
+abbrev pub Valued : Tokens → (Token × Bool) × Tokens → Type 0
 Valued tokens x = (tokens ≡ x.0.0 ∷ x.1) × (is_value x.0.0.kind ≡ true) × (x.0.1 ≡ is_json x.0.0.kind)
 
 valued : (t : Token) (ts : Tokens) (x : (Token × Bool) × Tokens) (k : TokenKind) → t.kind ≡ k → is_value k ≡ true → ((t, is_json k), ts) ≡ x → Valued (t ∷ ts) x
@@ -239,7 +239,7 @@ field_of_found kind n t x h = by_rule (is_some (rule_of kind n.text)) refl
     by_rule true c = (c, ok_is (record { name = n.text; text = t.text; line = t.line }) x (field_of kind n t) (rw c refl) h)
     by_rule false c = absurd (faulty_ok (field_of kind n t) (faulty (faults.UnknownField n.text t.line)) (rw c refl) h)
 
-abbrev FieldRead : Kind → Tokens → FieldText × Tokens → Type 0
+abbrev pub FieldRead : Kind → Tokens → FieldText × Tokens → Type 0
 FieldRead kind tokens x =
     (o : Token) × (n : Token) × (c : Token) × (t : Token) × (e : Token) × (tokens ≡ o ∷ n ∷ c ∷ t ∷ e ∷ x.1) × IsMark 40 o × IsText n × IsMark 44 c × IsText t
     × (is_some (rule_of kind n.text) ≡ true) × IsMark 41 e × (x.0 ≡ record { name = n.text; text = t.text; line = t.line })
@@ -276,7 +276,7 @@ field_found kind tokens x h =
       sym (ap (λ (p : FieldText × Tokens). p.0) made) ∙ sym k.1,
     )
 
-abbrev InfoRead : Tokens → Info × Tokens → Type 0
+abbrev pub InfoRead : Tokens → Info × Tokens → Type 0
 InfoRead tokens x =
     (o : Token) × (n : Token) × (c : Token) × (v : Token) × (e : Token) × (tokens ≡ o ∷ n ∷ c ∷ v ∷ e ∷ x.1) × IsMark 40 o × IsText n × IsMark 44 c × (is_value v.kind ≡ true)
     × IsMark 41 e × (x.0 ≡ record { name = n.text; text = v.text; json = is_json v.kind; line = v.line })
@@ -311,7 +311,7 @@ info_found tokens x h =
     )
 
 -- what an item of a record's braces is: its closing brace, or one part and what follows
-abbrev ItemRead : Kind → Tokens → Item → Tokens → Type 0
+abbrev pub ItemRead : Kind → Tokens → Item → Tokens → Type 0
 ItemRead kind tokens items.Close rest = Marked 125 tokens rest
 ItemRead kind tokens (items.Field f) rest = (w : Token) × (after : Tokens) × (tokens ≡ w ∷ after) × IsWord (codes "field") w × FieldRead kind after (f, rest)
 ItemRead kind tokens (items.Info i) rest = (w : Token) × (after : Tokens) × (tokens ≡ w ∷ after) × IsWord (codes "info") w × InfoRead after (i, rest)
@@ -353,7 +353,7 @@ item_in_found kind w ts x rest Mark is h =
     let p = if_ok (bytes_eq w.text (125 ∷ [])) (items.Close, ts) (x, rest) w (item_in kind w Mark ts) refl h in
     subst (λ (p : Item × Tokens). ItemRead kind (w ∷ ts) p.0 p.1) p.1 (w, refl, (is, bytes_same w.text (125 ∷ []) p.0))
 
-item_found : (kind : Kind) (tokens : Tokens) (x : Item) (rest : Tokens) → item_at kind tokens ≡ Ok (x, rest) → ItemRead kind tokens x rest
+pub item_found : (kind : Kind) (tokens : Tokens) (x : Item) (rest : Tokens) → item_at kind tokens ≡ Ok (x, rest) → ItemRead kind tokens x rest
 unfolding item_at next
 item_found kind [] x rest h = absurd cc
 item_found kind (w ∷ ts) x rest h = item_in_found kind w ts x rest w.kind refl h
@@ -408,7 +408,7 @@ after_found kind n tokens (items.Info i) left body rest step (w, after, same, is
     let here = body_info kind w after tokens left p.0.1 i p.0.0 ([] ++ p.0.0.0, i ∷ [] ++ p.0.0.1) same is read inner refl in
     subst (λ (q : Body × Tokens). BodyRead kind tokens q.0 q.1) p.2 here
 
-body_zero : (kind : Kind) (tokens : Tokens) → body_at kind zero tokens ≡ Err short
+pub body_zero : (kind : Kind) (tokens : Tokens) → body_at kind zero tokens ≡ Err short
 unfolding body_at
 body_zero kind tokens = refl
 
@@ -450,12 +450,12 @@ name_found taken t name h = by_name (is_record_name t.text) refl taken refl
     by_name true c true v = absurd (refused (name_in taken t) (faulty (faults.SameRecord t.text t.line)) (rw (c, v) refl) h)
     by_name false c v e = absurd (refused (name_in taken t) (faulty (faults.BadForm t.line)) (rw c refl) h)
 
-abbrev HeadRead : (List ℕ → Bool) → Tokens → (Kind × List ℕ × ℕ) × Tokens → Type 0
+abbrev pub HeadRead : (List ℕ → Bool) → Tokens → (Kind × List ℕ × ℕ) × Tokens → Type 0
 HeadRead taken tokens x =
     (w : Token) × (o : Token) × (k : Token) × (c : Token) × (n : Token) × (e : Token) × (tokens ≡ w ∷ o ∷ k ∷ c ∷ n ∷ e ∷ x.1) × IsWord (codes "record") w × IsMark 40 o × IsText k
     × (kind_of k.text ≡ Some x.0.0) × IsMark 44 c × IsText n × (is_record_name n.text ≡ true) × (taken n.text ≡ false) × IsMark 41 e × (n.text ≡ x.0.1) × (w.line ≡ x.0.2)
 
-head_found : (taken : List ℕ → Bool) (tokens : Tokens) (x : (Kind × List ℕ × ℕ) × Tokens) → head_with taken tokens ≡ Ok x → HeadRead taken tokens x
+pub head_found : (taken : List ℕ → Bool) (tokens : Tokens) (x : (Kind × List ℕ × ℕ) × Tokens) → head_with taken tokens ≡ Ok x → HeadRead taken tokens x
 unfolding head_with
 head_found taken tokens x h =
     let w = bound (begin_at tokens) _ x h in
@@ -495,33 +495,24 @@ head_found taken tokens x h =
       ap (λ (p : (Kind × List ℕ × ℕ) × Tokens). p.0.2) made,
     )
 
-abbrev FormRead : List (List ℕ) → Tokens → RecText × Tokens → Type 0
+abbrev pub FormRead : List (List ℕ) → Tokens → RecText × Tokens → Type 0
 FormRead names tokens x = (k : Kind) × (f : Form) × (tokens ≡ form_tokens f x.1) × IsForm names k f × (x.0 ≡ record_is k f)
 
 form_parts : (names : List (List ℕ)) (tokens left after : Tokens) (k : Kind) (name : List ℕ) (line : ℕ) (body : Body) (x : RecText × Tokens) → HeadRead (λ name. is_among name names) tokens ((k, name, line), left)
     → Marked 123 left after → BodyRead k after body x.1 → record_of (k, name, line) body ≡ x.0 → FormRead names tokens x
 form_parts names tokens left after k name line body x (w, o, kind, c, n, e, cut, ww, oo, kk, known, cc', nn, may, new, ee, named, at) (b, braced, bb) (ps, close, bytes, are, closing, parts) made = (
   k,
-  record { word = w; opens = o; kind = kind; comma = c; name = n; closes = e; brace = b; parts = ps; end = close },
+  record { head = record { word = w; opens = o; kind = kind; comma = c; name = n; closes = e; brace = b }; parts = ps; end = close },
   cut ∙ ap (λ (xs : Tokens). w ∷ o ∷ kind ∷ c ∷ n ∷ e ∷ xs) (braced ∙ ap (λ (xs : Tokens). b ∷ xs) bytes),
   record {
-    word_is = ww;
-    opens_is = oo;
-    kind_text = kk;
-    kind_is = known;
-    comma_is = cc';
-    name_text = nn;
-    name_may = may;
-    name_new = new;
-    closes_is = ee;
-    brace_is = bb;
+    head_is = record { word_is = ww; opens_is = oo; kind_text = kk; kind_is = known; comma_is = cc'; name_text = nn; name_may = may; name_new = new; closes_is = ee; brace_is = bb };
     parts_are = are;
     end_is = closing;
   },
   sym made ∙ ap (λ (m : List ℕ). record_of (k, m, line) body) (sym named) ∙ ap (λ (l : ℕ). record_of (k, n.text, l) body) (sym at) ∙ ap (λ (q : Body). record_of (k, n.text, w.line) q) parts,
 )
 
-form_found : (names : List (List ℕ)) (tokens : Tokens) (x : RecText × Tokens) → record_with (λ name. is_among name names) tokens ≡ Ok x → FormRead names tokens x
+pub form_found : (names : List (List ℕ)) (tokens : Tokens) (x : RecText × Tokens) → record_with (λ name. is_among name names) tokens ≡ Ok x → FormRead names tokens x
 unfolding record_with
 form_found names tokens x h =
     let a = bound (head_with (λ name. is_among name names) tokens) _ x h in
@@ -544,8 +535,8 @@ next_form : (n : ℕ) (names : List (List ℕ)) (tokens : Tokens) (r : RecText) 
 next_form n names tokens r rest left rs step enough (k, f, same, is, made) more joined =
     let e = ap length same in
     let g = length-append (parts_tokens f.parts) (f.end ∷ rest) in
-    let name : r.name ≡ f.name.text = ap (λ (x : RecText). x.name) made in
-    let on = step (f.name.text ∷ names) rest left (omega (arith, enough, e, g)) (ap (λ (m : List ℕ). records_from n (m ∷ names) rest) (sym name) ∙ more) in
+    let name : r.name ≡ f.head.name.text = ap (λ (x : RecText). x.name) made in
+    let on = step (f.head.name.text ∷ names) rest left (omega (arith, enough, e, g)) (ap (λ (m : List ℕ). records_from n (m ∷ names) rest) (sym name) ∙ more) in
     subst (RecordsAfter names tokens) joined (k, f, rest, same, is, made, on)
 
 nothing_is : (names : List (List ℕ)) (n : ℕ) (rs : List RecText) → records_from n names [] ≡ Ok rs → RecordsAfter names [] rs

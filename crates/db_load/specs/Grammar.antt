@@ -66,8 +66,8 @@ infos_of (field w o n c t e ∷ ps) = infos_of ps
 infos_of (info w o n c v e ∷ ps) =
     record { name = n.text; text = v.text; json = is_json v.kind; line = v.line } ∷ infos_of ps
 
--- `record(kind, name) { parts }`
-pub record Form : Type 0 where
+-- `record(kind, name) {`
+pub record Head : Type 0 where
   pub word : Token
   pub opens : Token
   pub kind : Token
@@ -75,25 +75,34 @@ pub record Form : Type 0 where
   pub name : Token
   pub closes : Token
   pub brace : Token
+
+abbrev pub head_tokens : Head → List Token → List Token
+head_tokens h rest = h.word ∷ h.opens ∷ h.kind ∷ h.comma ∷ h.name ∷ h.closes ∷ h.brace ∷ rest
+
+-- The head of a record of this kind, whose name none of these is.
+pub record IsHead (names : List (List ℕ)) (k : Kind) (h : Head) : Type 0 where
+  pub word_is : IsWord (codes "record") h.word
+  pub opens_is : IsMark 40 h.opens
+  pub kind_text : IsText h.kind
+  pub kind_is : kind_of h.kind.text ≡ Some k
+  pub comma_is : IsMark 44 h.comma
+  pub name_text : IsText h.name
+  pub name_may : is_record_name h.name.text ≡ true
+  pub name_new : is_among h.name.text names ≡ false
+  pub closes_is : IsMark 41 h.closes
+  pub brace_is : IsMark 123 h.brace
+
+-- `record(kind, name) { parts }`
+pub record Form : Type 0 where
+  pub head : Head
   pub parts : List Part
   pub end : Token
 
 abbrev pub form_tokens : Form → List Token → List Token
-form_tokens f rest =
-    f.word ∷ f.opens ∷ f.kind ∷ f.comma ∷ f.name ∷ f.closes ∷ f.brace ∷ (parts_tokens f.parts ++ f.end ∷ rest)
+form_tokens f rest = head_tokens f.head (parts_tokens f.parts ++ f.end ∷ rest)
 
--- A record of this kind, whose name none of these is.
 pub record IsForm (names : List (List ℕ)) (k : Kind) (f : Form) : Type 0 where
-  pub word_is : IsWord (codes "record") f.word
-  pub opens_is : IsMark 40 f.opens
-  pub kind_text : IsText f.kind
-  pub kind_is : kind_of f.kind.text ≡ Some k
-  pub comma_is : IsMark 44 f.comma
-  pub name_text : IsText f.name
-  pub name_may : is_record_name f.name.text ≡ true
-  pub name_new : is_among f.name.text names ≡ false
-  pub closes_is : IsMark 41 f.closes
-  pub brace_is : IsMark 123 f.brace
+  pub head_is : IsHead names k f.head
   pub parts_are : AreParts k f.parts
   pub end_is : IsMark 125 f.end
 
@@ -102,10 +111,10 @@ abbrev pub record_is : Kind → Form → RecText
 record_is k f =
     record {
       kind = k;
-      name = f.name.text;
+      name = f.head.name.text;
       fields = last_given (fields_of f.parts);
       infos = infos_of f.parts;
-      line = f.word.line;
+      line = f.head.word.line;
     }
 
 -- These are the records of tokens, after records of these names.
@@ -113,7 +122,7 @@ abbrev pub RecordsAfter : List (List ℕ) → List Token → List RecText → Ty
 RecordsAfter names tokens [] = tokens ≡ []
 RecordsAfter names tokens (r ∷ rs) =
     (k : Kind) × (f : Form) × (rest : List Token) × (tokens ≡ form_tokens f rest) × IsForm names k f
-    × (r ≡ record_is k f) × RecordsAfter (f.name.text ∷ names) rest rs
+    × (r ≡ record_is k f) × RecordsAfter (f.head.name.text ∷ names) rest rs
 
 abbrev pub Records : List Token → List RecText → Type 0
 Records tokens records = RecordsAfter [] tokens records

@@ -1,3 +1,4 @@
 pub mod Forms
 pub mod Loading
 pub mod Grammar
+pub mod Places

@@ -1,9 +1,10 @@
 -- What loading a database text gives.
-use Rattle.std.specs.Prelude.{◌≡◌, ◌⊎◌, ◌≤◌, ℕ, ◌+◌, ◌-◌, List, [], length, take, count_by, Option, Some, None, Result, Ok}
-use Rattle.std.specs.Prelude.{Err, ◌==◌, nat_lt, if◌then◌else◌}
+use Rattle.std.specs.Prelude.{◌≡◌, ◌⊎◌, ◌≤◌, ℕ, ◌+◌, ◌-◌, List, [], length, take, count_by, Option, Some, None, Result}
+use Rattle.std.specs.Prelude.{Ok, Err, ◌==◌, nat_lt, if◌then◌else◌}
 use Rattle.std.specs.declared.vec.Vec.{Vec}
 use Rattle.db_text.specs.Macros.{Macros, MacroFault}
 use Rattle.db_text.specs.Expanding.{Placed, expanded}
+use Rattle.db_text.specs.Expansion.{ExpandsTo, Expanded}
 use Rattle.db_text.specs.Cutting.{Cut, cut}
 use Rattle.db_text.specs.Faults.{macro_fault}
 use Rattle.db_text.specs.Grammar.{TokensTo, Tokens}
@@ -15,6 +16,7 @@ use Rattle.db_load.specs.declared.fault.LoadFault.{LoadFault}
 use Rattle.db_load.specs.declared.fault.LoadFault.TheVariants.{Text, BadForm, Count, NoMemory}
 use Rattle.db_load.specs.Forms.{Stop, short, faulty, records_from}
 use Rattle.db_load.specs.Grammar.{Records}
+use Rattle.db_load.specs.Places.{FaultOf}
 
 abbrev pub Loaded : Type 0
 Loaded = Result (List RecText) LoadFault
@@ -69,17 +71,17 @@ IsLoaded (Err fault) read = read ≡ Err fault
 -- These are the records of a text with these macros: those of its tokens, as many as a text may have.
 abbrev pub RecordsOf : Macros → List ℕ → List RecText → Type 0
 RecordsOf ms text records =
-    (plain : List ℕ) × (tokens : List Token) × (expanded ms text ≡ Ok plain) × Tokens plain tokens
+    (plain : List ℕ) × (tokens : List Token) × Expanded ms text plain × Tokens plain tokens
     × Records tokens records × (1 ≤ length records) × (length records ≤ 4000)
 
 -- This is the first fault of a text with these macros: that of a macro; else that of tokens and forms, which come from
 -- left to right; else that of the count.
 abbrev pub FirstFaultOf : Macros → List ℕ → LoadFault → Type 0
 FirstFaultOf ms text fault =
-    ((cause : MacroFault) × (line : ℕ) × (expanded ms text ≡ Err (cause, line)) × (fault ≡ Text (macro_fault cause line)))
-    ⊎ ((plain : List ℕ) × (tokens : List Token) × (stop : Option TextFault) × (expanded ms text ≡ Ok plain)
-    × TokensTo plain tokens stop
-    × (formed (last_line text) (records_from (length tokens) [] tokens) stop ≡ Err fault))
+    ((cause : MacroFault) × (line : ℕ) × ExpandsTo ms text (Err (cause, line))
+    × (fault ≡ Text (macro_fault cause line)))
+    ⊎ ((plain : List ℕ) × (tokens : List Token) × (stop : Option TextFault) × Expanded ms text plain
+    × TokensTo plain tokens stop × FaultOf (last_line text) tokens stop fault)
 
 -- These are the records of a text, or this is its first fault; want of memory is free.
 abbrev pub Loads : {Z : Type 0} → Macros → List ℕ → Result (Vec RecText Z) LoadFault → Type 0
@@ -87,9 +89,10 @@ Loads ms text (Ok records) = RecordsOf ms text records.items
 Loads ms text (Err NoMemory) = Unit {0}
 Loads ms text (Err fault) = FirstFaultOf ms text fault
 
--- Two lists of records of one text are equal, and a text that has one has no fault.
+-- A text has one list of records or one first fault, and not both.
 abbrev pub OneLoading : Type 0
 OneLoading =
-    (ms : Macros) (text : List ℕ) (records : List RecText) → RecordsOf ms text records
-    → ((others : List RecText) → RecordsOf ms text others → records ≡ others)
-    × ((fault : LoadFault) → FirstFaultOf ms text fault → ⊥)
+    (ms : Macros) (text : List ℕ)
+    → ((records others : List RecText) → RecordsOf ms text records → RecordsOf ms text others → records ≡ others)
+    × ((records : List RecText) (fault : LoadFault) → RecordsOf ms text records → FirstFaultOf ms text fault → ⊥)
+    × ((fault other : LoadFault) → FirstFaultOf ms text fault → FirstFaultOf ms text other → fault ≡ other)

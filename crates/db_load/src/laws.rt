@@ -1,7 +1,7 @@
 // A law of the definitions, as the contract of a function that does nothing.
 ghost use Rattle.db_load.specs.Loading.{OneLoading};
 
-/// Two lists of records of one text are equal, and a text that has one has no fault.
+/// A text has one list of records or one first fault, and not both.
 pub fn one_loading()
     ensures { OneLoading }
 {}

@@ -1,12 +1,12 @@
 -- JSON is read exactly where its items are written.
-use Rattle.std.proofs.Common.{◌≡◌, ◌≢◌, ℕ, zero, suc, ◌+◌, ◌-◌, ◌≤◌, ◌<◌, Bool, eqb, cond, true, false, not, ◌||◌, List, [], ◌∷◌, ◌++◌, length, take, drop, Option, Some, None, refl, sym, ap, subst, ◌∙◌, arith, inl, inr, append_assoc, add-one, length-append}
-use Rattle.std.proofs.lemmas.Bool.{eqb-false, eqb-true, true≢false}
+use Rattle.std.proofs.Common.{◌≡◌, ◌≢◌, ℕ, zero, suc, ◌+◌, ◌-◌, ◌≤◌, ◌<◌, Bool, eqb, cond, true, false, not, ◌||◌, List, [], ◌∷◌, ◌++◌, length, take, drop, Some, None, refl, sym, ap, subst, ◌∙◌, arith, inl, inr, append_assoc, add-one, length-append}
+use Rattle.std.proofs.lemmas.Bool.{true≢false}
 use Rattle.std.proofs.lemmas.Bool.Decides.{eqb_tells}
 use Rattle.std.proofs.lemmas.List.{take-append-drop}
 use Rattle.pvd_type.proofs.Sets.{differs}
 use Rattle.db_text.specs.Macros.{front, before_first}
 use Rattle.db_text.specs.Cutting.{Text, put, is_key, is_colon, is_before_colon, key_text, word_len, kept_pair, json_at}
-use Rattle.db_text.specs.Grammar.{Char, as_is, escaped, char_bytes, chars_bytes, IsJsonText, Item, run, in_quotes, opens, closes, other, item_bytes, items_bytes, before_colon, items_text, Each, IsRun, Ends, NoRun, IsJson}
+use Rattle.db_text.specs.Grammar.{Char, as_is, escaped, chars_bytes, IsJsonText, Item, run, in_quotes, opens, closes, other, items_bytes, before_colon, items_text, Each, Ends, NoRun, IsJson}
 use Rattle.db_text.proofs.JsonTexts as steps
 use Rattle.db_text.proofs.Quoting.{put_gives, pair_parts}
 use Rattle.db_text.proofs.Runs.{first_cons, run_take, run_drop, run_found, other_than}

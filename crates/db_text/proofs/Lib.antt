@@ -15,3 +15,7 @@ pub mod PiecesRead
 pub mod Sequences
 pub mod Slices
 pub mod Told
+pub mod References
+pub mod Filling
+pub mod Lines
+pub mod Expansions

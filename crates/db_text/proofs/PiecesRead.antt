@@ -1,15 +1,15 @@
 -- A token is read exactly where a piece is written.
-use Rattle.std.proofs.Common.{◌≡◌, ◌≢◌, ℕ, zero, suc, ◌+◌, ◌-◌, ◌≤◌, ◌<◌, Bool, eqb, cond, true, false, not, ◌||◌, ◌&&◌, List, [], ◌∷◌, ◌++◌, length, take, drop, Option, Some, None, Result, Ok, Err, refl, sym, ap, subst, ◌∙◌, arith, inl, inr, append_assoc}
+use Rattle.std.proofs.Common.{◌≡◌, ℕ, Bool, eqb, true, false, not, ◌&&◌, List, [], ◌∷◌, ◌++◌, length, take, drop, Some, None, Ok, Err, refl, sym, ap, subst, ◌∙◌, arith, inl, inr, append_assoc}
 use Rattle.std.proofs.lemmas.Bool.{true≢false, eqb-true}
 use Rattle.std.proofs.lemmas.Bool.Decides.{eqb_tells}
 use Rattle.std.proofs.lemmas.List.{take-append-drop}
 use Rattle.db_text.specs.Macros.{before_first}
-use Rattle.db_text.specs.Cutting.{Text, Piece as Read, TokenFault, bad, open_quotes, put, piece, is_word, is_key, is_mark, is_blank, is_comma, quoted_at, json_at, bare_at, bare_piece, token_at, fault_on}
-use Rattle.db_text.specs.declared.fault.TextFault.TheVariants.{BadToken, OpenString}
+use Rattle.db_text.specs.Cutting.{Text, Piece as Read, TokenFault, bad, open_quotes, put, piece, is_word, is_mark, is_blank, is_comma, quoted_at, json_at, bare_at, bare_piece, token_at, fault_on}
+use Rattle.db_text.specs.declared.fault.TextFault.TheVariants.{BadToken}
 use Rattle.db_text.specs.declared.token.Before.{Before}
 use Rattle.db_text.specs.declared.token.TokenKind.{TokenKind}
 use Rattle.db_text.specs.declared.token.TokenKind.TheVariants.{Bare, Quoted, Mark, Json}
-use Rattle.db_text.specs.Grammar.{Char, Item, chars_bytes, chars_text, IsQuoted, items_bytes, items_text, Each, IsRun, Ends, IsJson, Piece, blank, bare, quotes, sign, braces, piece_bytes, Word, words_of, ends_comma, Fits, fault_at}
+use Rattle.db_text.specs.Grammar.{Char, Item, chars_bytes, chars_text, IsQuoted, items_bytes, items_text, Each, Ends, IsJson, Piece, blank, bare, quotes, sign, braces, piece_bytes, Word, words_of, ends_comma, Fits, fault_at}
 use Rattle.db_text.proofs.Runs.{run_take, run_drop, run_found, other_than}
 use Rattle.db_text.proofs.Quoting.{put_gives, quoted_only, quoted_found, QuotedAs}
 use Rattle.db_text.proofs.Bracing.{items_only, json_found, InBraces}

@@ -1,9 +1,11 @@
 -- A text that has nothing to replace and nothing to drop is expanded to itself.
-use Rattle.std.proofs.Common.{◌≡◌, ◌≢◌, ℕ, zero, suc, ◌≤◌, Bool, eqb, cond, true, false, List, [], ◌∷◌, length, Option, Some, None, Ok, refl, sym, ap, ◌∙◌, arith}
+use Rattle.std.proofs.Common.{◌≡◌, ◌≢◌, ℕ, zero, suc, ◌≤◌, Bool, eqb, true, false, List, [], ◌∷◌, length, None, Ok, refl, ap, subst, ◌∙◌, arith}
 use Rattle.pvd_type.proofs.Sets.{differs}
 use Rattle.db_text.specs.Macros.{Macros, either, opening, before}
-use Rattle.db_text.specs.Expanding.{Placed, behind_comment, escaped, quoted_after, line_after, replaced, placed, expanded_from, expanded}
+use Rattle.db_text.specs.Expanding.{behind_comment, escaped, quoted_after, line_after, replaced, placed, expanded_from, expanded}
+use Rattle.db_text.specs.Expansion.{ExpandsTo}
 use Rattle.db_text.specs.Plain.{IsPlain, PlainStays}
+use Rattle.db_text.proofs.Expansions.{expansion_found}
 
 no_macro : (b : ℕ) (rest : List ℕ) → (b ≢ 36) → opening (b ∷ rest) ≡ None
 unfolding opening
@@ -54,4 +56,4 @@ unfolding expanded
 expanded_is ms text = refl
 
 pub plain_stays : PlainStays
-plain_stays ms text plain = expanded_is ms text ∙ stays ms text (length text) 1 (omega arith) plain
+plain_stays ms text plain = subst (ExpandsTo ms text) (expanded_is ms text ∙ stays ms text (length text) 1 (omega arith) plain) (expansion_found ms text)

@@ -1,11 +1,10 @@
 -- A quoted text is read exactly where its characters are written.
-use Rattle.std.proofs.Common.{◌≡◌, ◌≢◌, ℕ, zero, suc, ◌≤◌, ◌<◌, Bool, eqb, cond, true, false, List, [], ◌∷◌, ◌++◌, length, Option, Some, None, refl, sym, ap, ◌∙◌, arith, inl, inr, append_assoc}
-use Rattle.std.proofs.lemmas.Bool.{eqb-false}
+use Rattle.std.proofs.Common.{◌≡◌, ◌≢◌, ℕ, zero, suc, ◌≤◌, List, [], ◌∷◌, ◌++◌, length, Option, Some, None, refl, sym, ap, ◌∙◌, arith, inl, inr}
 use Rattle.std.proofs.lemmas.Bool.Decides.{eqb_tells}
 use Rattle.pvd_type.proofs.Sets.{differs}
 use Rattle.db_text.specs.Macros.{front}
 use Rattle.db_text.specs.Cutting.{Text, put, escape, escaped_text, quoted_at}
-use Rattle.db_text.specs.Grammar.{Char, as_is, escaped, char_bytes, chars_bytes, chars_text, IsQuoted}
+use Rattle.db_text.specs.Grammar.{Char, as_is, escaped, chars_bytes, chars_text, IsQuoted}
 use Rattle.db_text.proofs.Quotes.{closes, breaks, escapes, keeps}
 
 abbrev pub the : {A : Type 0} → A → Option A → A

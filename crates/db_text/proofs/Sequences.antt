@@ -1,5 +1,5 @@
 -- A text is cut exactly into the tokens of its pieces.
-use Rattle.std.proofs.Common.{◌≡◌, ◌≢◌, ℕ, zero, suc, ◌+◌, ◌-◌, ◌≤◌, ◌<◌, Bool, eqb, cond, true, false, List, [], ◌∷◌, ◌++◌, length, take, drop, map, count_by, Option, Some, None, Result, Ok, Err, refl, sym, ap, subst, ◌∙◌, arith, inl, inr, append_assoc, length-append}
+use Rattle.std.proofs.Common.{◌≡◌, ℕ, zero, suc, ◌+◌, ◌-◌, ◌≤◌, ◌<◌, Bool, eqb, cond, true, false, List, [], ◌∷◌, ◌++◌, length, take, map, count_by, Option, Some, Ok, Err, refl, sym, ap, subst, ◌∙◌, arith, inl, inr, append_assoc, length-append}
 use Rattle.std.proofs.lemmas.Bool.{true≢false}
 use Rattle.std.proofs.lemmas.Bool.Decides.{eqb_tells}
 use Rattle.std.proofs.lemmas.List.{append-nil}
@@ -11,16 +11,16 @@ use Rattle.db_text.specs.declared.fault.TextFault.{TextFault}
 use Rattle.db_text.specs.declared.token.Token.{Token}
 use Rattle.db_text.specs.declared.token.TokenKind.{TokenKind}
 use Rattle.db_text.specs.declared.token.Before.TheVariants.{Other}
-use Rattle.db_text.specs.Grammar.{Char, Item, chars_bytes, items_bytes, Piece, blank, bare, quotes, sign, braces, piece_bytes, bytes_of, Word, words_of, Fits, done_with, done_by, Sequence, line_of, placed, tokens_of, NoPiece, fault_at, StopsAt, TokensTo}
+use Rattle.db_text.specs.Grammar.{Piece, blank, bare, quotes, sign, braces, piece_bytes, bytes_of, Word, words_of, Fits, done_with, done_by, Sequence, line_of, placed, tokens_of, NoPiece, fault_at, StopsAt, TokensTo}
 use Rattle.db_text.proofs.Cuts as cuts
 use Rattle.db_text.proofs.Cuts.{token_of, lines_of}
 use Rattle.db_text.proofs.Befores.{view}
-use Rattle.db_text.proofs.PiecesRead.{ok_err, Token_read, Token_only, piece_only, PieceRead, piece_found, fault_is}
+use Rattle.db_text.proofs.PiecesRead.{ok_err, Token_read, Token_only, piece_only, piece_found, fault_is}
 
 pub lines_more : (before bytes : List ℕ) → line_of before + count_by (λ b. eqb b 10) bytes ≡ line_of (before ++ bytes)
 lines_more before bytes = let e = sum_by-append (λ b. cond (eqb b 10) 1 0) before bytes in omega (arith, e)
 
-line_step : (before : List ℕ) (b : ℕ) → line_after (line_of before) b ≡ line_of (before ++ b ∷ [])
+pub line_step : (before : List ℕ) (b : ℕ) → line_after (line_of before) b ≡ line_of (before ++ b ∷ [])
 line_step before b =
     elim (eqb_tells b 10) [
       | inl e ↦ let one : count_by (λ x. eqb x 10) (b ∷ []) ≡ 1 = rw e.0 refl in rw e.0 (let f = lines_more before (b ∷ []) in omega (arith, one, f))

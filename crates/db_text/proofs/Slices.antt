@@ -1,11 +1,10 @@
 -- Tokens rise, and each is its slice of the text.
-use Rattle.std.proofs.Common.{◌≡◌, ℕ, zero, suc, ◌+◌, ◌-◌, ◌≤◌, ◌<◌, List, [], ◌∷◌, ◌++◌, length, take, drop, Option, refl, sym, ap, subst, ◌∙◌, arith, append_assoc, length-append}
+use Rattle.std.proofs.Common.{◌≡◌, ℕ, ◌+◌, ◌-◌, ◌≤◌, ◌<◌, List, [], ◌∷◌, ◌++◌, length, take, drop, refl, sym, ap, subst, ◌∙◌, arith, append_assoc, length-append}
 use Rattle.std.proofs.Math.Seq.{take-append_seam, drop-append_seam}
-use Rattle.db_text.specs.Cutting.{Cut, cut}
-use Rattle.db_text.specs.declared.fault.TextFault.{TextFault}
+use Rattle.db_text.specs.Cutting.{Cut}
 use Rattle.db_text.specs.declared.token.Token.{Token}
 use Rattle.db_text.specs.declared.token.TokenKind.TheVariants.{Bare, Quoted, Mark, Json}
-use Rattle.db_text.specs.Grammar.{chars_text, items_text, Piece, blank, bare, quotes, sign, braces, piece_bytes, bytes_of, Word, words_of, Fits, done_with, Sequence, placed, tokens_of, TokensTo, Rise, IsSlice, AreSlices, TokensAreSlices, OneCut}
+use Rattle.db_text.specs.Grammar.{chars_text, items_text, Piece, blank, bare, quotes, sign, braces, piece_bytes, bytes_of, Word, words_of, Fits, done_with, Sequence, placed, tokens_of, Rise, IsSlice, AreSlices, TokensAreSlices, OneCut}
 use Rattle.db_text.proofs.Sequences.{some_bytes, tokens_only}
 
 later : (from : ℕ) (before written : List ℕ) → from ≤ length before → from ≤ length (before ++ written)

@@ -1,7 +1,7 @@
 -- What a text makes, step by step.
 use Rattle.std.proofs.Common.{◌≡◌, ℕ, zero, suc, ◌≤◌, ◌<◌, Bool, List, [], ◌∷◌, ◌++◌, length, Some, None, Ok, Err, refl, sym, ap, ◌∙◌, arith}
 use Rattle.std.proofs.lemmas.List.{append-nil}
-use Rattle.db_text.specs.Macros.{Macros, Made, front, either, opening, before}
+use Rattle.db_text.specs.Macros.{Macros, MacroFault, Made, front, either, opening, before}
 use Rattle.db_text.specs.Expanding.{Placed, behind_comment, escaped, quoted_after, line_after, replaced, placed, expanded_from}
 use Rattle.db_text.specs.declared.fault.MacroStop.{MacroStop}
 use Rattle.db_text.specs.declared.fault.MacroStop.TheVariants.{Unclosed, Unknown, TooDeep, Memory}
@@ -76,6 +76,10 @@ module _ (ms : Macros) where
           pub text_fails : (stop : MacroStop) → Fails stop (replaced ms closer inside) → TextGoes quoted line done bytes whole → FailsAt stop line whole
           text_fails stop h (zero, enough, same) = let e = ap length (front_is bytes b rest is) in absurd (omega (arith, e))
           text_fails stop h (suc n, enough, same) = fails_placed stop line done (expanded_from ms n quoted line) (replaced ms closer inside) whole h (ap (before done) (sym (at_macro n)) ∙ same)
+
+          pub text_faulty : (fault : MacroFault) → replaced ms closer inside ≡ Err fault → TextGoes quoted line done bytes whole → whole ≡ Err (fault, line)
+          text_faulty fault h (zero, enough, same) = let e = ap length (front_is bytes b rest is) in absurd (omega (arith, e))
+          text_faulty fault h (suc n, enough, same) = sym same ∙ ap (before done) (at_macro n ∙ ap (placed line (expanded_from ms n quoted line)) h)
 
           pub text_macro : (text next new : List ℕ) → replaced ms closer inside ≡ Ok (text, next) → done ++ text ≡ new → length next < length bytes → TextGoes quoted line done bytes whole → TextGoes quoted line new next whole
           text_macro text next new made more shorter (zero, enough, same) = absurd (omega arith)

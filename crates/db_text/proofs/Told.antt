@@ -1,5 +1,5 @@
 -- What the scan gives, as the tokens of the text.
-use Rattle.std.proofs.Common.{◌≡◌, ℕ, List, Option, Some, None, Result, Ok, Err, IfOk, refl, sym, ap, subst, ◌∙◌, Vec}
+use Rattle.std.proofs.Common.{◌≡◌, ℕ, List, Option, Some, Result, Ok, Err, IfOk, sym, ap, subst, ◌∙◌, Vec}
 use Rattle.db_text.specs.Cutting.{Cut, cut}
 use Rattle.db_text.specs.Faults.{CutsInto}
 use Rattle.db_text.specs.declared.fault.TextFault.{TextFault}

@@ -2,7 +2,7 @@
 use Rattle.std.specs.Prelude.{◌≡◌, ◌⊎◌, ℕ, ◌^◌, ◌<◌, List, length, Result, Ok, Err}
 use Rattle.std.specs.declared.vec.Vec.{Vec}
 use Rattle.db_text.specs.Macros.{Macros, MacroFault, unclosed, unknown, too_deep}
-use Rattle.db_text.specs.Expanding.{expanded}
+use Rattle.db_text.specs.Expansion.{ExpandsTo, Expanded}
 use Rattle.db_text.specs.Cutting.{Piece, bad, open_quotes}
 use Rattle.db_text.specs.Grammar.{Tokens, FirstFault}
 use Rattle.db_text.specs.declared.token.Token.{Token}
@@ -29,10 +29,10 @@ IsFaultOf (Unknown name) line fault = (fault ≡ UnknownMacro name.now line) ⊎
 
 -- A text is expanded, or its first fault is told; want of memory is free.
 abbrev pub Expands : Macros → List ℕ → Result (List ℕ) TextFault → Type 0
-Expands ms text (Ok plain) = (expanded ms text ≡ Ok plain) × (length plain < 2 ^ 32)
+Expands ms text (Ok plain) = Expanded ms text plain × (length plain < 2 ^ 32)
 Expands ms text (Err NoMemory) = Unit {0}
 Expands ms text (Err fault) =
-    (cause : MacroFault) × (line : ℕ) × (expanded ms text ≡ Err (cause, line)) × (fault ≡ macro_fault cause line)
+    (cause : MacroFault) × (line : ℕ) × ExpandsTo ms text (Err (cause, line)) × (fault ≡ macro_fault cause line)
 
 -- These are the tokens of a text, or this is its first fault; want of memory is free.
 abbrev pub CutsInto : {Z : Type 0} → List ℕ → Result (Vec Token Z) TextFault → Type 0

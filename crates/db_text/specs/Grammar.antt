@@ -1,6 +1,6 @@
 -- The grammar of a database text whose macros are replaced: pieces, each with the bytes that it is written with (EPICS
 -- IOC Application Developer's Guide, "Database Definition").
-use Rattle.std.specs.Prelude.{◌≡◌, ◌≢◌, ◌<◌, ◌≤◌, ℕ, zero, suc, ◌+◌, ◌-◌, Bool, true, false, ◌&&◌, ◌||◌, ◌==◌, List, [], ◌∷◌}
+use Rattle.std.specs.Prelude.{◌≡◌, ◌≢◌, ◌<◌, ◌≤◌, ℕ, suc, ◌+◌, ◌-◌, Bool, true, false, ◌&&◌, ◌||◌, ◌==◌, List, [], ◌∷◌}
 use Rattle.std.specs.Prelude.{◌++◌, length, map, take, drop, count_by, Option, Some, None, if◌then◌else◌}
 use Rattle.std.specs.Str.{bytes_eq}
 use Rattle.db_text.specs.Cutting.{is_word, is_key, is_mark, is_blank, escape, is_info}
@@ -170,8 +170,8 @@ abbrev pub ends_comma : List Word → Bool
 ends_comma [] = false
 ends_comma (w ∷ ws) = ends_name ws && (is_sign w.0 && bytes_eq w.1 (44 ∷ []))
 
--- A piece may stand behind these words, the last one first, and before these bytes. A bare word is as long as it can be;
--- behind `info(NAME,` a brace begins JSON.
+-- A piece may stand behind these words, the last one first, and before these bytes. A bare word is as long as it can
+-- be; behind `info(NAME,` a brace begins JSON.
 abbrev pub Fits : List Word → Piece → List ℕ → Type 0
 Fits done (blank b) after = is_blank b ≡ true
 Fits done (bare bs) after = IsRun is_word bs × Ends is_word after

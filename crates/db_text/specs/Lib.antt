@@ -5,3 +5,4 @@ pub mod Faults
 pub mod Cutting
 pub mod Plain
 pub mod Grammar
+pub mod Expansion

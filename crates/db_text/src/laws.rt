@@ -1,5 +1,6 @@
 // Laws of the definitions, each as the contract of a function that does nothing.
 ghost use Rattle.db_text.specs.Grammar.{OneCut, TokensAreSlices};
+ghost use Rattle.db_text.specs.Expansion.{LinesStay, OneExpansion};
 ghost use Rattle.db_text.specs.Plain.{PlainStays};
 
 /// A text without `$`, `#` and quotes is expanded to itself.
@@ -15,4 +16,14 @@ pub fn one_cut()
 /// Tokens rise, and each is its slice of the text.
 pub fn tokens_are_slices()
     ensures { TokensAreSlices }
+{}
+
+/// A text has one expansion or one first fault, and not both.
+pub fn one_expansion()
+    ensures { OneExpansion }
+{}
+
+/// Where no value ends a line, what a text makes has the lines of the text as given, at each of its places.
+pub fn lines_stay()
+    ensures { LinesStay }
 {}

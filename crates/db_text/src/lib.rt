@@ -14,6 +14,6 @@ mod token;
 pub use cutting::{cut, tokens};
 pub use expanding::expand;
 pub use fault::TextFault;
-pub use laws::{one_cut, plain_text_stays, tokens_are_slices};
+pub use laws::{lines_stay, one_cut, one_expansion, plain_text_stays, tokens_are_slices};
 pub use pvd_type::{Name, NoMemory};
 pub use token::{Token, TokenKind};
