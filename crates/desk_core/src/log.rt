@@ -102,7 +102,12 @@ impl Log {
 // One helper for each kind of mark. Its arguments are the parts of the mark, from which the caller picks it.
 
 /// Notes that a get of the channel of this site found its records as they are now.
-pub(crate) fn note_read<B: Picks>(log: &mut Log, _site: &Site, _channel: Channel, _cells: &Vec<RecState>)
+pub(crate) fn note_read<B: Picks>(
+    log: &mut Log,
+    _site: &Site,
+    _channel: Channel,
+    _cells: &Vec<RecState>,
+)
     requires { B.mark ≡ (λ at. marks.Read at _channel (footprint_of _site.now _channel) (found_in _cells.now.items (footprint_of _site.now _channel))) }
     ensures { log.new ≡ with_mark log.old (λ at. marks.Read at _channel (footprint_of _site.now _channel) (found_in _cells.now.items (footprint_of _site.now _channel))) }
 {

@@ -14,7 +14,8 @@ ghost use Rattle.rec_kinds.specs.Validity.{IsValid, MayBeDone};
 use crate::draft::{Draft, draft_of};
 use crate::log::{Log, Terms, note_entered, note_overweight, note_read};
 use desk_api::{
-    Channel, ChannelKind, Desk, Done, Moment, NoMemory, PutAnswer, PutRefusal, PvType, PvValue, RecState, Site,
+    Channel, ChannelKind, Desk, Done, Moment, NoMemory, PutAnswer, PutRefusal, PvType, PvValue,
+    RecState, Site,
 };
 use journal_core::{History, weight};
 use pvd_type::BitSet;
