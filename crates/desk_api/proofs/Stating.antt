@@ -23,11 +23,11 @@ pub records_new : (taken : List (List ℕ)) (tokens : List Token) (rs : List Rec
 records_new taken tokens [] is = tt
 records_new taken tokens (r ∷ rs) is =
     let form = is.1 in
-    let good = is.4 in
-    let name : r.name ≡ form.name.text = ap (λ (x : RecText). x.name) is.5 in (
+    let good = is.4.head_is in
+    let name : r.name ≡ form.head.name.text = ap (λ (x : RecText). x.name) is.5 in (
       subst (λ (n : List ℕ). IsTrue (is_record_name n)) (sym name) good.name_may,
       subst (λ (n : List ℕ). is_among n taken ≡ false) (sym name) good.name_new,
-      subst (λ (n : List ℕ). AreNew (n ∷ taken) rs) (sym name) (records_new (form.name.text ∷ taken) is.2 rs is.6),
+      subst (λ (n : List ℕ). AreNew (n ∷ taken) rs) (sym name) (records_new (form.head.name.text ∷ taken) is.2 rs is.6),
     )
 
 -- the name of each is none of those before it
