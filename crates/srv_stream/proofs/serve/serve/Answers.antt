@@ -34,8 +34,8 @@ returns-in-Err-clause-fault g c =
 pub read_some-requires : goal.read_some-requires
 read_some-requires g c = open_on_site c.turns.invariant.standing c.in-Read.ensures.0.over_is
 
-pub turns-preserved-in-Ok-read_some : goal.turns-preserved-in-Ok-read_some
-turns-preserved-in-Ok-read_some g c =
+pub turns-preserved : goal.turns-preserved
+turns-preserved g c =
     let x = c.in-Read.ensures.0 in record {
       within = omega (arith, c.in-Read.ensures.1);
       standing = read_on (idling c.turns.invariant.standing x.written x.over_is) (g.L.Link.wire c.read_some.new.link) (g.D.Desk.seat c.read_some.new.desk) (view_of c.read_some.new.serving) c.in-Ok-read_some.found c.in-Ok-read_some.ensures;
