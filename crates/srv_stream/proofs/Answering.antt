@@ -15,7 +15,7 @@ use Rattle.srv_stream.specs.Calls.{Shown, site_of, Handled, GaveUp, Responds, St
 use Rattle.srv_stream.specs.State.{State}
 use Rattle.srv_stream.specs.Steps.{Step, IsStep, after_step, bytes_of, PartOf, NextPart}
 use Rattle.srv_stream.specs.Turns.{Hearing, not_built, unreadable, heard}
-use Rattle.srv_stream.specs.Streams.{View, stop_at, stop_of, stop_as, Answered, Unanswered, PartAnswered, AnswersErr, Answers, Passed, FedUpTo, FedPart, FedErr}
+use Rattle.srv_stream.specs.Streams.{View, stop_at, stop_of, stop_as, AnsweredEvent, UnansweredEvent, PartOfEvent, AnswersEventErr, AnswersEvent, Passed, FedUpTo, FedPart, FedErr}
 use Rattle.srv_stream.specs.declared.turn.SessionStop.{SessionStop}
 use Rattle.srv_stream.specs.declared.turn.SessionStop.TheVariants as stops
 use Rattle.srv_stream.specs.declared.ended.Ended.{Ended}
@@ -29,7 +29,7 @@ use Rattle.journal_core.specs.Moments.{Moment}
 abbrev pub behind : Shown → Assembled → View
 behind x stream = record { state = x.state; stream = stream; pending = x.output }
 
-pub answered : (old new : Shown) (moment : Moment) (e : Event) (stream : Assembled) → Handled old new moment e → Answered old.seat new.seat moment (behind old stream) (behind new stream) e
+pub answered : (old new : Shown) (moment : Moment) (e : Event) (stream : Assembled) → Handled old new moment e → AnsweredEvent old.seat new.seat moment (behind old stream) (behind new stream) e
 answered old new moment e stream x = record {
   step = record { event = e; marks = x.marks; sent = x.sent };
   rule = x.answers;
@@ -42,20 +42,20 @@ answered old new moment e stream x = record {
 }
 
 part_answered : (old new : Shown) (moment : Moment) (e : Event) (stream : Assembled) → GaveUp old new moment (PartOf (site_of old) old.state (heard (site_of old) old.state e))
-    → PartAnswered old.seat new.seat moment (behind old stream) (behind new stream) e
+    → PartOfEvent old.seat new.seat moment (behind old stream) (behind new stream) e
 part_answered old new moment e stream x = record { marks = x.marks; part = x.part_is; adds = x.adds; moments = x.moments; out = x.output }
 
 unanswered : (old new : Shown) (m : Whole) (hearing : Hearing) (ended : Ended) (stream : Assembled) → Stopped old new (Message m) hearing → stop_at m hearing ≡ Some ended
-    → Unanswered old.seat new.seat (behind old stream) (behind new stream) (Message m) ended
+    → UnansweredEvent old.seat new.seat (behind old stream) (behind new stream) (Message m) ended
 unanswered old new m hearing ended stream x is = record { seat = x.seat; stop = ap (stop_at m) x.heard_is ∙ is; out = x.output }
 
 -- a control message was answered, or memory ran out
-pub control_answers : (old new : Shown) (moment : Moment) (e : Event) (stream : Assembled) (no_memory : NoMemory) → Responds old new moment e (Err no_memory) → Answers old.seat new.seat moment (behind old stream) (behind new stream) e (Err ends.NoMemory)
+pub control_answers : (old new : Shown) (moment : Moment) (e : Event) (stream : Assembled) (no_memory : NoMemory) → Responds old new moment e (Err no_memory) → AnswersEvent old.seat new.seat moment (behind old stream) (behind new stream) e (Err ends.NoMemory)
 control_answers old new moment e stream no_memory x = part_answered old new moment e stream x
 
 -- a message wasn't
 pub message_stops : (old new : Shown) (moment : Moment) (m : Whole) (stream : Assembled) (stop : SessionStop) → Handles old new moment (Message m) (Err stop)
-    → Answers old.seat new.seat moment (behind old stream) (behind new stream) (Message m) (Err (stop_as m.command m.place stop))
+    → AnswersEvent old.seat new.seat moment (behind old stream) (behind new stream) (Message m) (Err (stop_as m.command m.place stop))
 message_stops old new moment m stream stops.NotBuilt x = unanswered old new m not_built (ends.NotBuilt m.command m.place) stream x refl
 message_stops old new moment m stream (stops.Message fault) x = unanswered old new m (unreadable fault) _ stream x refl
 message_stops old new moment m stream stops.NoMemory x = part_answered old new moment (Message m) stream x
@@ -63,7 +63,7 @@ message_stops old new moment m stream stops.NoMemory x = part_answered old new m
 module _ {old mid : Seat} {moment : Moment} {v u : View} {xs : List ℕ} (a : Passed old mid (Some moment) v u xs) where
   -- the next event was answered; before, the stream had it in front
   pub ready_answered : {new : Seat} (v1 w : View) (e : Event) → u.stream.events ≡ e ∷ v1.stream.events → v1.stream.left ≡ u.stream.left → v1.state ≡ u.state → v1.pending ≡ u.pending
-      → Answered mid new moment v1 w e → Passed old new (Some moment) v w xs
+      → AnsweredEvent mid new moment v1 w e → Passed old new (Some moment) v w xs
   ready_answered v1 w e events left state pending x =
       passed_step a w x.step
       (subst (λ (s : State). IsStep mid.seen.base.site s x.step) state x.rule)
@@ -74,12 +74,12 @@ module _ {old mid : Seat} {moment : Moment} {v u : View} {xs : List ℕ} (a : Pa
       (x.out ∙ ap (λ (z : List ℕ). z ++ bytes_of v1.state x.step) pending ∙ ap (λ (s : State). u.pending ++ bytes_of s x.step) state)
 
   ready_stopped : {new : Seat} (v1 w : View) (ys : List ℕ) (e : Event) (ended : Ended) → u.stream.events ≡ e ∷ v1.stream.events → v1.state ≡ u.state → v1.pending ≡ u.pending
-      → Unanswered mid new v1 w e ended → FedUpTo old new (Some moment) v w (xs ++ ys) ended
+      → UnansweredEvent mid new v1 w e ended → FedUpTo old new (Some moment) v w (xs ++ ys) ended
   ready_stopped v1 w ys e ended events state pending x =
       fed_stopped a w ys e v1.stream.events ended events (subst (λ (s : State). stop_of mid.seen.base.site s e ≡ Some ended) state x.stop) x.seat (x.out ∙ pending)
 
   ready_part : {new : Seat} (v1 w : View) (ys : List ℕ) (e : Event) → u.stream.events ≡ e ∷ v1.stream.events → v1.state ≡ u.state → v1.pending ≡ u.pending
-      → PartAnswered mid new moment v1 w e → FedPart old new (Some moment) v w (xs ++ ys)
+      → PartOfEvent mid new moment v1 w e → FedPart old new (Some moment) v w (xs ++ ys)
   ready_part v1 w ys e events state pending x =
       fed_part a w ys x.marks
       (subst (λ (l : List Event). NextPart mid.seen.base.site u.state l x.marks) (sym events) (subst (λ (s : State). PartOf mid.seen.base.site s (heard mid.seen.base.site s e) x.marks) state x.part))
@@ -87,7 +87,7 @@ module _ {old mid : Seat} {moment : Moment} {v u : View} {xs : List ℕ} (a : Pa
 
   -- the next event wasn't answered, whatever bytes follow
   pub ready_err : (new : Seat) (v1 w : View) (ys : List ℕ) (e : Event) (ended : Ended) → u.stream.events ≡ e ∷ v1.stream.events → v1.state ≡ u.state → v1.pending ≡ u.pending
-      → AnswersErr mid new moment v1 w e ended → FedErr old new (Some moment) v w (xs ++ ys) ended
+      → AnswersEventErr mid new moment v1 w e ended → FedErr old new (Some moment) v w (xs ++ ys) ended
   ready_err new v1 w ys e (ends.Bad fault place) events state pending x = ready_stopped v1 w ys e (ends.Bad fault place) events state pending x
   ready_err new v1 w ys e (ends.NotBuilt command place) events state pending x = ready_stopped v1 w ys e (ends.NotBuilt command place) events state pending x
   ready_err new v1 w ys e ends.NoMemory events state pending x = ready_part v1 w ys e events state pending x

@@ -24,7 +24,7 @@ use Rattle.srv_stream.specs.Turns.{Hearing, asks, not_built, unreadable, heard}
 use Rattle.srv_stream.specs.Steps.{Step, AreSteps, state_after, events_of, marks_of, out_of}
 use Rattle.srv_stream.specs.Streams.{stop_at, stop_of, refused, Stands, View}
 use Rattle.srv_stream.specs.Moves.{Moves}
-use Rattle.srv_stream.specs.Served.{Whole, IsProperPrefixOf, AtEnd, AtTrouble, DueRead, AllInTurn, IsSmooth, Completes, Answers, Served}
+use Rattle.srv_stream.specs.Served.{Whole, IsProperPrefixOf, AtEnd, AtTrouble, DueRead, AllInTurn, IsSmooth, Completes, HasCause, Served}
 use Rattle.srv_stream.specs.declared.ended.Ended.{Ended}
 use Rattle.srv_stream.specs.declared.ended.Ended.TheVariants as ends
 use Rattle.srv_stream.proofs.Going.{Going, Idling, SawEnd}
@@ -58,13 +58,13 @@ no_trouble {site} {order} {start} {end} {turns} {read} {written} {log} {out} {en
     i.whole w.stands
 
 completes : (site : SiteData) (order : Order) (start end : Wire) (turns : ℕ) (read written : List ℕ) (log : List Mark) (result : Ended)
-    → Answers site order start end turns read written log result → Completes site order start end turns read written log result
+    → HasCause site order start end turns read written log result → Completes site order start end turns read written log result
 completes site order start end turns read written log ends.Closed a i = inl refl
 completes site order start end turns read written log (ends.Truncated place) a i = absurd (none-some place (sym (sym a.rest_is ∙ i.whole)))
 completes site order start end turns read written log (ends.Bad fault place) a i = absurd (no_trouble i a.whole)
 completes site order start end turns read written log (ends.NotBuilt command place) a i = absurd (no_trouble i a.whole)
-completes site order start end turns read written log ends.ReadFault a i = absurd (i.faults (subst (λ (z : ℕ). Rose z end.faults) a.fault.faults a.fault.call.faults))
-completes site order start end turns read written log ends.WriteFault a i = absurd (i.faults (subst (λ (z : ℕ). Rose z end.faults) a.fault.faults a.fault.call.faults))
+completes site order start end turns read written log ends.ReadFault a i = absurd (i.faults a.faults)
+completes site order start end turns read written log ends.WriteFault a i = absurd (i.faults a.faults)
 completes site order start end turns read written log (ends.Spent calls) a i = let bound = a.bound i.idles in absurd (omega (arith, a.all, i.turns_))
 completes site order start end turns read written log ends.NoMemory a i = inr refl
 
@@ -102,7 +102,7 @@ module _ {old new : Seat} {start wire : Wire} {told : Option Moment} {order : Or
   short some = record { rest = v.pending; whole = a.bytes; some = some }
 
   -- the clause, by its answer, where the link is now in another state
-  served : (turns : ℕ) (end : Wire) (result : Ended) → Moves start end a.read a.written → Answers old.seen.base.site order start end turns a.read a.written (marks_of a.steps) result
+  served : (turns : ℕ) (end : Wire) (result : Ended) → Moves start end a.read a.written → HasCause old.seen.base.site order start end turns a.read a.written (marks_of a.steps) result
       → Served old new start end told order turns result
   served turns end result moves answer = record {
     log = marks_of a.steps;
@@ -124,7 +124,7 @@ module _ {old new : Seat} {start wire : Wire} {told : Option Moment} {order : Or
         trouble = trouble;
         whole = whole (greeting order ++ out_of site (opening order) a.steps) refl;
         short = short some;
-        fault = record { before = wire; faults = a.faults; call = x };
+        faults = subst (λ (z : ℕ). Rose z end.faults) a.faults x.faults;
       })
 
   -- the turns are spent, and something is to be written
@@ -169,7 +169,7 @@ module _ {old new : Seat} {start wire : Wire} {told : Option Moment} {order : Or
       served a turns end ends.ReadFault (moves_rest a.moves x.rests) (record {
         whole = whole a a.written (complete a i.empty);
         ends = x.ends ∙ a.ends;
-        fault = record { before = wire; faults = a.faults; call = x };
+        faults = subst (λ (z : ℕ). Rose z end.faults) a.faults x.faults;
       })
 
   -- the turns are spent, and a read is due
@@ -191,7 +191,7 @@ not_met true a b never saw = absurd (never refl)
 not_met false a b never saw = saw
 
 by_stop : (base : SiteData) (order : Order) (start wire : Wire) (turns : ℕ) (read written : List ℕ) (log : List Mark) (ended : Ended) → is_stop ended ≡ true
-    → AtTrouble base order start wire read written log ended → Answers base order start wire turns read written log ended
+    → AtTrouble base order start wire read written log ended → HasCause base order start wire turns read written log ended
 by_stop base order start wire turns read written log (ends.Bad fault place) stops x = x
 by_stop base order start wire turns read written log (ends.NotBuilt command place) stops x = x
 by_stop base order start wire turns read written log ends.Closed stops x = absurd (false≢true stops)

@@ -1,10 +1,10 @@
 -- A connection on its way.
 use Rattle.std.proofs.Common.{◌≡◌, ℕ, ◌+◌, ◌<◌, ◌≤◌, ◌^◌, ◌⊎◌, Bool, true, false, List, [], ◌++◌, length, Option, None, Some, Ok}
-use Rattle.std.specs.Prelude.{if◌then◌else◌}
+use Rattle.std.specs.Prelude.{if◌then◌else◌, ⊤}
 use Rattle.pva_outside.specs.Count.{Rose}
 use Rattle.pva_outside.specs.Wire.{Wire}
 use Rattle.pva_wire.specs.declared.order.Order.{Order}
-use Rattle.pva_frames.specs.Assembled.{Assembled, opening as unread, fed}
+use Rattle.pva_frames.specs.Assembled.{Assembled, opening as unread, fed, rest_of}
 use Rattle.desk_api.specs.Calls.{Adds, HaveMoment}
 use Rattle.desk_api.specs.declared.history.SiteData.{SiteData}
 use Rattle.desk_api.specs.declared.mark.Mark.{Mark}
@@ -16,6 +16,7 @@ use Rattle.srv_stream.specs.Streams.{View, Follows}
 use Rattle.srv_stream.specs.Moves.{Moves, IsAll}
 use Rattle.srv_stream.specs.Served.{Settled}
 use Rattle.srv_stream.specs.declared.ended.Ended.{Ended}
+use Rattle.srv_stream.specs.declared.ended.Ended.TheVariants as ends
 use Rattle.journal_core.specs.Moments.{Moment}
 
 -- the end was met, or not
@@ -50,3 +51,28 @@ pub record Going (old new : Seat) (start wire : Wire) (told : Option Moment) (or
 pub record Idling (old new : Seat) (start wire : Wire) (told : Option Moment) (order : Order) (v : View) (trouble : Option Ended) (at_end : Bool) (calls : ℕ) : Type 0 where
   pub going : Going old new start wire told order v trouble at_end calls
   pub empty : v.pending ≡ []
+
+-- How it ends once all is written: what is wrong in the stream, or that the end was met.
+
+abbrev pub trouble_of : Option Ended → Option Ended
+trouble_of None = None
+trouble_of (Some ends.Closed) = None
+trouble_of (Some (ends.Truncated place)) = None
+trouble_of (Some ended) = Some ended
+
+abbrev pub is_met : Option Ended → Bool
+is_met None = false
+is_met (Some ends.Closed) = true
+is_met (Some (ends.Truncated place)) = true
+is_met (Some ended) = false
+
+abbrev pub RestIs : Option Ended → Option ℕ → Type 0
+RestIs None rest = ⊤
+RestIs (Some ends.Closed) rest = rest ≡ None
+RestIs (Some (ends.Truncated place)) rest = rest ≡ Some place
+RestIs (Some ended) rest = ⊤
+
+-- a connection that ends so once all is written, or goes on
+pub record Standing (old new : Seat) (start wire : Wire) (told : Option Moment) (order : Order) (v : View) (over : Option Ended) (calls : ℕ) : Type 0 where
+  pub going : Going old new start wire told order v (trouble_of over) (is_met over) calls
+  pub rest : RestIs over (rest_of v.stream.left)

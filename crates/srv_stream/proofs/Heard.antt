@@ -7,7 +7,9 @@ use Rattle.std.specs.Prelude.{IsErrAnd, option_map}
 use Rattle.std.specs.FinSet.{FinSet}
 use Rattle.std.specs.Ordering.{nat_cmp}
 use Rattle.pva_wire.specs.declared.order.Order.{Order}
+use Rattle.std.specs.Global.{Vec}
 use Rattle.pvd_value.specs.Data.{Data}
+use Rattle.pvd_value.specs.declared.value.PvValue.{PvValue}
 use Rattle.pvd_desc.specs.Types.{Types}
 use Rattle.pvd_codec.specs.Faults.{fault_at, IsFaultOf}
 use Rattle.pvd_codec.specs.Reading.{Read, State as Source, part_at}
@@ -24,6 +26,7 @@ use Rattle.pva_messages.specs.Requests as request
 use Rattle.pva_messages.specs.Requests.{Request}
 use Rattle.pva_messages.specs.Views.{put_part_view, request_view}
 use Rattle.pva_messages.specs.declared.to_server.ToServer.{ToServer}
+use Rattle.pva_messages.specs.declared.to_server.ToServer.TheVariants.{Validation, Echo, Create, DestroyChannel, Get, Put, PutGet, Monitor, DestroyRequest, Cancel, GetField, Message, Rpc, Skipped}
 use Rattle.pva_messages.specs.declared.fault.MessageFault.{MessageFault}
 use Rattle.pva_messages.specs.declared.part.PutPart as put_parts
 use Rattle.pva_messages.specs.declared.part.PutPart.TheVariants.{Absent, Unread, Given}
@@ -95,6 +98,28 @@ told_same site s whole known r x is = ap (λ (z : ToServer). heard_message site 
 pub told_as : (site : SiteData) (s : State) (whole : Whole) (types known : Types) (result : Result told.Turn SessionStop) (r x : ToServer) → r ≡ x → Hears types result (heard_message site s whole known (request_view x))
     → Hears types result (heard_message site s whole known (request_view r))
 told_as site s whole types known result r x is h = subst (λ (z : ToServer). Hears types result (heard_message site s whole known (request_view z))) (sym is) h
+
+-- what has no arm isn't served so far
+pub told_unserved : (site : SiteData) (s : State) (whole : Whole) (known : Types) (r : ToServer)
+    → ((buffer registry qos : ℕ) (method : List ℕ) (argument : Option (Tree × PvValue)) → r ≡ Validation buffer registry qos method argument → ⊥)
+    → ((bytes : Vec ℕ) → r ≡ Echo bytes → ⊥) → ((channels : Vec (ℕ × List ℕ)) → r ≡ Create channels → ⊥)
+    → ((sid req sub : ℕ) (v : Option (Tree × PvValue)) → r ≡ Get sid req sub v → ⊥)
+    → ((sid req sub : ℕ) (v : Option (Tree × PvValue)) (part : put_parts.PutPart) → r ≡ Put sid req sub v part → ⊥)
+    → ((command : ℕ) → r ≡ Skipped command → ⊥) → heard_message site s whole known (request_view r) ≡ not_built
+told_unserved site s whole known (Validation buffer registry qos method argument) a b c d e f = absurd (a buffer registry qos method argument refl)
+told_unserved site s whole known (Echo bytes) a b c d e f = absurd (b bytes refl)
+told_unserved site s whole known (Create channels) a b c d e f = absurd (c channels refl)
+told_unserved site s whole known (Get sid req sub v) a b c d e f = absurd (d sid req sub v refl)
+told_unserved site s whole known (Put sid req sub v part) a b c d e f = absurd (e sid req sub v part refl)
+told_unserved site s whole known (Skipped command) a b c d e f = absurd (f command refl)
+told_unserved site s whole known (DestroyChannel sid cid) a b c d e f = refl
+told_unserved site s whole known (PutGet sid req sub v part) a b c d e f = refl
+told_unserved site s whole known (Monitor sid req sub v count) a b c d e f = refl
+told_unserved site s whole known (DestroyRequest sid req) a b c d e f = refl
+told_unserved site s whole known (Cancel sid req) a b c d e f = refl
+told_unserved site s whole known (GetField sid req path) a b c d e f = refl
+told_unserved site s whole known (Message req kind text) a b c d e f = refl
+told_unserved site s whole known (Rpc sid req sub argument) a b c d e f = refl
 
 -- An echo is all of its payload, and is always heard.
 echo_at : (order : Order) (payload : List ℕ) (types : Types) → request_at order None 2 (payload, types) ≡ Ok (request.echo payload, ([], types))

@@ -14,5 +14,6 @@ mod Answering
 mod Going
 mod GoingOn
 pub mod Ending
+mod Turns
 mod Determined
 mod Told

@@ -9,7 +9,7 @@ use Rattle.desk_api.specs.declared.history.SiteData.{SiteData}
 use Rattle.desk_api.specs.declared.mark.Mark.{Mark}
 use Rattle.srv_stream.specs.State.{opening}
 use Rattle.srv_stream.specs.Rows.{greeting}
-use Rattle.srv_stream.specs.Served.{Dialogue, IsProperPrefixOf, DueRead, Answers}
+use Rattle.srv_stream.specs.Served.{Dialogue, IsProperPrefixOf, DueRead, HasCause}
 use Rattle.srv_stream.specs.Laws.{OneOutput, TellsEnd, AnEndIsTold}
 use Rattle.srv_stream.specs.declared.ended.Ended.{Ended}
 use Rattle.srv_stream.specs.declared.ended.Ended.TheVariants as ends

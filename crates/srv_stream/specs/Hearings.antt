@@ -15,7 +15,7 @@ use Rattle.desk_api.specs.Types.{type_of, HoldsLeaves}
 use Rattle.desk_api.specs.declared.channel.Channel.{Channel}
 use Rattle.desk_api.specs.declared.history.SiteData.{SiteData}
 use Rattle.srv_stream.specs.State.{State}
-use Rattle.srv_stream.specs.Turns.{Turn, pass_over, echo_control, validate, echo, create, begin_get, begin_put, get, put, mistake, Hearing, asks, not_built, unreadable}
+use Rattle.srv_stream.specs.Turns.{Turn, pass_over, validate, echo, create, begin_get, begin_put, get, put, mistake, Hearing, asks, not_built, unreadable}
 use Rattle.srv_stream.specs.declared.turn.Turn as heard
 use Rattle.srv_stream.specs.declared.turn.Turn.TheVariants as turns
 use Rattle.srv_stream.specs.declared.turn.Putting.{Putting}
@@ -27,7 +27,6 @@ putting asked = put asked.req asked.channel asked.mask (view asked.value)
 
 abbrev pub turn_view : heard.Turn → Turn
 turn_view turns.PassOver = pass_over
-turn_view (turns.EchoControl number) = echo_control number
 turn_view (turns.Validate buffer) = validate buffer
 turn_view (turns.Echo payload) = echo payload.now
 turn_view (turns.Create cid name) = create cid name

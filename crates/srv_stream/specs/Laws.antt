@@ -5,7 +5,7 @@ use Rattle.pva_wire.specs.declared.order.Order.{Order}
 use Rattle.pva_frames.specs.declared.event.Event.{Event}
 use Rattle.desk_api.specs.declared.history.SiteData.{SiteData}
 use Rattle.desk_api.specs.declared.mark.Mark.{Mark}
-use Rattle.srv_stream.specs.Served.{Dialogue, IsProperPrefixOf, Answers}
+use Rattle.srv_stream.specs.Served.{Dialogue, IsProperPrefixOf, HasCause}
 use Rattle.srv_stream.specs.declared.ended.Ended.{Ended}
 use Rattle.srv_stream.specs.declared.ended.Ended.TheVariants as ends
 
@@ -16,7 +16,7 @@ OneOutput = (site : SiteData) (order : Order) (events : List Event) (marks : Lis
 
 -- the answer tells the end, memory ran out, or not all was written
 abbrev pub TellsEnd : (site : SiteData) (order : Order) (start end : Wire) (turns : ℕ) (read written : List ℕ)
-    (log : List Mark) (result : Ended) → Answers site order start end turns read written log result → Type 0
+    (log : List Mark) (result : Ended) → HasCause site order start end turns read written log result → Type 0
 TellsEnd site order start end turns read written log ends.Closed a = ⊤
 TellsEnd site order start end turns read written log (ends.Truncated place) a = ⊤
 TellsEnd site order start end turns read written log (ends.Bad fault place) a = ⊥
@@ -29,5 +29,5 @@ TellsEnd site order start end turns read written log (ends.Spent calls) a = IsPr
 -- Where the end of the stream was met, an answer that doesn't tell it leaves something unwritten.
 abbrev pub AnEndIsTold : Type 0
 AnEndIsTold = (site : SiteData) (order : Order) (start end : Wire) (turns : ℕ) (read written : List ℕ)
-    (log : List Mark) (result : Ended) (a : Answers site order start end turns read written log result)
+    (log : List Mark) (result : Ended) (a : HasCause site order start end turns read written log result)
     → start.ends < end.ends → TellsEnd site order start end turns read written log result a

@@ -1,7 +1,7 @@
 -- What serving one connection means.
 use Rattle.std.specs.Prelude.{◌≡◌, ℕ, ◌+◌, ◌<◌, ◌≤◌, ◌^◌, ◌⊎◌, List, [], ◌∷◌, ◌++◌, length, Option, None, Some}
 use Rattle.pva_outside.specs.Count.{Rose}
-use Rattle.pva_outside.specs.Wire.{Wire, Failed}
+use Rattle.pva_outside.specs.Wire.{Wire}
 use Rattle.pva_wire.specs.declared.order.Order.{Order}
 use Rattle.pva_frames.specs.Messages.{events_from, left_from}
 use Rattle.pva_frames.specs.Assembled.{rest_from}
@@ -20,8 +20,10 @@ use Rattle.srv_stream.specs.declared.ended.Ended.{Ended}
 use Rattle.srv_stream.specs.declared.ended.Ended.TheVariants as ends
 use Rattle.journal_core.specs.Moments.{Moment}
 
--- A dialogue that goes on: on this site, in this byte order, these events and marks give these bytes, the greeting first.
-pub record Talk (site : SiteData) (order : Order) (events : List Event) (marks : List Mark) (out : List ℕ) : Type 0 where
+-- A dialogue that goes on: on this site, in this byte order, these events and marks give these bytes, the greeting
+-- first.
+pub record Talk (site : SiteData) (order : Order) (events : List Event) (marks : List Mark)
+    (out : List ℕ) : Type 0 where
   pub steps : List Step
   pub rules : AreSteps site (opening order) steps
   pub events_are : events_of steps ≡ events
@@ -29,7 +31,8 @@ pub record Talk (site : SiteData) (order : Order) (events : List Event) (marks :
   pub out_is : greeting order ++ out_of site (opening order) steps ≡ out
 
 -- A dialogue that has ended: its last marks end the subscriptions, and give no bytes.
-pub record Dialogue (site : SiteData) (order : Order) (events : List Event) (marks : List Mark) (out : List ℕ) : Type 0 where
+pub record Dialogue (site : SiteData) (order : Order) (events : List Event) (marks : List Mark)
+    (out : List ℕ) : Type 0 where
   pub said : List Mark
   pub endings : List Mark
   pub talk : Talk site order events said out
@@ -37,12 +40,14 @@ pub record Dialogue (site : SiteData) (order : Order) (events : List Event) (mar
   pub ends : AreEndings (state_after site (opening order) talk.steps) endings
 
 -- The dialogue of the bytes that were read: of all their events, or of those before the first trouble.
-pub record Whole (site : SiteData) (order : Order) (read : List ℕ) (log : List Mark) (out : List ℕ) (trouble : Option Ended) : Type 0 where
+pub record Whole (site : SiteData) (order : Order) (read : List ℕ) (log : List Mark) (out : List ℕ)
+    (trouble : Option Ended) : Type 0 where
   pub events : List Event
   pub remaining : List Event
   pub all : events_from 0 None read ≡ events ++ remaining
   pub dialogue : Dialogue site order events log out
-  pub stands : Stands site (state_after site (opening order) dialogue.talk.steps) remaining (left_from 0 None read) trouble
+  pub stands : Stands site (state_after site (opening order) dialogue.talk.steps) remaining (left_from 0 None read)
+      trouble
 
 -- What is written begins with the output of a dialogue of all that was read but the last piece, of at most 4,096 bytes.
 pub record Settled (site : SiteData) (order : Order) (read written : List ℕ) (log : List Mark) : Type 0 where
@@ -65,7 +70,8 @@ pub record IsProperPrefixOf (xs ys : List ℕ) : Type 0 where
 -- The answers.
 
 -- the end of the stream was met: all was read, and all replies were written
-pub record AtEnd (site : SiteData) (order : Order) (start end : Wire) (read written : List ℕ) (log : List Mark) (rest : Option ℕ) : Type 0 where
+pub record AtEnd (site : SiteData) (order : Order) (start end : Wire) (read written : List ℕ) (log : List Mark)
+    (rest : Option ℕ) : Type 0 where
   pub whole : Whole site order read log written None
   pub rest_is : rest_from 0 None read ≡ rest
   pub all : IsAll start.left read
@@ -73,28 +79,27 @@ pub record AtEnd (site : SiteData) (order : Order) (start end : Wire) (read writ
   pub faults : end.faults ≡ start.faults
 
 -- a header is refused, or an event isn't in turn: all replies before it were written
-pub record AtTrouble (site : SiteData) (order : Order) (start end : Wire) (read written : List ℕ) (log : List Mark) (ended : Ended) : Type 0 where
+pub record AtTrouble (site : SiteData) (order : Order) (start end : Wire) (read written : List ℕ) (log : List Mark)
+    (ended : Ended) : Type 0 where
   pub whole : Whole site order read log written (Some ended)
   pub ends : end.ends ≡ start.ends
   pub faults : end.faults ≡ start.faults
 
--- One call of the link failed, the first: before it no fault was counted.
-pub record FirstFault (start end : Wire) : Type 0 where
-  pub before : Wire
-  pub faults : before.faults ≡ start.faults
-  pub call : Failed before end
+-- The link counted a fault. That it was the first is said over the links themselves (`EndsAtFirstFault`).
 
-pub record AtReadFault (site : SiteData) (order : Order) (start end : Wire) (read written : List ℕ) (log : List Mark) : Type 0 where
+pub record AtReadFault (site : SiteData) (order : Order) (start end : Wire) (read written : List ℕ)
+    (log : List Mark) : Type 0 where
   pub whole : Whole site order read log written None
   pub ends : end.ends ≡ start.ends
-  pub fault : FirstFault start end
+  pub faults : Rose start.faults end.faults
 
-pub record AtWriteFault (site : SiteData) (order : Order) (start end : Wire) (read written : List ℕ) (log : List Mark) : Type 0 where
+pub record AtWriteFault (site : SiteData) (order : Order) (start end : Wire) (read written : List ℕ)
+    (log : List Mark) : Type 0 where
   pub out : List ℕ
   pub trouble : Option Ended
   pub whole : Whole site order read log out trouble
   pub short : IsProperPrefixOf written out
-  pub fault : FirstFault start end
+  pub faults : Rose start.faults end.faults
 
 -- a further read was due: all was written, nothing is wrong and the end isn't met
 pub record DueRead (start end : Wire) (written out : List ℕ) (trouble : Option Ended) : Type 0 where
@@ -103,7 +108,8 @@ pub record DueRead (start end : Wire) (written out : List ℕ) (trouble : Option
   pub ends : end.ends ≡ start.ends
 
 -- the turns were spent, and a further call was due: to write what is left, or to read
-pub record AtSpent (site : SiteData) (order : Order) (start end : Wire) (turns : ℕ) (read written : List ℕ) (log : List Mark) (calls : ℕ) : Type 0 where
+pub record AtSpent (site : SiteData) (order : Order) (start end : Wire) (turns : ℕ) (read written : List ℕ)
+    (log : List Mark) (calls : ℕ) : Type 0 where
   pub out : List ℕ
   pub trouble : Option Ended
   pub whole : Whole site order read log out trouble
@@ -112,9 +118,10 @@ pub record AtSpent (site : SiteData) (order : Order) (start end : Wire) (turns :
   pub bound : end.idles + 1 < 2 ^ 64 → start.idles + calls ≤ end.idles + length read + length written + 1
   pub faults : end.faults ≡ start.faults
 
--- Memory ran out: some events were answered, and marks of the row of the next, where it is in turn, may stand before the
--- endings. These are of the state that those marks leave.
-pub record AtNoMemory (site : SiteData) (order : Order) (start end : Wire) (read written : List ℕ) (log : List Mark) : Type 0 where
+-- Memory ran out: some events were answered, and marks of the row of the next, where it is in turn, may stand before
+-- the endings. These are of the state that those marks leave.
+pub record AtNoMemory (site : SiteData) (order : Order) (start end : Wire) (read written : List ℕ)
+    (log : List Mark) : Type 0 where
   pub events : List Event
   pub said : List Mark
   pub more : List Mark
@@ -128,24 +135,31 @@ pub record AtNoMemory (site : SiteData) (order : Order) (start end : Wire) (read
   pub begins : IsPrefixOf written out
   pub faults : end.faults ≡ start.faults
 
-abbrev pub Answers : SiteData → Order → Wire → Wire → ℕ → List ℕ → List ℕ → List Mark → Ended → Type 0
-Answers site order start end turns read written log ends.Closed = AtEnd site order start end read written log None
-Answers site order start end turns read written log (ends.Truncated place) = AtEnd site order start end read written log (Some place)
-Answers site order start end turns read written log (ends.Bad fault place) = AtTrouble site order start end read written log (ends.Bad fault place)
-Answers site order start end turns read written log (ends.NotBuilt command place) = AtTrouble site order start end read written log (ends.NotBuilt command place)
-Answers site order start end turns read written log ends.ReadFault = AtReadFault site order start end read written log
-Answers site order start end turns read written log ends.WriteFault = AtWriteFault site order start end read written log
-Answers site order start end turns read written log (ends.Spent calls) = AtSpent site order start end turns read written log calls
-Answers site order start end turns read written log ends.NoMemory = AtNoMemory site order start end read written log
+abbrev pub HasCause : SiteData → Order → Wire → Wire → ℕ → List ℕ → List ℕ → List Mark → Ended → Type 0
+HasCause site order start end turns read written log ends.Closed = AtEnd site order start end read written log None
+HasCause site order start end turns read written log (ends.Truncated place) =
+    AtEnd site order start end read written log (Some place)
+HasCause site order start end turns read written log (ends.Bad fault place) =
+    AtTrouble site order start end read written log (ends.Bad fault place)
+HasCause site order start end turns read written log (ends.NotBuilt command place) =
+    AtTrouble site order start end read written log (ends.NotBuilt command place)
+HasCause site order start end turns read written log ends.ReadFault = AtReadFault site order start end read written log
+HasCause site order start end turns read written log ends.WriteFault =
+    AtWriteFault site order start end read written log
+HasCause site order start end turns read written log (ends.Spent calls) =
+    AtSpent site order start end turns read written log calls
+HasCause site order start end turns read written log ends.NoMemory = AtNoMemory site order start end read written log
 
 -- Each event is in turn when the dialogue comes to it, whatever front of the log its marks are.
 abbrev pub AllInTurn : SiteData → Order → List Event → List Mark → Type 0
-AllInTurn site order events log = (steps : List Step) (e : Event) (more : List Event) → AreSteps site (opening order) steps
+AllInTurn site order events log =
+    (steps : List Step) (e : Event) (more : List Event) → AreSteps site (opening order) steps
     → events ≡ events_of steps ++ e ∷ more → IsPrefixOf (marks_of steps) log
     → stop_of site (state_after site (opening order) steps) e ≡ None
 
 -- The link's faults don't rise, all that was read is whole messages that are in turn, and the turns are enough.
-pub record IsSmooth (site : SiteData) (order : Order) (start end : Wire) (turns : ℕ) (read written : List ℕ) (log : List Mark) : Type 0 where
+pub record IsSmooth (site : SiteData) (order : Order) (start end : Wire) (turns : ℕ) (read written : List ℕ)
+    (log : List Mark) : Type 0 where
   pub faults : Rose start.faults end.faults → ⊥
   pub in_turn : AllInTurn site order (events_from 0 None read) log
   pub whole : rest_from 0 None read ≡ None
@@ -157,9 +171,10 @@ abbrev pub Completes : SiteData → Order → Wire → Wire → ℕ → List ℕ
 Completes site order start end turns read written log result =
     IsSmooth site order start end turns read written log → (result ≡ ends.Closed) ⊎ (result ≡ ends.NoMemory)
 
--- One connection: what was read and written, the marks of the desk, and why it ended. The entries of the seat are those of
--- its marks (`adds.own`), each at the moment that the clock tells.
-pub record Served (old new : Seat) (start end : Wire) (told : Option Moment) (order : Order) (turns : ℕ) (result : Ended) : Type 0 where
+-- One connection: what was read and written, the marks of the desk, and why it ended. The entries of the seat are those
+-- of its marks (`adds.own`), each at the moment that the clock tells.
+pub record Served (old new : Seat) (start end : Wire) (told : Option Moment) (order : Order) (turns : ℕ)
+    (result : Ended) : Type 0 where
   pub log : List Mark
   pub read : List ℕ
   pub written : List ℕ
@@ -167,5 +182,5 @@ pub record Served (old new : Seat) (start end : Wire) (told : Option Moment) (or
   pub moments : HaveMoment told log
   pub moves : Moves start end read written
   pub settled : (read ≡ []) ⊎ Settled old.seen.base.site order read written log
-  pub answer : Answers old.seen.base.site order start end turns read written log result
+  pub answer : HasCause old.seen.base.site order start end turns read written log result
   pub complete : Completes old.seen.base.site order start end turns read written log result

@@ -49,13 +49,15 @@ abbrev pub refused : Result Unfinished FrameFault → Option Ended
 refused (Ok left) = None
 refused (Err fault) = Some (ends.Bad (faults.Frame fault) (place_of_fault fault))
 
--- What stands behind the events that were answered: nothing, or a header that is refused; or an event that isn't in turn.
+-- What stands behind the events that were answered: nothing, or a header that is refused; or an event that isn't in
+-- turn.
 abbrev pub Stands : SiteData → State → List Event → Result Unfinished FrameFault → Option Ended → Type 0
 Stands site s [] left trouble = trouble ≡ refused left
 Stands site s (e ∷ more) left trouble = (trouble ≡ stop_of site s e) × (is_some (stop_of site s e) ≡ true)
 
 -- From the state s these events make these steps, up to the first trouble.
-pub record Follows (site : SiteData) (s : State) (stream : Assembled) (steps : List Step) (trouble : Option Ended) : Type 0 where
+pub record Follows (site : SiteData) (s : State) (stream : Assembled) (steps : List Step)
+    (trouble : Option Ended) : Type 0 where
   pub rules : AreSteps site s steps
   pub remaining : List Event
   pub all : stream.events ≡ events_of steps ++ remaining
@@ -106,7 +108,8 @@ pub record FedPart (old new : Seat) (told : Option Moment) (v w : View) (bytes :
 -- whether a feeding ends so: at a fault of the stream, or at a message that isn't served so far
 abbrev pub FedErr : Seat → Seat → Option Moment → View → View → List ℕ → Ended → Type 0
 FedErr old new told v w bytes (ends.Bad fault place) = FedUpTo old new told v w bytes (ends.Bad fault place)
-FedErr old new told v w bytes (ends.NotBuilt command place) = FedUpTo old new told v w bytes (ends.NotBuilt command place)
+FedErr old new told v w bytes (ends.NotBuilt command place) =
+    FedUpTo old new told v w bytes (ends.NotBuilt command place)
 FedErr old new told v w bytes ends.NoMemory = FedPart old new told v w bytes
 FedErr old new told v w bytes ended = ⊥
 
@@ -120,9 +123,9 @@ pub record Took (old new : Seat) (told : Option Moment) (v w : View) (piece : Li
   pub within : count ≤ length piece
   pub passed : Passed old new told v w (take count piece)
 
-abbrev pub Takes : Seat → Seat → Option Moment → View → View → List ℕ → Result ℕ Ended → Type 0
-Takes old new told v w piece (Ok count) = Took old new told v w piece count
-Takes old new told v w piece (Err ended) = FedErr old new told v w piece ended
+abbrev pub TakesSome : Seat → Seat → Option Moment → View → View → List ℕ → Result ℕ Ended → Type 0
+TakesSome old new told v w piece (Ok count) = Took old new told v w piece count
+TakesSome old new told v w piece (Err ended) = FedErr old new told v w piece ended
 
 -- One event, which the stream brought, was answered or wasn't. The stream is as before.
 
@@ -131,7 +134,7 @@ stop_as command place stops.NotBuilt = ends.NotBuilt command place
 stop_as command place (stops.Message fault) = ends.Bad (faults.Message fault) place
 stop_as command place stops.NoMemory = ends.NoMemory
 
-pub record Answered (old new : Seat) (moment : Moment) (v w : View) (e : Event) : Type 0 where
+pub record AnsweredEvent (old new : Seat) (moment : Moment) (v w : View) (e : Event) : Type 0 where
   pub step : Step
   pub rule : IsStep old.seen.base.site v.state step
   pub event : step.event ≡ e
@@ -141,22 +144,22 @@ pub record Answered (old new : Seat) (moment : Moment) (v w : View) (e : Event) 
   pub out : w.pending ≡ v.pending ++ bytes_of v.state step
   pub stream : w.stream ≡ v.stream
 
-pub record Unanswered (old new : Seat) (v w : View) (e : Event) (ended : Ended) : Type 0 where
+pub record UnansweredEvent (old new : Seat) (v w : View) (e : Event) (ended : Ended) : Type 0 where
   pub seat : new ≡ old
   pub stop : stop_of old.seen.base.site v.state e ≡ Some ended
   pub out : w.pending ≡ v.pending
 
-pub record PartAnswered (old new : Seat) (moment : Moment) (v w : View) (e : Event) : Type 0 where
+pub record PartOfEvent (old new : Seat) (moment : Moment) (v w : View) (e : Event) : Type 0 where
   pub marks : List Mark
   pub part : PartOf old.seen.base.site v.state (heard old.seen.base.site v.state e) marks
   pub adds : Adds old new marks
   pub moments : HaveMoment (Some moment) marks
   pub out : w.pending ≡ v.pending
 
-abbrev pub AnswersErr : Seat → Seat → Moment → View → View → Event → Ended → Type 0
-AnswersErr old new moment v w e ends.NoMemory = PartAnswered old new moment v w e
-AnswersErr old new moment v w e ended = Unanswered old new v w e ended
+abbrev pub AnswersEventErr : Seat → Seat → Moment → View → View → Event → Ended → Type 0
+AnswersEventErr old new moment v w e ends.NoMemory = PartOfEvent old new moment v w e
+AnswersEventErr old new moment v w e ended = UnansweredEvent old new v w e ended
 
-abbrev pub Answers : Seat → Seat → Moment → View → View → Event → Result (Unit {0}) Ended → Type 0
-Answers old new moment v w e (Ok u) = Answered old new moment v w e
-Answers old new moment v w e (Err ended) = AnswersErr old new moment v w e ended
+abbrev pub AnswersEvent : Seat → Seat → Moment → View → View → Event → Result (Unit {0}) Ended → Type 0
+AnswersEvent old new moment v w e (Ok u) = AnsweredEvent old new moment v w e
+AnswersEvent old new moment v w e (Err ended) = AnswersEventErr old new moment v w e ended

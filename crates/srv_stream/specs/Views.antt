@@ -35,14 +35,14 @@ output_of s = drop s.sent s.output.items
 abbrev pub show : Seat → Session → Shown
 show seat s = record { seat = seat; state = state_of s; output = output_of s }
 
--- A row's function was called with the desk at one seat and left it at another; then the sessions, the moment, the turn,
--- and what it answered.
-abbrev pub Answers : Seat → Seat → Session → Session → Moment → Turn → Result (Unit {0}) NoMemory → Type 0
-Answers here there old new moment turn result = Takes (show here old) (show there new) moment turn result
+-- A row's function was called with the desk at one seat and left it at another; then the sessions, the moment, the
+-- turn, and what it answered.
+abbrev pub AnswersTurn : Seat → Seat → Session → Session → Moment → Turn → Result (Unit {0}) NoMemory → Type 0
+AnswersTurn here there old new moment turn result = Takes (show here old) (show there new) moment turn result
 
 -- The same at every moment, of a row that makes no entry.
 abbrev pub AnswersAnytime : Seat → Seat → Session → Session → Turn → Result (Unit {0}) NoMemory → Type 0
-AnswersAnytime here there old new turn result = (moment : Moment) → Answers here there old new moment turn result
+AnswersAnytime here there old new turn result = (moment : Moment) → AnswersTurn here there old new moment turn result
 
 -- The same beside this desk, which isn't asked for anything that makes a mark, and beside every one.
 

@@ -1,14 +1,13 @@
 // What a session hears in a message.
 ghost use Rattle.std.specs.Prelude.{◌≡◌};
 ghost use Rattle.pva_messages.specs.Views.{valued_view};
-ghost use Rattle.pva_messages.specs.Subcommands.{begins};
 ghost use Rattle.srv_stream.specs.Turns.{is_id, is_of_all, is_of_value};
 
 use crate::session::Session;
 use crate::turn::{Putting, SessionStop, Turn};
 use desk_api::{Channel, Desk};
 use pva_frames::Lent;
-use pva_messages::{PutPart, ToServer, read_request, read_request_part};
+use pva_messages::{PutPart, ToServer, begins, read_request, read_request_part};
 use pvd_type::{BitSet, Name, PvType, Shape};
 use pvd_value::PvValue;
 use std::alloc::Global;
@@ -23,13 +22,6 @@ const PUT: u8 = 0x0B;
 
 /// The number of the leaf `value` (Normative Types 1.0, "NTScalar").
 const VALUE: u32 = 1;
-
-/// Bit 08 of a subcommand: a request is begun.
-fn begins(sub: u8) -> bool
-    ensures { result ≡ begins sub }
-{
-    (sub >> 3) & 1 == 1
-}
 
 /// Whether a request has begun under this id.
 fn is_id(req: u32, begun: Option<u32>) -> bool
@@ -107,6 +99,7 @@ impl Session {
         self.hear_request(alloc, message, &request, desk)
     }
 
+    /// Looks up what a message that was read names. What has no arm isn't served so far.
     fn hear_request<'a, D: Desk>(
         &mut self,
         alloc: Global,
@@ -139,14 +132,7 @@ impl Session {
                 part,
             } => self.hear_put(alloc, message, *sid, *req, *sub, request, part, desk),
             ToServer::Skipped(_) => Ok(Turn::PassOver),
-            ToServer::DestroyChannel { .. } => Err(SessionStop::NotBuilt),
-            ToServer::PutGet { .. } => Err(SessionStop::NotBuilt),
-            ToServer::Monitor { .. } => Err(SessionStop::NotBuilt),
-            ToServer::DestroyRequest { .. } => Err(SessionStop::NotBuilt),
-            ToServer::Cancel { .. } => Err(SessionStop::NotBuilt),
-            ToServer::GetField { .. } => Err(SessionStop::NotBuilt),
-            ToServer::Message { .. } => Err(SessionStop::NotBuilt),
-            ToServer::Rpc { .. } => Err(SessionStop::NotBuilt),
+            _ => Err(SessionStop::NotBuilt),
         }
     }
 

@@ -39,7 +39,7 @@ pub struct Serving {
 
 impl Serving {
     ghost use Rattle.srv_stream.specs.Hearings.{IsOf};
-    ghost use Rattle.srv_stream.specs.Streams.{Feeds, Takes, Answers};
+    ghost use Rattle.srv_stream.specs.Streams.{Feeds, TakesSome, AnswersEvent};
     ghost use Rattle.srv_stream.specs.Views.{view_of, first_view};
 
     /// A serving whose output is the greeting. It writes in this byte order.
@@ -84,7 +84,7 @@ impl Serving {
         moment: Moment,
     ) -> Result<(), Ended>
         requires { IsOf (D.seat desk.old).seen.base.site (view_of self.old).state }
-        ensures answers { Answers (D.seat desk.old) (D.seat desk.new) moment (view_of self.old) (view_of self.new) event.now result }
+        ensures answers { AnswersEvent (D.seat desk.old) (D.seat desk.new) moment (view_of self.old) (view_of self.new) event.now result }
         ensures site { OnOk result (IsOf (D.seat desk.new).seen.base.site (view_of self.new).state) }
     {
         desk.has_legal_history();
@@ -116,7 +116,7 @@ impl Serving {
         moment: Moment,
     ) -> Result<(), Ended>
         requires { IsOf (D.seat desk.old).seen.base.site (view_of self.old).state }
-        ensures answers { Answers (D.seat desk.old) (D.seat desk.new) moment (view_of self.old) (view_of self.new) (Message (whole_of message.now)) result }
+        ensures answers { AnswersEvent (D.seat desk.old) (D.seat desk.new) moment (view_of self.old) (view_of self.new) (Message (whole_of message.now)) result }
         ensures site { OnOk result (IsOf (D.seat desk.new).seen.base.site (view_of self.new).state) }
     {
         match self.session.handle_message(alloc, message, desk, moment) {
@@ -164,7 +164,7 @@ impl Serving {
     ) -> Result<usize, Ended>
         requires some { 0 < length piece.now }
         requires site { IsOf (D.seat desk.old).seen.base.site (view_of self.old).state }
-        ensures takes { Takes (D.seat desk.old) (D.seat desk.new) (Some moment) (view_of self.old) (view_of self.new) piece.now result }
+        ensures takes { TakesSome (D.seat desk.old) (D.seat desk.new) (Some moment) (view_of self.old) (view_of self.new) piece.now result }
         ensures site { OnOk result (IsOf (D.seat desk.new).seen.base.site (view_of self.new).state) }
     {
         desk.has_legal_history();

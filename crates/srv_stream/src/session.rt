@@ -149,7 +149,7 @@ impl Session {
     ghost use Rattle.srv_stream.specs.Calls.{Handles};
     ghost use Rattle.srv_stream.specs.Hearings.{turn_view, putting, IsOf, IsTurnOf, IsBegun, IsPut};
     ghost use Rattle.srv_stream.specs.Rows.{CanSay, spelled, spelled_all, said, control, greetings};
-    ghost use Rattle.srv_stream.specs.Views.{state_of, output_of, show, HandlesControl, Answers, AnswersAnytime, AnswersBeside, AnswersAlone};
+    ghost use Rattle.srv_stream.specs.Views.{state_of, output_of, show, HandlesControl, AnswersTurn, AnswersAnytime, AnswersBeside, AnswersAlone};
     ghost use Rattle.pva_frames.specs.declared.event.Event.TheVariants.{Message, Control};
     ghost use Rattle.std.specs.Prelude.{◌∷◌, []};
     ghost use Rattle.pvd_type.specs.Numbers.{leaves};
@@ -335,12 +335,11 @@ impl Session {
         moment: Moment,
     ) -> Result<(), NoMemory>
         requires { IsTurnOf (D.seat desk.old).seen.base.site turn.now }
-        ensures { Answers (D.seat desk.old) (D.seat desk.new) self.old self.new moment (turn_view turn.now) result }
+        ensures { AnswersTurn (D.seat desk.old) (D.seat desk.new) self.old self.new moment (turn_view turn.now) result }
     {
         desk.has_legal_history();
         match turn {
             Turn::PassOver => self.pass_over(),
-            Turn::EchoControl(number) => self.echo_control(*number),
             Turn::Validate(buffer) => self.validate(alloc, *buffer),
             Turn::Echo(payload) => self.echo(payload),
             Turn::Create(cid, name) => self.create(alloc, *cid, name, desk),
@@ -472,7 +471,7 @@ impl Session {
         moment: Moment,
     ) -> Result<(), NoMemory>
         requires { IsPut (D.seat desk.old).seen.base.site asked.now }
-        ensures { Answers (D.seat desk.old) (D.seat desk.new) self.old self.new moment (putting asked.now) result }
+        ensures { AnswersTurn (D.seat desk.old) (D.seat desk.new) self.old self.new moment (putting asked.now) result }
     {
         let answer = desk.put(alloc, asked.channel, &asked.mask, &asked.value, moment);
         let status = put_status(alloc, answer)?;

@@ -150,7 +150,10 @@ fn fed(
     ))
 }
 
-/// A client whose channel is created in segments.
+/// A client that gets, puts 7 and gets again.
+const PLAIN: [&[u8]; 7] = [VALIDATION, CREATE, BEGIN, GET, BEGIN_PUT, PUT_SEVEN, GET];
+
+/// The same with a channel that is created in segments.
 const IN_SEGMENTS: [&[u8]; 7] = [
     VALIDATION,
     CREATE_IN_SEGMENTS,
@@ -161,7 +164,7 @@ const IN_SEGMENTS: [&[u8]; 7] = [
     GET,
 ];
 
-/// A client that has two of its messages in big endian.
+/// The same with two of its messages in big endian.
 const MIXED: [&[u8]; 7] = [
     VALIDATION,
     BIG_CREATE,
@@ -170,6 +173,32 @@ const MIXED: [&[u8]; 7] = [
     BEGIN_PUT,
     BIG_PUT_SEVEN,
     GET,
+];
+
+const SAID: [&[u8]; 10] = [
+    GREETING,
+    VALIDATED,
+    CREATED,
+    BEGUN,
+    DESCRIPTION,
+    GOT,
+    PUT_BEGUN,
+    DESCRIPTION,
+    PUT_DONE,
+    SEVEN,
+];
+
+const SAID_BIG: [&[u8]; 10] = [
+    BIG_GREETING,
+    BIG_VALIDATED,
+    BIG_CREATED,
+    BIG_BEGUN,
+    DESCRIPTION,
+    BIG_GOT,
+    BIG_PUT_BEGUN,
+    DESCRIPTION,
+    BIG_PUT_DONE,
+    BIG_SEVEN,
 ];
 
 const SAID_IN_SEGMENTS: [&[u8]; 11] = [
@@ -200,17 +229,41 @@ const SAID_BIG_IN_SEGMENTS: [&[u8]; 11] = [
     BIG_SEVEN,
 ];
 
-const SAID_MIXED: [&[u8]; 10] = [
+/// A client that creates a channel that isn't there, puts by its get's request, and gets by its put's.
+const MISTAKEN: [&[u8]; 7] = [
+    VALIDATION,
+    b"\xCA\x02\x00\x07\x08\x00\x00\x00\x01\x00\x09\x00\x00\x00\x01Y",
+    CREATE,
+    BEGIN,
+    b"\xCA\x02\x00\x0B\x0F\x00\x00\x00\x00\x00\x00\x00\x01\x00\x00\x00\x00\x01\x02\x07\x00\x00\x00",
+    BEGIN_PUT,
+    b"\xCA\x02\x00\x0A\x09\x00\x00\x00\x00\x00\x00\x00\x02\x00\x00\x00\x00",
+];
+
+const SAID_MISTAKEN: [&[u8]; 10] = [
     GREETING,
     VALIDATED,
+    b"\xCA\x02\x40\x07\x1C\x00\x00\x00\x09\x00\x00\x00\xFF\xFF\xFF\xFF\x02\x11channel not found\x00",
     CREATED,
     BEGUN,
     DESCRIPTION,
-    GOT,
+    b"\xCA\x02\x40\x0B\x13\x00\x00\x00\x01\x00\x00\x00\x00\x02\x0Bwrong phase\x00",
     PUT_BEGUN,
     DESCRIPTION,
-    PUT_DONE,
-    SEVEN,
+    b"\xCA\x02\x40\x0A\x13\x00\x00\x00\x02\x00\x00\x00\x00\x02\x0Bwrong phase\x00",
+];
+
+const SAID_BIG_MISTAKEN: [&[u8]; 10] = [
+    BIG_GREETING,
+    BIG_VALIDATED,
+    b"\xCA\x02\xC0\x07\x00\x00\x00\x1C\x00\x00\x00\x09\xFF\xFF\xFF\xFF\x02\x11channel not found\x00",
+    BIG_CREATED,
+    BIG_BEGUN,
+    DESCRIPTION,
+    b"\xCA\x02\xC0\x0B\x00\x00\x00\x13\x00\x00\x00\x01\x00\x02\x0Bwrong phase\x00",
+    BIG_PUT_BEGUN,
+    DESCRIPTION,
+    b"\xCA\x02\xC0\x0A\x00\x00\x00\x13\x00\x00\x00\x02\x00\x02\x0Bwrong phase\x00",
 ];
 
 /// This input has this output, and ends so, in pieces of this size.
@@ -249,32 +302,39 @@ fn is_fed_always(
     is_fed(rt, alloc, order, input, 4096, output, ended, unfinished)
 }
 
+/// This input has these outputs in little and in big endian, in pieces of every size, and ends at the boundary of a message.
+fn is_answered(
+    rt: &impl Abort,
+    alloc: Global,
+    input: &[&[u8]],
+    little: &[&[u8]],
+    big: &[&[u8]],
+) -> Result<(), NoMemory> {
+    is_fed_always(rt, alloc, Order::Little, input, little, Ok(()), None)?;
+    is_fed_always(rt, alloc, Order::Big, input, big, Ok(()), None)
+}
+
 #[test]
 fn a_client_is_served_alike_in_pieces_of_every_size_and_in_both_orders(
     rt: HostRuntime,
 ) -> Result<(), Fail> {
     let alloc = rt.alloc();
-    let little = Order::Little;
-    let big = Order::Big;
-    is_fed_always(
+    is_answered(&rt, alloc, &PLAIN, &SAID, &SAID_BIG)?;
+    is_answered(&rt, alloc, &MIXED, &SAID, &SAID_BIG)?;
+    is_answered(
         &rt,
         alloc,
-        little,
         &IN_SEGMENTS,
         &SAID_IN_SEGMENTS,
-        Ok(()),
-        None,
-    )?;
-    is_fed_always(
-        &rt,
-        alloc,
-        big,
-        &IN_SEGMENTS,
         &SAID_BIG_IN_SEGMENTS,
-        Ok(()),
-        None,
     )?;
-    is_fed_always(&rt, alloc, little, &MIXED, &SAID_MIXED, Ok(()), None)?;
+    Ok(())
+}
+
+#[test]
+fn a_missing_channel_and_a_request_of_the_other_kind_are_told(rt: HostRuntime) -> Result<(), Fail> {
+    let alloc = rt.alloc();
+    is_answered(&rt, alloc, &MISTAKEN, &SAID_MISTAKEN, &SAID_BIG_MISTAKEN)?;
     Ok(())
 }
 
@@ -285,73 +345,102 @@ fn an_echo_goes_in_segments_that_the_buffer_of_the_client_takes(
     let alloc = rt.alloc();
     let payload = [0x5A; 2000];
     let echo = b"\xCA\x02\x00\x02\xD0\x07\x00\x00";
-    let (ended, written, _) = fed(
-        alloc,
-        Order::Little,
-        &[SMALL_VALIDATION, echo, &payload],
-        4096,
-    )?;
-    assert_eq!(rt; ended, Ok(()));
-    let first = b"\xCA\x02\x50\x02\xF8\x03\x00\x00";
-    let last = b"\xCA\x02\x60\x02\xD8\x03\x00\x00";
-    let wanted = [
+    let little = [
         GREETING,
         VALIDATED,
-        first,
+        b"\xCA\x02\x50\x02\xF8\x03\x00\x00",
         &payload[..1016],
-        last,
+        b"\xCA\x02\x60\x02\xD8\x03\x00\x00",
         &payload[..984],
     ];
-    assert_eq!(rt; written, joined(alloc, &wanted)?);
+    let big = [
+        BIG_GREETING,
+        BIG_VALIDATED,
+        b"\xCA\x02\xD0\x02\x00\x00\x03\xF8",
+        &payload[..1016],
+        b"\xCA\x02\xE0\x02\x00\x00\x03\xD8",
+        &payload[..984],
+    ];
+    is_answered(
+        &rt,
+        alloc,
+        &[SMALL_VALIDATION, echo, &payload],
+        &little,
+        &big,
+    )?;
     Ok(())
 }
 
-/// A validation and then these bytes end so, in both orders.
+/// These bytes end so in pieces of every size and in both orders: as the first ones, and behind a validation.
 fn ends_always(
     rt: &impl Abort,
     alloc: Global,
     last: &[u8],
-    ended: Result<(), Ended>,
-    unfinished: Option<u64>,
+    first: (Result<(), Ended>, Option<u64>),
+    behind: (Result<(), Ended>, Option<u64>),
 ) -> Result<(), NoMemory> {
+    let alone = [last];
+    let (ended, rest) = first;
+    is_fed_always(rt, alloc, Order::Little, &alone, &[GREETING], ended, rest)?;
+    is_fed_always(rt, alloc, Order::Big, &alone, &[BIG_GREETING], ended, rest)?;
     let input = [VALIDATION, last];
+    let (ended, rest) = behind;
     let little = [GREETING, VALIDATED];
-    is_fed_always(rt, alloc, Order::Little, &input, &little, ended, unfinished)?;
+    is_fed_always(rt, alloc, Order::Little, &input, &little, ended, rest)?;
     let big = [BIG_GREETING, BIG_VALIDATED];
-    is_fed_always(rt, alloc, Order::Big, &input, &big, ended, unfinished)
+    is_fed_always(rt, alloc, Order::Big, &input, &big, ended, rest)
 }
 
-/// A header is refused at place 27.
-fn refused(fault: FrameFault) -> Result<(), Ended> {
-    Err(Ended::Bad(StreamFault::Frame(fault), 27))
+/// A header is refused that begins at this place.
+fn refused(fault: FrameFault, place: u64) -> (Result<(), Ended>, Option<u64>) {
+    (Err(Ended::Bad(StreamFault::Frame(fault), place)), Some(place))
 }
+
+fn bad_magic(place: u64) -> (Result<(), Ended>, Option<u64>) {
+    refused(FrameFault::BadMagic { byte: 0xCB, place }, place)
+}
+
+fn too_long(place: u64) -> (Result<(), Ended>, Option<u64>) {
+    let length = 67_108_865;
+    refused(FrameFault::TooLong { length, place }, place)
+}
+
+/// A last segment of a create message, while no run stands.
+fn bad_segment(place: u64) -> (Result<(), Ended>, Option<u64>) {
+    let (have, came) = (None, 7);
+    refused(FrameFault::BadSegment { have, came, place }, place)
+}
+
+/// The name in a create message behind a validation isn't UTF-8.
+fn bad_name() -> Ended {
+    let fault = MessageFault {
+        command: 7,
+        cause: ValueFault::Wire(WireFault::NotUtf8(7)),
+    };
+    Ended::Bad(StreamFault::Message(fault), 27)
+}
+
+/// A create message whose name is the byte FF.
+const BAD_CREATE: &[u8] =
+    b"\xCA\x02\x00\x07\x08\x00\x00\x00\x01\x00\x07\x00\x00\x00\x01\xFF";
 
 #[test]
 fn what_ends_a_stream_does_so_in_pieces_of_every_size_and_in_both_orders(
     rt: HostRuntime,
 ) -> Result<(), Fail> {
     let alloc = rt.alloc();
-    let magic = refused(FrameFault::BadMagic {
-        byte: 0xCB,
-        place: 27,
-    });
-    let long = refused(FrameFault::TooLong {
-        length: 67_108_865,
-        place: 27,
-    });
-    let segment = refused(FrameFault::BadSegment {
-        have: None,
-        came: 7,
-        place: 27,
-    });
-    ends_always(&rt, alloc, b"", Ok(()), None)?;
-    ends_always(&rt, alloc, &CREATE[..7], Ok(()), Some(27))?;
-    ends_always(&rt, alloc, b"\xCB", magic, Some(27))?;
+    let on = (Ok(()), None);
+    let begun = (Ok(()), Some(0));
+    let begun_later = (Ok(()), Some(27));
+    ends_always(&rt, alloc, b"", on, on)?;
+    ends_always(&rt, alloc, &CREATE[..7], begun, begun_later)?;
+    ends_always(&rt, alloc, b"\xCB", bad_magic(0), bad_magic(27))?;
     let header = b"\xCA\x02\x00\x02\x01\x00\x00\x04";
-    ends_always(&rt, alloc, header, long, Some(27))?;
+    ends_always(&rt, alloc, header, too_long(0), too_long(27))?;
     let last = b"\xCA\x02\x20\x07\x02\x00\x00\x00\x01X";
-    ends_always(&rt, alloc, last, segment, Some(27))?;
-    ends_always(&rt, alloc, GET, Err(Ended::NotBuilt(10, 27)), None)?;
+    ends_always(&rt, alloc, last, bad_segment(0), bad_segment(27))?;
+    ends_always(&rt, alloc, GET, on, (Err(Ended::NotBuilt(10, 27)), None))?;
+    ends_always(&rt, alloc, BAD_CREATE, on, (Err(bad_name()), None))?;
     Ok(())
 }
 
@@ -402,15 +491,6 @@ fn bad_header(fault: FrameFault) -> Ended {
     Ended::Bad(StreamFault::Frame(fault), 0)
 }
 
-/// The name in a create message behind a validation isn't UTF-8.
-fn bad_name() -> Ended {
-    let fault = MessageFault {
-        command: 7,
-        cause: ValueFault::Wire(WireFault::NotUtf8(7)),
-    };
-    Ended::Bad(StreamFault::Message(fault), 27)
-}
-
 #[test]
 fn where_a_connection_ends(rt: HostRuntime) -> Result<(), Fail> {
     let alloc = rt.alloc();
@@ -434,9 +514,8 @@ fn where_a_connection_ends(rt: HostRuntime) -> Result<(), Fail> {
 #[test]
 fn where_a_connection_ends_behind_its_validation(rt: HostRuntime) -> Result<(), Fail> {
     let alloc = rt.alloc();
-    let create = b"\xCA\x02\x00\x07\x08\x00\x00\x00\x01\x00\x07\x00\x00\x00\x01\xFF";
     let output = [GREETING, VALIDATED];
-    ends(&rt, alloc, &[VALIDATION, create], bad_name(), &output)?;
+    ends(&rt, alloc, &[VALIDATION, BAD_CREATE], bad_name(), &output)?;
     let twice = [VALIDATION, VALIDATION];
     ends(&rt, alloc, &twice, Ended::NotBuilt(1, 27), &output)?;
     ends(&rt, alloc, &[CREATE, VALIDATION], Ended::Closed, &output)?;

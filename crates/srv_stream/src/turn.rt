@@ -19,8 +19,6 @@ pub(crate) struct Putting {
 pub(crate) enum Turn<'a> {
     /// Nothing.
     PassOver,
-    /// The echo of a control message with this datum.
-    EchoControl(u32),
     /// A validation by the method `anonymous`, of a client with a buffer of this size.
     Validate(u32),
     /// The echo of this payload.

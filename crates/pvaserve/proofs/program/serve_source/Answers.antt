@@ -17,5 +17,5 @@ pub returns : goal.returns
 returns g c =
     let fits : SFits w32 c.args.source.value = search rules in
     let site_is : c.in-Ok.site ≡ single c.args.source.name.now c.args.source.value = c.in-Ok.ensures {u = tt} ∙ ap (single c.args.source.name.now) (to_z-of_z fits) in
-    serves _ _ _ _ _ c.in-Ok-new.desk.log c.serve_connection.new.desk.log (c.in-Ok-new.ensures {u = tt} ∙ ap (λ (site : SiteData). first_seat (record { site = site; limit = 268_435_456 })) site_is) c.serve_connection.ensures
+    serves _ _ _ _ _ c.in-Ok-new.desk.log c.serve_connection.new.desk.log (c.in-Ok-new.ensures {u = tt} ∙ ap (λ (site : SiteData). first_seat (record { site = site; limit = 268_435_456 })) site_is) c.serve_connection.ensures.served
     c.serve_connection.new.desk.stands.own

@@ -1,7 +1,7 @@
 use Rattle.std.proofs.Common.{ℕ, List, Err, sym, ◌∙◌, ap, subst}
 use Rattle.pva_frames.specs.declared.event.Event.{Event}
 use Rattle.pva_frames.specs.declared.event.Event.TheVariants.{Message, Control}
-use Rattle.srv_stream.specs.Streams.{Answered, PartAnswered, Answers}
+use Rattle.srv_stream.specs.Streams.{AnsweredEvent, PartOfEvent, AnswersEvent}
 use Rattle.srv_stream.specs.Views.{show, view_of}
 use Rattle.srv_stream.proofs.Answering.{answered, control_answers}
 use Rattle.srv_stream.proofs.Feeding.{handled_on_site}
@@ -12,7 +12,7 @@ returns-in-Ok-clause-answers g c =
     let seat = g.D.Desk.seat c.args.desk.now in
     let old = show seat c.args.self.now.session in
     let new = show seat c.handle_control.new.self in
-    subst (λ (e : Event). Answered seat seat c.args.moment (view_of c.args.self.now) (view_of record { session = c.handle_control.new.self; stream = c.args.self.now.stream; sound = c.args.self.now.sound }) e) (sym c.in-Control.is)
+    subst (λ (e : Event). AnsweredEvent seat seat c.args.moment (view_of c.args.self.now) (view_of record { session = c.handle_control.new.self; stream = c.args.self.now.stream; sound = c.args.self.now.sound }) e) (sym c.in-Control.is)
     (answered old new c.args.moment (Control c.in-Control.command c.in-Control.number) c.args.self.now.stream (c.in-Ok.ensures seat c.has_legal_history.ensures c.args.moment))
 
 pub returns-in-Ok-clause-site : goal.returns-in-Ok-clause-site
@@ -25,11 +25,11 @@ returns-in-Err-clause-answers g c =
     let seat = g.D.Desk.seat c.args.desk.now in
     let old = show seat c.args.self.now.session in
     let new = show seat c.handle_control.new.self in
-    subst (λ (e : Event). PartAnswered seat seat c.args.moment (view_of c.args.self.now) (view_of record { session = c.handle_control.new.self; stream = c.args.self.now.stream; sound = c.args.self.now.sound }) e) (sym c.in-Control.is)
+    subst (λ (e : Event). PartOfEvent seat seat c.args.moment (view_of c.args.self.now) (view_of record { session = c.handle_control.new.self; stream = c.args.self.now.stream; sound = c.args.self.now.sound }) e) (sym c.in-Control.is)
     (control_answers old new c.args.moment (Control c.in-Control.command c.in-Control.number) c.args.self.now.stream _ (c.in-Err.ensures seat c.has_legal_history.ensures c.args.moment))
 
 pub returns-in-Message-clause-answers : goal.returns-in-Message-clause-answers
 returns-in-Message-clause-answers g c =
     let m = c.in-Message.whole in
     let same = ap (λ (p : List ℕ). Message (record { order = m.order; command = m.command; payload = p; place = m.place })) c.as_slice.ensures ∙ sym c.in-Message.is in
-    subst (λ (e : Event). Answers (g.D.Desk.seat c.args.desk.now) (g.D.Desk.seat c.answer_message.new.desk) c.args.moment (view_of c.args.self.now) (view_of c.answer_message.new.self) e c.answer_message.result) same c.answer_message.ensures.answers
+    subst (λ (e : Event). AnswersEvent (g.D.Desk.seat c.args.desk.now) (g.D.Desk.seat c.answer_message.new.desk) c.args.moment (view_of c.args.self.now) (view_of c.answer_message.new.self) e c.answer_message.result) same c.answer_message.ensures.answers

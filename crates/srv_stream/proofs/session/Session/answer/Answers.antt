@@ -22,11 +22,6 @@ returns-in-PassOver g c =
     let seat = g.D.Desk.seat c.args.desk.now in
     answers_as (show seat c.args.self.now) (show seat c.pass_over.new.self) c.args.moment c.pass_over.result c.args.turn.now _ c.in-PassOver.is (c.pass_over.ensures seat c.has_legal_history.ensures c.args.moment)
 
-pub returns-in-EchoControl : goal.returns-in-EchoControl
-returns-in-EchoControl g c =
-    let seat = g.D.Desk.seat c.args.desk.now in
-    answers_as (show seat c.args.self.now) (show seat c.echo_control.new.self) c.args.moment c.echo_control.result c.args.turn.now _ c.in-EchoControl.is (c.echo_control.ensures seat c.has_legal_history.ensures c.args.moment)
-
 pub returns-in-Validate : goal.returns-in-Validate
 returns-in-Validate g c =
     let seat = g.D.Desk.seat c.args.desk.now in

@@ -6,7 +6,7 @@ use Rattle.pva_messages.specs.declared.to_server.ToServer.{ToServer}
 use Rattle.srv_stream.specs.Hearings.{Hears}
 use Rattle.srv_stream.specs.Turns.{heard_creation}
 use Rattle.srv_stream.specs.Views.{state_of}
-use Rattle.srv_stream.proofs.Heard.{told_as, told_same}
+use Rattle.srv_stream.proofs.Heard.{told_as, told_same, told_unserved}
 use Rattle.srv_stream.proofs.session.Session.hear_request.Goals as goal
 
 pub hear_put-requires-clause-site : goal.hear_put-requires-clause-site
@@ -76,81 +76,12 @@ returns-in-Skipped g c =
       turn = tt;
     }
 
-pub returns-in-DestroyChannel : goal.returns-in-DestroyChannel
-returns-in-DestroyChannel g c =
+pub returns-in_default : goal.returns-in_default
+returns-in_default g c =
     let s = state_of c.args.self.now in
+    let it = c.in_default in
     record {
-      heard = told_same (g.D.Desk.seat c.args.desk.now).seen.base.site s (whole_of c.args.message.now) s.types c.args.request.now _ c.in-DestroyChannel.is;
-      state = refl;
-      output = refl;
-      turn = tt;
-    }
-
-pub returns-in-PutGet : goal.returns-in-PutGet
-returns-in-PutGet g c =
-    let s = state_of c.args.self.now in
-    record {
-      heard = told_same (g.D.Desk.seat c.args.desk.now).seen.base.site s (whole_of c.args.message.now) s.types c.args.request.now _ c.in-PutGet.is;
-      state = refl;
-      output = refl;
-      turn = tt;
-    }
-
-pub returns-in-Monitor : goal.returns-in-Monitor
-returns-in-Monitor g c =
-    let s = state_of c.args.self.now in
-    record {
-      heard = told_same (g.D.Desk.seat c.args.desk.now).seen.base.site s (whole_of c.args.message.now) s.types c.args.request.now _ c.in-Monitor.is;
-      state = refl;
-      output = refl;
-      turn = tt;
-    }
-
-pub returns-in-DestroyRequest : goal.returns-in-DestroyRequest
-returns-in-DestroyRequest g c =
-    let s = state_of c.args.self.now in
-    record {
-      heard = told_same (g.D.Desk.seat c.args.desk.now).seen.base.site s (whole_of c.args.message.now) s.types c.args.request.now _ c.in-DestroyRequest.is;
-      state = refl;
-      output = refl;
-      turn = tt;
-    }
-
-pub returns-in-Cancel : goal.returns-in-Cancel
-returns-in-Cancel g c =
-    let s = state_of c.args.self.now in
-    record {
-      heard = told_same (g.D.Desk.seat c.args.desk.now).seen.base.site s (whole_of c.args.message.now) s.types c.args.request.now _ c.in-Cancel.is;
-      state = refl;
-      output = refl;
-      turn = tt;
-    }
-
-pub returns-in-GetField : goal.returns-in-GetField
-returns-in-GetField g c =
-    let s = state_of c.args.self.now in
-    record {
-      heard = told_same (g.D.Desk.seat c.args.desk.now).seen.base.site s (whole_of c.args.message.now) s.types c.args.request.now _ c.in-GetField.is;
-      state = refl;
-      output = refl;
-      turn = tt;
-    }
-
-pub returns-in-Message : goal.returns-in-Message
-returns-in-Message g c =
-    let s = state_of c.args.self.now in
-    record {
-      heard = told_same (g.D.Desk.seat c.args.desk.now).seen.base.site s (whole_of c.args.message.now) s.types c.args.request.now _ c.in-Message.is;
-      state = refl;
-      output = refl;
-      turn = tt;
-    }
-
-pub returns-in-Rpc : goal.returns-in-Rpc
-returns-in-Rpc g c =
-    let s = state_of c.args.self.now in
-    record {
-      heard = told_same (g.D.Desk.seat c.args.desk.now).seen.base.site s (whole_of c.args.message.now) s.types c.args.request.now _ c.in-Rpc.is;
+      heard = told_unserved (g.D.Desk.seat c.args.desk.now).seen.base.site s (whole_of c.args.message.now) s.types c.args.request.now it.not-Validation it.not-Echo it.not-Create it.not-Get it.not-Put it.not-Skipped;
       state = refl;
       output = refl;
       turn = tt;
