@@ -3,6 +3,7 @@ ghost use Rattle.std.specs.Prelude.{◌≡◌, IsTrue, map};
 ghost use Rattle.desk_api.specs.Sites.{is_record_name};
 ghost use Rattle.pvaserve.specs.Running.{Runs, Serves, base_of};
 ghost use Rattle.pvaserve.specs.Words.{source_of};
+ghost use Rattle.srv_stream.specs.Faults.{EndsAtFirstFault, FirstFault};
 ghost use Rattle.pvaserve.specs.Running as running;
 
 use crate::words::{Source, read_words};
@@ -22,11 +23,11 @@ const LIMIT: u64 = 268_435_456;
 /// What the exit status tells.
 #[derive(Clone, Copy, Debug, PartialEq, Eq)]
 pub enum Status {
-    /// All is done: the client ended its stream at the boundary of a frame, and all was answered.
+    /// All is done: the client ended its stream at the boundary of a message, and all was answered.
     Done = 0,
     /// The words aren't `--inetd NAME=VALUE`.
     Words = 2,
-    /// The client's stream is at fault, or ended inside a frame.
+    /// The client's stream is at fault, ended inside a message, or asks for what isn't served yet.
     Stream = 5,
     /// The link failed, or a write to standard output did.
     Outside = 6,
@@ -58,7 +59,8 @@ fn serve_source<L: Link, C: Clock>(
     clock: &C,
 ) -> Ended
     requires { IsTrue (is_record_name source.name.now) }
-    ensures { Serves (base_of (source_of source.entry)) (L.wire link.old) (L.wire link.new) (C.moment clock.now) result }
+    ensures serves { Serves (base_of (source_of source.entry)) (L.wire link.old) (L.wire link.new) (C.moment clock.now) result }
+    ensures fault { EndsAtFirstFault L.wire link.old link.new result }
 {
     let Ok(site) = Site::single(alloc, source.name, source.value) else {
         return Ended::NoMemory;
@@ -73,12 +75,13 @@ fn serve_source<L: Link, C: Clock>(
 ///
 /// `--inetd NAME=VALUE` serves one longout of that name and value over the world's link: NAME ends at the first `=` and is
 /// a name that a record may have, and VALUE is a decimal number of 32 signed bits, without a zero in front. With all other
-/// words the status is 2, and nothing is done. Nothing is printed.
+/// words the status is 2, and nothing is done. Nothing is printed. Status 6 comes at the link's first fault.
 pub fn run<W: Kinds>(alloc: Global, words: &[&str], world: &mut World<W>) -> u8
-    ensures { Runs (map (λ w. w.now) words.now) (W.Clock.moment world.old.clock)
+    ensures runs { Runs (map (λ w. w.now) words.now) (W.Clock.moment world.old.clock)
         (record { wire = W.Link.wire world.old.link; printed = W.Sink.written world.old.sink; print_faults = W.Sink.faults world.old.sink })
         (record { wire = W.Link.wire world.new.link; printed = W.Sink.written world.new.sink; print_faults = W.Sink.faults world.new.sink })
         result }
+    ensures fault { result ≡ 6 → FirstFault W.Link.wire world.old.link world.new.link }
 {
     let Some(source) = read_words(words) else {
         return Status::Words as u8;
