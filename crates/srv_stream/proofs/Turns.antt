@@ -67,7 +67,7 @@ module _ {old new : Seat} {start wire : Wire} {told : Option Moment} {order : Or
       subst (λ (z : Seat). Standing old z start wire2 told order w (Some ended) (calls + 1)) (sym x.untouched.seat)
       (subst (λ (z : View). Standing old new start wire2 told order z (Some ended) (calls + 1)) (sym x.untouched.view) (record {
         going = subst (λ (b : Bool). Going old new start wire2 told order v (trouble_of (Some ended)) b (calls + 1)) (sym met)
-        (subst (λ (o : Option Ended). Going old new start wire2 told order v o true (calls + 1)) (sym none) (going_end i wire2 x.came));
+            (subst (λ (o : Option Ended). Going old new start wire2 told order v o true (calls + 1)) (sym none) (going_end i wire2 x.came));
         rest = is x.rest_is;
       }))
 

@@ -47,7 +47,11 @@ fn next_due(serving: &Serving, over: Option<Ended>, calls: u64, turns: u64) -> D
     ensures { IsDue (view_of serving.now).pending over calls turns result }
 {
     if !serving.output().is_empty() {
-        return if calls < turns { Due::Write } else { Due::Spent };
+        return if calls < turns {
+            Due::Write
+        } else {
+            Due::Spent
+        };
     }
     if let Some(ended) = over {
         return Due::End(ended);

@@ -393,7 +393,10 @@ fn ends_always(
 
 /// A header is refused that begins at this place.
 fn refused(fault: FrameFault, place: u64) -> (Result<(), Ended>, Option<u64>) {
-    (Err(Ended::Bad(StreamFault::Frame(fault), place)), Some(place))
+    (
+        Err(Ended::Bad(StreamFault::Frame(fault), place)),
+        Some(place),
+    )
 }
 
 fn bad_magic(place: u64) -> (Result<(), Ended>, Option<u64>) {
@@ -421,8 +424,7 @@ fn bad_name() -> Ended {
 }
 
 /// A create message whose name is the byte FF.
-const BAD_CREATE: &[u8] =
-    b"\xCA\x02\x00\x07\x08\x00\x00\x00\x01\x00\x07\x00\x00\x00\x01\xFF";
+const BAD_CREATE: &[u8] = b"\xCA\x02\x00\x07\x08\x00\x00\x00\x01\x00\x07\x00\x00\x00\x01\xFF";
 
 #[test]
 fn what_ends_a_stream_does_so_in_pieces_of_every_size_and_in_both_orders(
