@@ -203,7 +203,12 @@ fn push_pair(out: &mut Vec<u8>, first: u8, second: u8) -> Result<(), MacroStop<'
     push_byte(out, second)
 }
 
-/// The text with its macros replaced and its comments dropped.
+/// The text with its macros replaced and its comments dropped (EPICS IOC Application Developer's Guide,
+/// "Database Definition", "Macro Substitution"). Of two values of one macro the later counts. Values hold
+/// no line feed: else lines of what is made aren't those of the text as given. The first fault is told, on
+/// the line of its macro in the text: BadToken where a macro isn't closed on its line, UnknownMacro where it
+/// has neither a value nor a default, MacroDepth where it stands inside sixteen others, since sixteen levels
+/// may be opened. NoMemory where memory runs out, or a text has 2^32 bytes or more, as given or as made.
 pub fn expand(alloc: Global, text: &str, macros: &[(Name, Name)]) -> Result<Name, TextFault>
     ensures exact { Expands macros.now text.now result }
 {

@@ -23,7 +23,7 @@ pub fn one_expansion()
     ensures { OneExpansion }
 {}
 
-/// Where no value ends a line, what a text makes has the lines of the text as given, at each of its places.
+/// Where no value ends a line, what was made has the line of the text as given behind each passage.
 pub fn lines_stay()
     ensures { LinesStay }
 {}

@@ -65,6 +65,8 @@ fn macros_are_replaced_and_comments_dropped(rt: HostRuntime) -> Result<(), Fail>
         ("\n\n$(X $(P)", "UnknownMacro X $(P 3"),
         ("\n$(N=$(X)\n)", "BadToken 2"),
         ("# $(A)\n\n$(A)", "MacroDepth 3"),
+        ("$(N=é)", "é"),
+        ("$(é)", "UnknownMacro é 1"),
     ];
     let macros = [("P", "lost"), ("H", "#\"$"), ("P", "BL:M1"), ("A", "$(A)")];
     for (text, plain) in rows {
@@ -90,6 +92,11 @@ fn a_text_is_cut_into_tokens(rt: HostRuntime) -> Result<(), Fail> {
             "bare field 0 5 1;mark ( 5 6 1;bare VAL 6 9 1;mark , 9 10 1;mark { 11 12 1;",
         ),
         ("a\n\"b\nc\"", "OpenString 2"),
+        ("\"\\é\"", "quoted \\é 0 5 1;"),
+        (
+            "info(N,{é:\"ü\"})",
+            "bare info 0 4 1;mark ( 4 5 1;bare N 5 6 1;mark , 6 7 1;json {é:\"ü\"} 7 16 1;mark ) 16 17 1;",
+        ),
         ("a\n\nb=c", "BadToken 3"),
         ("\ninfo(\"x\",{\"}\"", "BadToken 2"),
     ];

@@ -16,6 +16,7 @@ pub enum TokenKind {
 /// A token of a text.
 #[derive(Debug, Drop)]
 pub struct Token {
+    /// Whether it is a word, a quoted text, a mark or JSON.
     pub kind: TokenKind,
     /// A word or mark as it stands; a quoted text without its quotes and escapes; JSON with its bare keys in quotes.
     pub text: Name,
