@@ -1,8 +1,9 @@
 ghost use Rattle.std.specs.Prelude.{◌≡◌, ◌≤◌, IsTrue};
 
 use crate::{
-    Clock, FixedClock, Kinds, Link, MemoryLink, MemorySink, PlainLink, ReadStep, Sink, SinkStep,
-    StreamLink, StreamSink, SystemClock, Turn, World, WriteStep,
+    Clock, DriveStep, FixedClock, Kinds, Link, MemoryLink, MemoryPort, MemorySink, PlainLink, Port,
+    ReadStep, Sink, SinkStep, StreamLink, StreamSink, SystemClock, Turn, World, WriteStep,
+    WriterPort,
 };
 use std::alloc::Global;
 use std::io::{ErrorKind, Read, Write};
@@ -266,5 +267,27 @@ fn a_world_is_made_of_either_kinds(rt: HostRuntime) -> Result<(), Fail> {
     let (seconds, _) = world.clock.now();
     assert!(rt; seconds > 1_700_000_000);
     assert_eq!(rt; world.sink.write(b"printed\n"), SinkStep::Took(8));
+    Ok(())
+}
+
+#[test]
+fn a_memory_port_counts_its_drives_and_fails_at_those_that_are_to_fail(
+    rt: HostRuntime,
+) -> Result<(), Fail> {
+    let mut port = MemoryPort::new(vec![in rt.alloc(); 2]?);
+    assert_eq!(rt; (port.drives(), port.last()), (0, b"".as_slice()));
+    assert_eq!(rt; port.drive(b"7"), DriveStep::Drove);
+    assert_eq!(rt; port.drive(b"8"), DriveStep::Failed);
+    assert_eq!(rt; port.drive(&[b'a'; 70]), DriveStep::Drove);
+    assert_eq!(rt; port.drives(), 3);
+    assert_eq!(rt; port.last(), [b'a'; 64].as_slice());
+    Ok(())
+}
+
+#[test]
+fn a_writer_port_takes_texts(rt: HostRuntime) -> Result<(), Fail> {
+    let mut port = WriterPort::new(Vec::new(rt.alloc()));
+    assert_eq!(rt; port.drive(b"7"), DriveStep::Drove);
+    assert_eq!(rt; port.drive(b""), DriveStep::Drove);
     Ok(())
 }
