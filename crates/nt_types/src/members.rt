@@ -167,11 +167,21 @@ fn shape_is_columns(shape: &Shape) -> bool
     ensures { result ≡ is_columns (shape_view shape.now) }
 {
     match shape {
-        Shape::Struct(node) => node.id.as_str().is_empty() && all_are_lists(&node.members),
+        Shape::Struct(node) => names_columns(node.id.as_str(), &node.members),
         Shape::Plain(_) | Shape::BoundText(_) | Shape::List(_, _) => false,
         Shape::Union(_) | Shape::StructList(_) | Shape::UnionList(_) => false,
         Shape::Variant | Shape::VariantList => false,
     }
+}
+
+/// Whether a structure is one of lists of scalars, without an id.
+fn names_columns(id: &str, members: &[Member]) -> bool
+    ensures { result ≡ is_columns (tree.node tree.struct id.now (members_view members.now)) }
+{
+    if !id.is_empty() {
+        return false;
+    }
+    all_are_lists(members)
 }
 
 /// Whether each member is a list of scalars.
