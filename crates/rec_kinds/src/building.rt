@@ -31,8 +31,8 @@ use std::alloc::Global;
 
 /// The configuration that these fields make of a record of this kind, and the state in which it opens: with its field
 /// VAL, or else undefined with 0 or the empty text; a waveform opens empty and defined. A field that is given twice counts
-/// where it stands last, and one that the kind doesn't know has no effect. The first fault in the order of the fields is
-/// answered (EPICS record reference).
+/// where it stands last, and one that the kind doesn't know has no effect. What is built stands in the ranges of its fields.
+/// The first fault in the order of the fields is answered (EPICS record reference).
 pub fn build(
     alloc: Global,
     kind: Kind,
