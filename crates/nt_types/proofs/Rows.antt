@@ -1,12 +1,11 @@
 -- Members made one by one, and structures with another number of members.
-use Rattle.std.proofs.Common.{◌≡◌, ℕ, ◌+◌, ◌<◌, Bool, true, false, ◌&&◌, List, [], ◌∷◌, ◌++◌, length, take, get_or, refl, ap, sym, ◌∙◌}
-use Rattle.std.specs.Str.{bytes_eq}
+use Rattle.std.proofs.Common.{◌≡◌, ℕ, ◌+◌, ◌<◌, false, List, [], ◌∷◌, ◌++◌, length, take, get_or, refl, ap, sym, ◌∙◌}
 use Rattle.std.proofs.lemmas.List.{take_more}
-use Rattle.pvd_type.specs.Same.{same_fields, same_tree}
-use Rattle.pvd_type.specs.Tree.{Tree, Fields, no_fields, field}
+use Rattle.pvd_type.specs.Tree.{Tree, node, struct, Fields, no_fields, field}
 use Rattle.pvd_type.specs.View.{member_view, members_view}
 use Rattle.pvd_type.specs.declared.shape.Member.{Member}
 use Rattle.pvd_type.specs.declared.shape.Scalar.{Scalar}
+use Rattle.nt_types.specs.Kinds.{is_choice}
 use Rattle.nt_types.specs.Types.{fields_by}
 
 abbrev at_end : Fields → List ℕ × Tree → Fields
@@ -34,20 +33,9 @@ made_more shape cs i x ms after m short here so_far is made =
     ∙ (ap (λ (y : List ℕ × Scalar). fields_by shape (take i cs ++ y ∷ [])) (sym here)
     ∙ ap (fields_by shape) (sym (take_more cs i x short)))))))
 
-no_and : (b : Bool) → (b && false) ≡ false
-no_and true = refl
-no_and false = refl
-
-none_of : (a b c : Bool) → false ≡ (a && (b && (c && false)))
-none_of a b c = sym (ap (λ x. a && (b && x)) (no_and c) ∙ (ap (λ x. a && x) (no_and b) ∙ no_and a))
-
 -- a structure with another number of members than two
-pub not_two : (b : Bool) (ms : List Member) (m n : List ℕ) (t u : Tree) → (length ms ≡ 2 → ⊥) →
-    false ≡ (b && same_fields (members_view ms) (field m t (field n u no_fields)))
-not_two b [] m n t u h = sym (no_and b)
-not_two b (x ∷ []) m n t u h = none_of b (bytes_eq (member_view x).0 m) (same_tree (member_view x).1 t)
-not_two b (x ∷ y ∷ []) m n t u h = absurd (h refl)
-not_two b (x ∷ y ∷ z ∷ ms) m n t u h =
-    none_of b (bytes_eq (member_view x).0 m) (same_tree (member_view x).1 t)
-    ∙ ap (λ r. b && (bytes_eq (member_view x).0 m && (same_tree (member_view x).1 t && r)))
-    (none_of true (bytes_eq (member_view y).0 n) (same_tree (member_view y).1 u))
+pub not_two : (id : List ℕ) (ms : List Member) → (length ms ≡ 2 → ⊥) → false ≡ is_choice (node struct id (members_view ms))
+not_two id [] h = refl
+not_two id (x ∷ []) h = refl
+not_two id (x ∷ y ∷ []) h = absurd (h refl)
+not_two id (x ∷ y ∷ z ∷ ms) h = refl

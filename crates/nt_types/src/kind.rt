@@ -24,8 +24,9 @@ pub enum NtKind {
 
 /// Which Normative Type a type is; none exactly where the root's id is none of the five, or a member that must be there
 /// isn't or is another: a scalar `value` of NTScalar, a list of scalars of NTScalarArray, the structure `enum_t` of NTEnum;
-/// texts `labels` and lists in `value` of NTTable; a text `scheme` and a text `path` of NTURI. Other members may be there
-/// or not.
+/// texts `labels` and a structure `value` of lists, without an id, of NTTable; a text `scheme` and a text `path` of NTURI. A
+/// text with a bound is a text, and a list may be of any number, of at most so many or of so many. Other members, `query`
+/// among them, may be there or not (EPICS Normative Types 1.0).
 pub fn kind_of(ty: &PvType) -> Option<NtKind>
     ensures { result ≡ recognised ty.now }
 {

@@ -1,13 +1,12 @@
 // The members of a type.
 ghost use Rattle.std.specs.Prelude.{◌≡◌, option_map};
 ghost use Rattle.pvd_type.specs.View.{shape_view, members_view};
-ghost use Rattle.pvd_type.specs.Tree.{leaf, plain, list as list_leaf};
+ghost use Rattle.pvd_type.specs.Tree.{leaf, plain};
 ghost use Rattle.pvd_type.specs.Tree as tree;
 ghost use Rattle.pvd_type.specs.Same.{same_tree};
-ghost use Rattle.nt_types.specs.Kinds.{member_named, some_tree, is_scalar, is_list, all_lists, is_columns};
-ghost use Rattle.nt_types.specs.Types.{enum_value, list_of, scalar};
+ghost use Rattle.nt_types.specs.Kinds.{member_named, some_tree, is_scalar, is_text, is_list, is_texts, is_choice, all_lists, is_columns};
 
-use pvd_type::{Extent, Member, Scalar, Shape};
+use pvd_type::{Member, Scalar, Shape};
 
 /// The shape of the member of this name.
 fn shape_named<'a>(members: &'a [Member], name: &str) -> Option<&'a Shape>
@@ -35,8 +34,8 @@ fn shape_is_scalar(shape: &Shape) -> bool
     ensures { result ≡ is_scalar (shape_view shape.now) }
 {
     match shape {
-        Shape::Plain(_) => true,
-        Shape::BoundText(_) | Shape::List(_, _) | Shape::Struct(_) => false,
+        Shape::Plain(_) | Shape::BoundText(_) => true,
+        Shape::List(_, _) | Shape::Struct(_) => false,
         Shape::Union(_) | Shape::StructList(_) | Shape::UnionList(_) => false,
         Shape::Variant | Shape::VariantList => false,
     }
@@ -65,42 +64,41 @@ fn shape_is_list(shape: &Shape) -> bool
 
 /// Whether a member of this name is a text.
 pub(crate) fn has_text(members: &[Member], name: &str) -> bool
-    ensures { result ≡ some_tree (λ t. same_tree t (scalar Scalar.Text)) (member_named name.now (members_view members.now)) }
+    ensures { result ≡ some_tree is_text (member_named name.now (members_view members.now)) }
 {
     match shape_named(members, name) {
-        Some(shape) => is_plain(shape, Scalar::Text),
+        Some(shape) => shape_is_text(shape),
         None => false,
     }
 }
 
-/// Whether a shape is this scalar.
-fn is_plain(shape: &Shape, scalar: Scalar) -> bool
-    ensures { result ≡ same_tree (shape_view shape.now) (leaf (plain scalar)) }
+fn shape_is_text(shape: &Shape) -> bool
+    ensures { result ≡ is_text (shape_view shape.now) }
 {
     match shape {
-        Shape::Plain(other) => *other == scalar,
-        Shape::BoundText(_) | Shape::List(_, _) | Shape::Struct(_) => false,
+        Shape::Plain(scalar) => *scalar == Scalar::Text,
+        Shape::BoundText(_) => true,
+        Shape::List(_, _) | Shape::Struct(_) => false,
         Shape::Union(_) | Shape::StructList(_) | Shape::UnionList(_) => false,
         Shape::Variant | Shape::VariantList => false,
     }
 }
 
-/// Whether a member of this name is a list of any number of texts.
+/// Whether a member of this name is a list of texts.
 pub(crate) fn has_texts(members: &[Member], name: &str) -> bool
-    ensures { result ≡ some_tree (λ t. same_tree t (list_of Scalar.Text)) (member_named name.now (members_view members.now)) }
+    ensures { result ≡ some_tree is_texts (member_named name.now (members_view members.now)) }
 {
     match shape_named(members, name) {
-        Some(shape) => is_texts(shape),
+        Some(shape) => shape_is_texts(shape),
         None => false,
     }
 }
 
-fn is_texts(shape: &Shape) -> bool
-    ensures { result ≡ same_tree (shape_view shape.now) (list_of Scalar.Text) }
+fn shape_is_texts(shape: &Shape) -> bool
+    ensures { result ≡ is_texts (shape_view shape.now) }
 {
     match shape {
-        Shape::List(Scalar::Text, Extent::Variable) => true,
-        Shape::List(_, _) => false,
+        Shape::List(scalar, _) => *scalar == Scalar::Text,
         Shape::Plain(_) | Shape::BoundText(_) | Shape::Struct(_) => false,
         Shape::Union(_) | Shape::StructList(_) | Shape::UnionList(_) => false,
         Shape::Variant | Shape::VariantList => false,
@@ -109,7 +107,7 @@ fn is_texts(shape: &Shape) -> bool
 
 /// Whether a member of this name is an index and its choices.
 pub(crate) fn has_choice(members: &[Member], name: &str) -> bool
-    ensures { result ≡ some_tree (λ t. same_tree t enum_value) (member_named name.now (members_view members.now)) }
+    ensures { result ≡ some_tree is_choice (member_named name.now (members_view members.now)) }
 {
     match shape_named(members, name) {
         Some(shape) => shape_is_choice(shape),
@@ -118,10 +116,10 @@ pub(crate) fn has_choice(members: &[Member], name: &str) -> bool
 }
 
 fn shape_is_choice(shape: &Shape) -> bool
-    ensures { result ≡ same_tree (shape_view shape.now) enum_value }
+    ensures { result ≡ is_choice (shape_view shape.now) }
 {
     match shape {
-        Shape::Struct(node) => is_choice(node.id.as_str(), &node.members),
+        Shape::Struct(node) => names_choice(node.id.as_str(), &node.members),
         Shape::Plain(_) | Shape::BoundText(_) | Shape::List(_, _) => false,
         Shape::Union(_) | Shape::StructList(_) | Shape::UnionList(_) => false,
         Shape::Variant | Shape::VariantList => false,
@@ -129,22 +127,33 @@ fn shape_is_choice(shape: &Shape) -> bool
 }
 
 /// Whether a structure is an index and its choices.
-fn is_choice(id: &str, members: &[Member]) -> bool
-    ensures { result ≡ same_tree (tree.node tree.struct id.now (members_view members.now)) enum_value }
+fn names_choice(id: &str, members: &[Member]) -> bool
+    ensures { result ≡ is_choice (tree.node tree.struct id.now (members_view members.now)) }
 {
     match members {
         [index, choices] => {
             id == "enum_t"
                 && index.name.as_str() == "index"
-                && is_plain(&index.shape, Scalar::I32)
+                && shape_is_int(&index.shape)
                 && choices.name.as_str() == "choices"
-                && is_texts(&choices.shape)
+                && shape_is_texts(&choices.shape)
         }
         _ => false,
     }
 }
 
-/// Whether a member of this name is a structure of lists of scalars.
+fn shape_is_int(shape: &Shape) -> bool
+    ensures { result ≡ same_tree (shape_view shape.now) (leaf (plain Scalar.I32)) }
+{
+    match shape {
+        Shape::Plain(scalar) => *scalar == Scalar::I32,
+        Shape::BoundText(_) | Shape::List(_, _) | Shape::Struct(_) => false,
+        Shape::Union(_) | Shape::StructList(_) | Shape::UnionList(_) => false,
+        Shape::Variant | Shape::VariantList => false,
+    }
+}
+
+/// Whether a member of this name is a structure of lists of scalars, without an id.
 pub(crate) fn has_columns(members: &[Member], name: &str) -> bool
     ensures { result ≡ some_tree is_columns (member_named name.now (members_view members.now)) }
 {
@@ -158,11 +167,21 @@ fn shape_is_columns(shape: &Shape) -> bool
     ensures { result ≡ is_columns (shape_view shape.now) }
 {
     match shape {
-        Shape::Struct(node) => all_are_lists(&node.members),
+        Shape::Struct(node) => names_columns(node.id.as_str(), &node.members),
         Shape::Plain(_) | Shape::BoundText(_) | Shape::List(_, _) => false,
         Shape::Union(_) | Shape::StructList(_) | Shape::UnionList(_) => false,
         Shape::Variant | Shape::VariantList => false,
     }
+}
+
+/// Whether a structure is one of lists of scalars, without an id.
+fn names_columns(id: &str, members: &[Member]) -> bool
+    ensures { result ≡ is_columns (tree.node tree.struct id.now (members_view members.now)) }
+{
+    if !id.is_empty() {
+        return false;
+    }
+    all_are_lists(members)
 }
 
 /// Whether each member is a list of scalars.

@@ -1,6 +1,7 @@
 -- What a record shows fits its type, and a put of it puts what the record holds.
-use Rattle.std.proofs.Common.{◌≡◌, ℕ, ◌<◌, ◌^◌, ℤ, pos, negsuc, unsigned_abs, nat_lt, Bool, true, false, ◌&&◌, List, [], ◌∷◌, map, Option, None, Some, Err, if◌then◌else◌, refl, ap, ◌∙◌, arith}
+use Rattle.std.proofs.Common.{◌≡◌, ℕ, ◌<◌, ◌≤◌, ◌^◌, ◌==◌, ℤ, pos, negsuc, unsigned_abs, nat_lt, length, Bool, true, false, ◌&&◌, List, [], ◌∷◌, map, Option, None, Some, Err, if◌then◌else◌, refl, ap, ◌∙◌, arith}
 use Rattle.std.specs.List.{list_all}
+use Rattle.std.specs.Prelude.{⊤}
 use Rattle.std.specs.FinSet.{FinSet, contains}
 use Rattle.std.specs.Ordering.{nat_cmp}
 use Rattle.std.proofs.lemmas.Bool.{false≢true}
@@ -10,7 +11,8 @@ use Rattle.pvd_value.specs.Fits.{fits_of}
 use Rattle.rec_kinds.specs.Configs.{Config}
 use Rattle.rec_kinds.specs.Severities.{severity_number, status_number}
 use Rattle.rec_kinds.specs.Sorts.{is_of, sort_of, within}
-use Rattle.rec_kinds.specs.Validity.{refusal, own_refusal}
+use Rattle.rec_kinds.specs.Ranges.{most_choices}
+use Rattle.rec_kinds.specs.Validity.{refusal, own_refusal, refused_unless, index_bound}
 use Rattle.rec_kinds.specs.declared.kind.Kind.{Kind}
 use Rattle.rec_kinds.specs.declared.kind.Kind.TheVariants.{Longin, Longout, Int64in, Int64out, Bi, Bo, Mbbi, Mbbo, Stringin, Stringout, Waveform}
 use Rattle.rec_kinds.specs.declared.element.Element.{Element}
@@ -18,9 +20,9 @@ use Rattle.rec_kinds.specs.declared.element.Element.TheVariants as elements
 use Rattle.rec_kinds.specs.declared.datum.Datum.{Datum}
 use Rattle.rec_kinds.specs.declared.datum.Datum.TheVariants.{Num, Index, Text, Nums, Texts}
 use Rattle.rec_kinds.specs.declared.put.PutRefusal.{PutRefusal}
-use Rattle.rec_kinds.specs.declared.put.PutRefusal.TheVariants.{Disabled, NothingWritable}
+use Rattle.rec_kinds.specs.declared.put.PutRefusal.TheVariants.{IndexOutside, Disabled, NothingWritable}
 use Rattle.rec_kinds.specs.declared.state.RecState.{RecState}
-use Rattle.rec_fields.specs.Again.{IsWord, MayBePutAgain, IsPutAgain}
+use Rattle.rec_fields.specs.Again.{MayBePutAgain, IsPutAgain}
 use Rattle.rec_fields.specs.Puts.{datum_in, value_in, action_for, put_of, taken_unless, value_leaf}
 use Rattle.rec_fields.specs.Shown.{three, datum_shown, value_shown, shown}
 use Rattle.rec_fields.specs.Types.{tree_of, record_tree}
@@ -91,6 +93,30 @@ sizes high [] h = refl
 sizes high (pos n ∷ ns) h = ap (λ (zs : List ℤ). pos n ∷ zs) (sizes high ns (both (within (pos 0) high (pos n)) (list_all (within (pos 0) high) ns) h).1)
 sizes high (negsuc n ∷ ns) h = absurd (false≢true h)
 
+-- an index is a number of 16 bits
+abbrev IsWord : Datum → Type 0
+IsWord (Index i) = i < 2 ^ 16
+IsWord _ = ⊤
+
+at_most_sixteen : (count : ℕ) → count ≤ most_choices → (if count == 0 then most_choices else count) ≤ most_choices
+at_most_sixteen count h = grind (arith, nat_tests)
+
+allowed : (good : Bool) → refused_unless good IndexOutside None ≡ None → good ≡ true
+allowed true h = refl
+allowed false h = absurd (cc)
+
+below_word : (i bound : ℕ) → nat_lt i bound ≡ true → bound ≤ most_choices → i < 2 ^ 16
+below_word i bound h few = grind (arith, nat_tests)
+
+-- an index that the record takes is one where it has no more choices than a record may have
+word_of : (config : Config) (d : Datum) → length config.choices ≤ most_choices → own_refusal config d ≡ None → IsWord d
+word_of config (Index i) few taken =
+    below_word i (index_bound config.choices) (allowed (nat_lt i (index_bound config.choices)) taken) (at_most_sixteen (length config.choices) few)
+word_of config (Num n) few taken = tt
+word_of config (Text t) few taken = tt
+word_of config (Nums ns) few taken = tt
+word_of config (Texts ts) few taken = tt
+
 word_test : (i : ℕ) → i < 2 ^ 16 → nat_lt i 65536 ≡ true
 word_test i h = grind (arith, nat_tests)
 
@@ -146,7 +172,7 @@ put_at config value mask d r marked is refused =
 pub again : (config : Config) (state : RecState) (mask : FinSet nat_cmp) → MayBePutAgain config state mask → IsPutAgain config state mask
 again config state mask m = record {
   action = put_at config (shown config state) mask state.datum None m.marked
-      (datum_back config.kind config.ftvl config.choices state.datum m.valid.sort m.word)
+      (datum_back config.kind config.ftvl config.choices state.datum m.valid.sort (word_of config state.datum m.choices m.valid.taken))
       (ap (λ b. if b then Some Disabled else own_refusal config state.datum) m.enabled ∙ m.valid.taken);
   same = λ moment drove. ap (value_shown config) m.kept;
 }

@@ -294,6 +294,15 @@ fn put_text(alloc: Global, text: &str) -> Result<String, NoMemory> {
     put(alloc, Kind::Stringout, "", value, 1)
 }
 
+/// A put of texts, with commas between any two, to a waveform of these fields.
+fn put_texts(alloc: Global, given: &str, texts: &str) -> Result<String, NoMemory> {
+    let mut items = Vec::new(alloc);
+    for text in texts.split(',') {
+        items.push(Name::of(alloc, text)?)?;
+    }
+    put(alloc, Kind::Waveform, given, PvValue::List(Items::Text(items)), 1)
+}
+
 fn put_numbers(alloc: Global, given: &str, numbers: &[i32]) -> Result<String, NoMemory> {
     let value = PvValue::List(Items::I32(Vec::from_slice(alloc, numbers)?));
     put(alloc, Kind::Waveform, given, value, 1)
@@ -456,9 +465,16 @@ fn numbers_are_put_and_clamped(rt: HostRuntime) -> Result<(), Fail> {
         let words = put(rt.alloc(), kind, given, PvValue::I32(7), leaf)?;
         assert_eq!(rt; words.as_str(), want);
     }
-    for number in [i64::MIN, i64::MAX] {
-        let words = put(rt.alloc(), Kind::Int64in, "", PvValue::I64(number), 1)?;
-        let want = format!(in rt.alloc(); "{number} as long {number};{QUIET}")?;
+    let drive = "DRVL=-9223372036854775807;DRVH=9223372036854775806";
+    let table = [
+        (Kind::Int64in, "", i64::MIN, i64::MIN),
+        (Kind::Int64in, "", i64::MAX, i64::MAX),
+        (Kind::Int64out, drive, i64::MIN, i64::MIN + 1),
+        (Kind::Int64out, drive, i64::MAX, i64::MAX - 1),
+    ];
+    for (kind, given, number, held) in table {
+        let words = put(rt.alloc(), kind, given, PvValue::I64(number), 1)?;
+        let want = format!(in rt.alloc(); "{held} as long {held};{QUIET}")?;
         assert_eq!(rt; words.as_str(), want.as_str());
     }
     Ok(())
@@ -507,6 +523,24 @@ fn texts_and_lists_have_their_limits(rt: HostRuntime) -> Result<(), Fail> {
     assert_eq!(rt; words.as_str(), want.as_str());
     let words = put_numbers(rt.alloc(), "FTVL=LONG;NELM=4", &[1, 2, 3, 4, 5])?;
     assert_eq!(rt; words.as_str(), "TooManyElements");
+    Ok(())
+}
+
+#[test]
+fn texts_in_lists_have_their_limits(rt: HostRuntime) -> Result<(), Fail> {
+    let words = put_texts(rt.alloc(), "", TEXT_OF_39)?;
+    let want = format!(in rt.alloc(); "{TEXT_OF_39} as string[] '{TEXT_OF_39}';{QUIET}")?;
+    assert_eq!(rt; words.as_str(), want.as_str());
+    let table = [
+        ("", "a,b", "TooManyElements"),
+        ("NELM=2", "a,1234567890123456789012345678901234567890", "TextTooLong"),
+        ("", "a,1234567890123456789012345678901234567890", "TextTooLong"),
+        ("DISP=1", "a,1234567890123456789012345678901234567890", "Disabled"),
+    ];
+    for (given, texts, want) in table {
+        let words = put_texts(rt.alloc(), given, texts)?;
+        assert_eq!(rt; words.as_str(), want);
+    }
     Ok(())
 }
 

@@ -11,7 +11,7 @@ use Rattle.rec_kinds.specs.Configs.{Config}
 use Rattle.rec_kinds.specs.Fields.{rule_of}
 use Rattle.rec_kinds.specs.Given.{text_of, choices_told, element_told}
 use Rattle.rec_kinds.specs.Numbers.{number_of, number_in}
-use Rattle.rec_kinds.specs.Ranges.{int32, int64}
+use Rattle.rec_kinds.specs.Ranges.{int32, int64, text_bytes}
 use Rattle.rec_kinds.specs.Sorts.{within, is_of, element_sort}
 use Rattle.rec_kinds.specs.Validity.{IsValid, index_bound, is_short, refused_unless, own_refusal, drive_fits}
 use Rattle.rec_kinds.specs.declared.kind.Kind.{Kind}
@@ -39,12 +39,12 @@ unmapped : {A B : Type 0} (f : A → B) (o : Option A) → option_map f o ≡ No
 unmapped f None h = refl
 unmapped f (Some x) h = absurd (cc)
 
-unless_none : (good : Bool) (cause : Cause) → unless good cause ≡ None → good ≡ true
+pub unless_none : (good : Bool) (cause : Cause) → unless good cause ≡ None → good ≡ true
 unless_none true cause h = refl
 unless_none false cause h = absurd (cc)
 
 -- where no field is at fault, the text that a field is given last isn't misread
-no_fault : (kind : Kind) (all fs : List FieldText) (name t : List ℕ) → first_fault kind all fs ≡ None → text_of fs name ≡ Some t →
+pub no_fault : (kind : Kind) (all fs : List FieldText) (name t : List ℕ) → first_fault kind all fs ≡ None → text_of fs name ≡ Some t →
     misread kind all t (rule_of kind name) ≡ None
 no_fault kind all [] name t h e = absurd (cc)
 no_fault kind all (f ∷ fs) name t h e =
@@ -103,7 +103,7 @@ pub taken : (good : Bool) (r : PutRefusal) → good ≡ true → refused_unless 
 taken true r h = refl
 taken false r h = absurd (false≢true h)
 
-both : (a b : Bool) → a ≡ true → b ≡ true → (a && b) ≡ true
+pub both : (a b : Bool) → a ≡ true → b ≡ true → (a && b) ≡ true
 both a b h g = ap (λ x. x && b) h ∙ g
 
 -- an index of a range that begins at 0
@@ -118,16 +118,16 @@ bound_some (c ∷ cs) = grind (arith, nat_tests)
 zero_fits : (bound : ℕ) → within (pos 0) (pos bound) (pos 0) ≡ true
 zero_fits bound = grind (arith, ints, nat_tests)
 
-abbrev low32 : ℤ
+abbrev pub low32 : ℤ
 low32 = int32.0
 
-abbrev high32 : ℤ
+abbrev pub high32 : ℤ
 high32 = int32.1
 
-abbrev lowest : ℤ
+abbrev pub lowest : ℤ
 lowest = int64.0
 
-abbrev highest : ℤ
+abbrev pub highest : ℤ
 highest = int64.1
 
 list_suits : (e : Element) → is_of (element_sort e) (empty_list e) ≡ true
@@ -167,7 +167,7 @@ list_drive config elements.I64 = refl
 list_drive config elements.U64 = refl
 
 -- a field of a kind that has it, by its rule
-numbered : (kind : Kind) (fields : List FieldText) (name : List ℕ) (low high : ℤ) → build_fault kind fields ≡ None →
+pub numbered : (kind : Kind) (fields : List FieldText) (name : List ℕ) (low high : ℤ) → build_fault kind fields ≡ None →
     rule_of kind name ≡ Some (Number low high) → (t : List ℕ) → text_of fields name ≡ Some t → is_some (number_in low high t) ≡ true
 numbered kind fields name low high h is t e =
     unless_none (is_some (number_in low high t)) causes.Number
@@ -179,12 +179,12 @@ indexed kind fields name h is t e =
     unless_none (is_some (number_in (pos 0) (pos (index_bound (choices_told kind fields) - 1)) t)) causes.Number
     (sym (ap (misread kind fields t) is) ∙ no_fault kind fields fields name t h e)
 
-short : (kind : Kind) (fields : List FieldText) (name : List ℕ) → build_fault kind fields ≡ None → rule_of kind name ≡ Some (Text 39) →
+short : (kind : Kind) (fields : List FieldText) (name : List ℕ) → build_fault kind fields ≡ None → rule_of kind name ≡ Some (Text text_bytes) →
     (t : List ℕ) → text_of fields name ≡ Some t → is_short t ≡ true
 short kind fields name h is t e =
     unless_none (is_short t) causes.Length (sym (ap (misread kind fields t) is) ∙ no_fault kind fields fields name t h e)
 
-number_valid : (fields : List FieldText) (name : List ℕ) (low high : ℤ) → within low high (pos 0) ≡ true →
+pub number_valid : (fields : List FieldText) (name : List ℕ) (low high : ℤ) → within low high (pos 0) ≡ true →
     ((t : List ℕ) → text_of fields name ≡ Some t → is_some (number_in low high t) ≡ true) →
     within low high (unwrap_or (option_and_then (number_in lowest highest) (text_of fields name)) (pos 0)) ≡ true
 number_valid fields name low high nought ok = told_number low high lowest highest (pos 0) (text_of fields name) nought ok

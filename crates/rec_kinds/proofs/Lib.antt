@@ -4,3 +4,4 @@ pub mod Rows
 pub mod Built
 pub mod Keeping
 pub mod Telling
+pub mod Ranged

@@ -4,7 +4,7 @@ use Rattle.std.specs.Option.{option_or}
 use Rattle.std.specs.Str.{bytes_eq}
 use Rattle.rec_kinds.specs.ChoiceFields.{choice_names, severity_names}
 use Rattle.rec_kinds.specs.Named.{first_named}
-use Rattle.rec_kinds.specs.Ranges.{Range, int32, int64, flag, element_count, text_bytes}
+use Rattle.rec_kinds.specs.Ranges.{Range, int32, int64, flag, element_count, text_bytes, desc_bytes}
 use Rattle.rec_kinds.specs.declared.kind.Kind.{Kind}
 use Rattle.rec_kinds.specs.declared.kind.Kind.TheVariants.{Longin, Longout, Int64in, Int64out, Bi, Bo, Mbbi, Mbbo, Stringin, Stringout, Waveform}
 use Rattle.rec_kinds.specs.declared.field.Rule.{Rule}
@@ -20,7 +20,7 @@ ranged range = Number range.0 range.1
 -- the fields that every kind has
 abbrev pub every : Rows
 every =
-    (codes "DESC", Text 40) ∷ (codes "DISP", ranged flag) ∷ []
+    (codes "DESC", Text desc_bytes) ∷ (codes "DISP", ranged flag) ∷ []
 
 -- the fields that every kind takes without effect
 abbrev pub unread : Rows

@@ -19,3 +19,4 @@ pub mod Clipping
 pub mod Given
 pub mod Building
 pub mod Told
+pub mod Configured

@@ -1,5 +1,5 @@
 -- What an action makes of a record (EPICS record reference).
-use Rattle.std.specs.Prelude.{ℤ, Bool, false, int_lt, if◌then◌else◌}
+use Rattle.std.specs.Prelude.{ℤ, Bool, true, false, int_lt, if◌then◌else◌}
 use Rattle.rec_kinds.specs.Alarms.{Alarm, alarm_of}
 use Rattle.rec_kinds.specs.Configs.{Config}
 use Rattle.rec_kinds.specs.Moments.{Instant}
@@ -33,6 +33,14 @@ clamped config (Index i) = Index i
 clamped config (Text t) = Text t
 clamped config (Nums ns) = Nums ns
 clamped config (Texts ts) = Texts ts
+
+-- whether it is a text or a list, which copies share
+abbrev pub is_shared : Datum → Bool
+is_shared (Num n) = false
+is_shared (Index i) = false
+is_shared (Text t) = true
+is_shared (Nums ns) = true
+is_shared (Texts ts) = true
 
 -- A put sets the datum, and processing keeps it.
 abbrev pub datum_after : Config → RecState → Action → Datum

@@ -41,3 +41,11 @@ element_count = (pos 1, pos 16384)
 -- how many bytes the text of a record has at most
 abbrev pub text_bytes : ℕ
 text_bytes = 39
+
+-- how many bytes the description of a record has at most
+abbrev pub desc_bytes : ℕ
+desc_bytes = 40
+
+-- how many choices a record has at most
+abbrev pub most_choices : ℕ
+most_choices = 16

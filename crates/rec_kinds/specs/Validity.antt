@@ -2,7 +2,7 @@
 use Rattle.std.specs.Prelude.{◌≡◌, ℕ, ⊤, Bool, true, ◌&&◌, ◌==◌, nat_lt, nat_le, List, length, Option, None, Some, Result, Ok, Err, if◌then◌else◌}
 use Rattle.std.specs.List.{list_all}
 use Rattle.rec_kinds.specs.Configs.{Config}
-use Rattle.rec_kinds.specs.Ranges.{text_bytes}
+use Rattle.rec_kinds.specs.Ranges.{text_bytes, most_choices}
 use Rattle.rec_kinds.specs.Sorts.{Sort, number, sort_of, within, suits}
 use Rattle.rec_kinds.specs.declared.datum.Datum.{Datum}
 use Rattle.rec_kinds.specs.declared.datum.Datum.TheVariants.{Num, Index, Text, Nums, Texts}
@@ -17,7 +17,7 @@ IsOfSort config datum = suits config datum ≡ true
 
 -- how many indices there are: as many as choices, or sixteen where there are none
 abbrev pub index_bound : List (List ℕ) → ℕ
-index_bound choices = if length choices == 0 then 16 else length choices
+index_bound choices = if length choices == 0 then most_choices else length choices
 
 abbrev pub is_short : List ℕ → Bool
 is_short text = nat_le (length text) text_bytes

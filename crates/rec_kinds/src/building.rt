@@ -7,6 +7,7 @@ ghost use Rattle.rec_kinds.specs.Numbers.{number_in};
 ghost use Rattle.rec_kinds.specs.ChoiceFields.{severity_names};
 ghost use Rattle.rec_kinds.specs.Given.{choices_told, severity_told, port_told};
 ghost use Rattle.rec_kinds.specs.Building.{config_of, opening_datum, opens_undefined, opening, opening_of, unless, misread, count_fault, build_fault, IsBuildFault, empty_list, limit_told};
+ghost use Rattle.rec_kinds.specs.Configured.{IsInRange};
 ghost use Rattle.rec_kinds.specs.Validity.{IsValid, index_bound};
 
 use crate::choice::{choice_fields, severity_fields};
@@ -20,6 +21,7 @@ use crate::items::Items;
 use crate::kind::Kind;
 use crate::number::{is_number, number_within};
 use crate::put::index_limit;
+use crate::ranges::{ELEMENT_COUNT, FLAG};
 use crate::record_text::FieldText;
 use crate::severity::{Severity, severity_named};
 use crate::shared::{SharedItems, SharedText};
@@ -29,8 +31,8 @@ use std::alloc::Global;
 
 /// The configuration that these fields make of a record of this kind, and the state in which it opens: with its field
 /// VAL, or else undefined with 0 or the empty text; a waveform opens empty and defined. A field that is given twice counts
-/// where it stands last, and one that the kind doesn't know has no effect. The first fault in the order of the fields is
-/// answered (EPICS record reference).
+/// where it stands last, and one that the kind doesn't know has no effect. What is built stands in the ranges of its fields.
+/// The first fault in the order of the fields is answered (EPICS record reference).
 pub fn build(
     alloc: Global,
     kind: Kind,
@@ -40,6 +42,7 @@ pub fn build(
     ensures config { IfOk result (λ built. built.0 ≡ config_of kind fields.now) }
     ensures state { IfOk result (λ built. built.1 ≡ opening_of kind fields.now) }
     ensures valid { IfOk result (λ built. IsValid built.0 built.1) }
+    ensures ranges { IfOk result (λ built. IsInRange built.0) }
     ensures fault { IfErr result (IsBuildFault kind fields.now) }
 {
     let given = Given { kind, fields };
@@ -141,7 +144,7 @@ fn configured(alloc: Global, given: &Given) -> Result<RecConfig, NoMemory>
     Ok(RecConfig {
         kind: given.kind,
         desc: Name::of(alloc, given.text("DESC"))?,
-        disabled: given.number("DISP", (0, 1), 0) == 1,
+        disabled: given.number("DISP", FLAG, 0) == 1,
         port: port_of(alloc, given)?,
         limits: limits_of(given),
         drvh: limit(given, "DRVH"),
@@ -149,7 +152,7 @@ fn configured(alloc: Global, given: &Given) -> Result<RecConfig, NoMemory>
         choices: choices_of(alloc, given)?,
         severities: severities_of(alloc, given)?,
         ftvl: given.element(),
-        nelm: u32::from(given.count("NELM", (1, 16_384), 1)),
+        nelm: u32::from(given.count("NELM", ELEMENT_COUNT, 1)),
     })
 }
 

@@ -1,5 +1,6 @@
 // What a record holds, and what is done to it.
-ghost use Rattle.std.specs.Prelude.{◌≡◌, IfOk};
+ghost use Rattle.std.specs.Prelude.{◌≡◌, true, IfOk, IfErr};
+ghost use Rattle.rec_kinds.specs.Processing.{is_shared};
 
 use crate::shared::{SharedItems, SharedText};
 use pvd_type::{Name, NoMemory};
@@ -33,7 +34,8 @@ impl Datum {
     /// A copy of the datum, which shares its text or list. It takes no memory: `NoMemory` is answered only where 2^63 - 1
     /// data share one text or list.
     pub fn clone_in(&self, _alloc: Global) -> Result<Datum, NoMemory>
-        ensures { IfOk result (λ datum. datum ≡ self.now) }
+        ensures same { IfOk result (λ datum. datum ≡ self.now) }
+        ensures memory { IfErr result (λ _. is_shared self.now ≡ true) }
     {
         match self {
             Datum::Num(number) => Ok(Datum::Num(*number)),

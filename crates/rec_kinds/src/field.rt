@@ -6,6 +6,7 @@ ghost use Rattle.rec_kinds.specs.Fields.{listed, choice_rule, own_rule, rule_of}
 use crate::choice::{choice_fields, severity_fields};
 use crate::kind::Kind;
 use crate::named::named;
+use crate::ranges::{DESC_BYTES, ELEMENT_COUNT, FLAG, TEXT_BYTES};
 
 /// How the text of a field is read (EPICS record reference).
 #[derive(Clone, Copy, Debug, PartialEq, Eq)]
@@ -32,8 +33,11 @@ pub enum Rule {
     Path,
 }
 
+// A number of the range of flags.
+const FLAG_NUMBER: Rule = Rule::Number(FLAG.0, FLAG.1);
+
 // The fields that every kind has.
-const COMMON: [(&str, Rule); 2] = [("DESC", Rule::Text(40)), ("DISP", Rule::Number(0, 1))];
+const COMMON: [(&str, Rule); 2] = [("DESC", Rule::Text(DESC_BYTES)), ("DISP", FLAG_NUMBER)];
 
 // The fields that every kind takes without effect.
 const UNREAD: [(&str, Rule); 57] = [
@@ -135,7 +139,7 @@ const LONG: [(&str, Rule); 9] = [
 const LONG_DRIVE: [(&str, Rule); 2] = [("DRVH", INT64), ("DRVL", INT64)];
 
 // The value of one of two.
-const TWO: [(&str, Rule); 1] = [("VAL", Rule::Number(0, 1))];
+const TWO: [(&str, Rule); 1] = [("VAL", FLAG_NUMBER)];
 
 // What a bo takes without effect besides.
 const BO_UNREAD: [(&str, Rule); 1] = [("HIGH", Rule::Unread)];
@@ -144,10 +148,13 @@ const BO_UNREAD: [(&str, Rule); 1] = [("HIGH", Rule::Unread)];
 const SIXTEEN: [(&str, Rule); 1] = [("VAL", Rule::Index)];
 
 // The value of a text.
-const STRING: [(&str, Rule); 1] = [("VAL", Rule::Text(39))];
+const STRING: [(&str, Rule); 1] = [("VAL", Rule::Text(TEXT_BYTES))];
+
+// How many elements a list may have.
+const LIST_COUNT: Rule = Rule::Count(ELEMENT_COUNT.0 as i64, ELEMENT_COUNT.1 as i64);
 
 // The elements of a list.
-const LIST: [(&str, Rule); 2] = [("FTVL", Rule::Element), ("NELM", Rule::Count(1, 16_384))];
+const LIST: [(&str, Rule); 2] = [("FTVL", Rule::Element), ("NELM", LIST_COUNT)];
 
 // The port of a record that has one.
 const PORT: [(&str, Rule); 2] = [("DTYP", Rule::Device), ("OUT", Rule::Path)];

@@ -20,6 +20,7 @@ mod number;
 mod port_text;
 mod processing;
 mod put;
+mod ranges;
 mod record_text;
 mod severity;
 mod shared;

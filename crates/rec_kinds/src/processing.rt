@@ -1,6 +1,6 @@
 // What an action makes of a record.
-ghost use Rattle.std.specs.Prelude.{◌≡◌, IfOk};
-ghost use Rattle.rec_kinds.specs.Processing.{processed, datum_after, undefined_after, clamped, nearest};
+ghost use Rattle.std.specs.Prelude.{◌≡◌, true, IfOk, IfErr};
+ghost use Rattle.rec_kinds.specs.Processing.{processed, datum_after, undefined_after, clamped, nearest, is_shared};
 ghost use Rattle.rec_kinds.specs.Validity.{IsValid, MayBeDone};
 
 use crate::config::RecConfig;
@@ -13,7 +13,7 @@ use std::alloc::Global;
 /// The state of a record after an action at a moment. `drove` says whether its port took the value, and is true of a
 /// record without a port. A number that is put goes to the nearest that DRVL and DRVH allow, where DRVL is below DRVH.
 /// The tag stays. The new state shares its text or list with the action or with the old state, so that processing takes no
-/// memory: `NoMemory` is answered only where 2^63 - 1 states share one.
+/// memory: `NoMemory` is answered only where 2^63 - 1 states share one, and never of a record that holds a number or an index.
 pub fn process(
     alloc: Global,
     config: &RecConfig,
@@ -26,6 +26,7 @@ pub fn process(
     requires may { MayBeDone config.now action.now }
     ensures processed { IfOk result (λ state. state ≡ processed config.now old.now action.now moment drove) }
     ensures valid { IfOk result (λ state. IsValid config.now state) }
+    ensures memory { IfErr result (λ _. is_shared (datum_after config.now old.now action.now) ≡ true) }
 {
     let datum = new_datum(alloc, config, old, action)?;
     let undefined = stays_undefined(old, action);
@@ -40,7 +41,8 @@ fn new_datum(
     old: &RecState,
     action: &Action,
 ) -> Result<Datum, NoMemory>
-    ensures { IfOk result (λ datum. datum ≡ datum_after config.now old.now action.now) }
+    ensures same { IfOk result (λ datum. datum ≡ datum_after config.now old.now action.now) }
+    ensures memory { IfErr result (λ _. is_shared (datum_after config.now old.now action.now) ≡ true) }
 {
     match action {
         Action::Put(datum) => put_datum(alloc, config, datum),
@@ -50,7 +52,8 @@ fn new_datum(
 
 /// What a put of the datum sets.
 fn put_datum(alloc: Global, config: &RecConfig, datum: &Datum) -> Result<Datum, NoMemory>
-    ensures { IfOk result (λ put. put ≡ clamped config.now datum.now) }
+    ensures same { IfOk result (λ put. put ≡ clamped config.now datum.now) }
+    ensures memory { IfErr result (λ _. is_shared (clamped config.now datum.now) ≡ true) }
 {
     match datum {
         Datum::Num(number) => Ok(Datum::Num(nearest_to(*number, config.drvl(), config.drvh()))),

@@ -5,6 +5,7 @@ ghost use Rattle.rec_kinds.specs.Validity.{IsOfSort, refusal, own_refusal, outco
 
 use crate::config::RecConfig;
 use crate::datum::Datum;
+use crate::ranges::TEXT_BYTES;
 use pvd_type::Name;
 
 /// Why a put is refused.
@@ -84,11 +85,11 @@ fn all_short(texts: &[Name]) -> bool
     true
 }
 
-/// Whether a text has at most 39 bytes.
+/// Whether a text has no more bytes than a record may hold.
 fn is_short_text(text: &str) -> bool
     ensures { result ≡ is_short text.now }
 {
-    text.len() <= 39
+    text.len() <= TEXT_BYTES as usize
 }
 
 /// How many indices there are for so many choices: sixteen where there are none.

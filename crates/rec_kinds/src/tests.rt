@@ -158,6 +158,26 @@ fn records_open_by_their_fields(rt: HostRuntime) -> Result<(), Fail> {
         (Kind::Mbbo, "VAL=15", "15 0 0 "),
         (Kind::Mbbo, "VAL=16", "BadNumber VAL 1"),
         (Kind::Stringin, "VAL=some words", "some words 0 0 "),
+        (
+            Kind::Stringout,
+            "VAL=123456789012345678901234567890123456789",
+            "123456789012345678901234567890123456789 0 0 ",
+        ),
+        (
+            Kind::Stringin,
+            "VAL=1234567890123456789012345678901234567890",
+            "BadLength VAL 1",
+        ),
+        (
+            Kind::Longin,
+            "DESC=1234567890123456789012345678901234567890;VAL=1",
+            "1 0 0 ",
+        ),
+        (
+            Kind::Longin,
+            "VAL=1;DESC=12345678901234567890123456789012345678901",
+            "BadLength DESC 2",
+        ),
         (Kind::Waveform, "FTVL=LONG;NELM=4", " 0 0 "),
         (Kind::Waveform, "FTVL=FLOAT", "BadChoice FTVL 1"),
         (Kind::Waveform, "NELM=16384", " 0 0 "),
