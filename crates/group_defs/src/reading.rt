@@ -1,0 +1,34 @@
+ghost use Rattle.std.specs.Prelude.{length, IfOk};
+ghost use Rattle.group_defs.specs.Groups.{Answers};
+ghost use Rattle.group_defs.specs.Sound.{AreGroups};
+ghost use Rattle.group_defs.specs.Checking.{defined};
+
+use crate::building::group_defs;
+use crate::checking::check;
+use crate::def::GroupDef;
+use crate::fault::GroupFault;
+use crate::joining::join_texts;
+use crate::listed::listed;
+use rec_kinds::RecText;
+use std::alloc::Global;
+
+/// The groups that the records' infos `Q:group` define, in the order in which they are first named (QSRV manual, "Group PV
+/// definitions").
+///
+/// Faults are found in two readings. The first goes by the records, then by the groups' names and the keys of each by
+/// their bytes, and finds BadJson at a record, and UnknownKey, BadMember and SameMember in this order at a key. The
+/// second goes from group to group, and finds UnknownTrigger, NameTaken and TooMany in this order at each.
+#[tactic(auto, unfolding(crate::specs::Checking::defined))]
+pub fn read_groups(alloc: Global, texts: &[RecText]) -> Result<Vec<GroupDef>, GroupFault>
+    ensures exact { Answers (λ defs. defs.items) result (defined texts.now) }
+    ensures sound { IfOk result (λ defs. AreGroups (length texts.now) defs.items) }
+{
+    if texts.len() > u32::MAX as usize {
+        return Err(GroupFault::NoMemory);
+    }
+    let drafts = join_texts(alloc, texts)?;
+    let found = listed(alloc, drafts)?;
+    let groups = found.as_slice();
+    check(alloc, texts, groups)?;
+    Ok(group_defs(alloc, groups)?)
+}
