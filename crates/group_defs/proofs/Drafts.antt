@@ -1,24 +1,24 @@
 -- Members and groups that are joined in maps.
-use Rattle.std.proofs.Common.{◌≡◌, ℕ, Bool, true, false, not, cond, List, [], ◌∷◌, map, Option, Some, None, Result, Ok, Err, is_some, option_map, string_bytes, refl, sym, ap, ◌∙◌}
+use Rattle.std.proofs.Common.{◌≡◌, ℕ, Bool, true, false, not, cond, List, [], ◌∷◌, map, Option, Some, None, Ok, Err, is_some, option_map, string_bytes, refl, sym, ap, ◌∙◌}
 use Rattle.std.specs.declared.string.String.{String}
-use Rattle.std.specs.declared.cmp.Ordering.{Ordering}
 use Rattle.std.specs.BTreeMap as tree
 use Rattle.std.specs.Ordering.{is_eq}
-use Rattle.std.specs.Map.{lookup, set_value}
+use Rattle.std.specs.Map.{lookup}
 use Rattle.std.specs.Prelude.{unwrap_or}
 use Rattle.std.specs.Str.{bytes_eq}
 use Rattle.std.specs.Cmp.Lexicographic.{bytes_decides}
 use Rattle.indexmap.specs.IndexMap as index
 use Rattle.group_defs.specs.Order.{text_cmp}
 use Rattle.group_defs.specs.Joined.{Joined, blank}
-use Rattle.group_defs.specs.Joining.{Groups, known, with_group, has_member, joined_with}
+use Rattle.group_defs.specs.Joining.{known, with_group, joined_with}
+use Rattle.group_defs.specs.Statements.{Groups, has_member}
 use Rattle.group_defs.specs.declared.fault.Stop.TheVariants.{SameMember}
 use Rattle.group_defs.specs.declared.said.MemberText.{MemberText}
 use Rattle.group_defs.specs.Checking.{listed_members, listed_group}
 use Rattle.group_defs.specs.declared.listed.Member as listed
 use Rattle.group_defs.specs.declared.listed.Group.{Group}
 use Rattle.group_defs.specs.declared.said.Said.TheVariants.{Member}
-use Rattle.group_defs.proofs.Maps.{seen, seen-insert, seen-lookup, seen-put}
+use Rattle.group_defs.proofs.Maps.{seen-insert, seen-lookup, seen-put}
 
 same_option : {V : Type 0} (o : Option V) → option_map (λ v. v) o ≡ o
 same_option None = refl
@@ -46,7 +46,7 @@ module _ {Y : Type 0} (es : List (String Y × Joined)) (k : String Y) (name : Li
       ap (λ (xs : List (String Y × Joined)). named xs) put ∙ seen-put (λ (k : String Y). string_bytes k) (λ (v : Joined). v) bytes_eq es k w
       ∙ ap (λ (n : List ℕ). index.insert_entry bytes_eq (named es) n w) same_key
 
-same_bytes : (n : List ℕ) → bytes_eq n n ≡ true
+pub same_bytes : (n : List ℕ) → bytes_eq n n ≡ true
 same_bytes n = (bytes_decides n n).1 refl
 
 -- the later of two groups in one place stays

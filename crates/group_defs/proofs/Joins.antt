@@ -1,10 +1,11 @@
 -- A group that is joined where it stands.
-use Rattle.std.proofs.Common.{◌≡◌, ℕ, List, Result, Ok, Err, refl, sym, ap, ◌∙◌}
+use Rattle.std.proofs.Common.{◌≡◌, ℕ, List, Ok, refl, sym, ap, ◌∙◌}
 use Rattle.json.specs.Json.{Json, Members}
 use Rattle.group_defs.specs.Told.{Told, Fails, ◌>>=◌}
 use Rattle.group_defs.specs.Order.{Place, in_order}
 use Rattle.group_defs.specs.Joined.{Joined, blank}
-use Rattle.group_defs.specs.Joining.{Groups, known, with_group, join_keys, join_group}
+use Rattle.group_defs.specs.Joining.{known, with_group, join_keys, join_group}
+use Rattle.group_defs.specs.Statements.{Groups}
 use Rattle.group_defs.specs.declared.fault.Stop.{Stop}
 use Rattle.group_defs.proofs.Drafts.{put_again}
 use Rattle.group_defs.proofs.Passing.{fails_on}

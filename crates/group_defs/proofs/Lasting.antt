@@ -1,5 +1,5 @@
 -- The definitions of sound groups are sound.
-use Rattle.std.proofs.Common.{◌≡◌, ◌==◌, ◌&&◌, ℕ, suc, ◌+◌, ◌<◌, ◌≤◌, Bool, true, false, cond, List, [], ◌∷◌, length, map, Option, None, Some, Result, Ok, Err, nat_lt, refl, sym, ap, ◌∙◌, subst, arith, lit≤}
+use Rattle.std.proofs.Common.{◌≡◌, ◌==◌, ℕ, suc, ◌+◌, ◌<◌, ◌≤◌, Bool, true, false, cond, List, [], ◌∷◌, length, map, Option, None, Some, Result, Ok, Err, nat_lt, refl, sym, ap, ◌∙◌, subst, arith, lit≤}
 use Rattle.std.specs.Prelude.{position}
 use Rattle.std.specs.List.{AllByRecursion, IsDistinct, enumerate_from, filter_map, cons_option, position_or_len}
 use Rattle.std.specs.List.Sorted.{IsStrictlySortedBy}
@@ -10,10 +10,11 @@ use Rattle.rec_kinds.specs.declared.record_text.RecText.{RecText}
 use Rattle.group_defs.specs.Told.{◌>>=◌, each}
 use Rattle.group_defs.specs.Order.{text_cmp}
 use Rattle.group_defs.specs.Joined.{Joined}
-use Rattle.group_defs.specs.Joining.{Groups, join_texts}
+use Rattle.group_defs.specs.Joining.{join_texts}
+use Rattle.group_defs.specs.Statements.{Groups}
 use Rattle.group_defs.specs.Triggers as spec
 use Rattle.group_defs.specs.Triggers.{trigger_of, number_of, numbers_from, numbers_in}
-use Rattle.group_defs.specs.Checking.{listed_members, listed_group, listed, names_of, has_lost, is_taken, fault_of, fault_from, has_trigger, triggered, member_def, member_defs, group_def}
+use Rattle.group_defs.specs.Checking.{listed_members, listed_group, listed, names_of, has_lost, is_taken, fault_of, fault_from, has_trigger, triggered, member_def, group_def}
 use Rattle.group_defs.specs.Sound.{IsMember, IsGroup, AreGroups}
 use Rattle.group_defs.specs.declared.said.MemberText.{MemberText}
 use Rattle.group_defs.specs.declared.def.GroupDef.{GroupDef}
@@ -21,7 +22,7 @@ use Rattle.group_defs.specs.declared.def.MemberDef.{MemberDef}
 use Rattle.group_defs.specs.declared.listed.Group.{Group}
 use Rattle.group_defs.specs.declared.fault.GroupFault.{GroupFault}
 use Rattle.group_defs.specs.declared.fault.GroupFault.TheVariants.{UnknownTrigger, NameTaken, TooMany}
-use Rattle.group_defs.proofs.Sounds.{IsStated, IsSound, AreSound, same_ok, no_ok, other, texts_sound}
+use Rattle.group_defs.proofs.Sounds.{IsStated, IsSound, no_ok, other, texts_sound}
 
 -- the place of a name is one of the list's
 position_below : (p : List ℕ → Bool) (xs : List (List ℕ)) (n : ℕ) → position p xs ≡ Some n → n < length xs

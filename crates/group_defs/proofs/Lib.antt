@@ -10,3 +10,4 @@ mod Joins
 mod Numbering
 mod Sounds
 mod Lasting
+mod Stating

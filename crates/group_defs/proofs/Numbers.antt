@@ -1,6 +1,6 @@
 -- The numbers of 32 bits that texts write.
-use Rattle.std.proofs.Common.{◌≡◌, ℕ, ◌<◌, Bool, true, false, cond, ◌&&◌, List, [], ◌∷◌, length, Option, Some, None, Result, Ok, Err, refl, ap, arith, ltb, w32, Decides}
-use Rattle.std.specs.Prelude.{ℤ, pos, negsuc, nat_lt, FitsSigned, codes}
+use Rattle.std.proofs.Common.{◌≡◌, ℕ, ◌<◌, Bool, true, false, cond, ◌&&◌, List, [], ◌∷◌, length, Some, None, Result, Ok, Err, refl, ap, arith, w32, Decides}
+use Rattle.std.specs.Prelude.{ℤ, pos, negsuc, nat_lt, FitsSigned}
 use Rattle.std.specs.Char.{digit_value}
 use Rattle.std.specs.List.{list_all}
 use Rattle.std.specs.Result.{OkIff, result_ok}

@@ -1,13 +1,11 @@
 -- Objects in the order in which they are read.
-use Rattle.std.proofs.Common.{◌≡◌, ℕ, suc, ◌+◌, ◌<◌, List, [], ◌∷◌, map, length, drop, get_or, refl, sym, ap, ◌∙◌, subst, arith, add-one}
+use Rattle.std.proofs.Common.{◌≡◌, ℕ, suc, ◌+◌, ◌<◌, List, length, drop, get_or, refl, sym, ap, ◌∙◌, arith}
 use Rattle.std.specs.Borrow.{Bor}
-use Rattle.std.specs.declared.cmp.Ordering.{Ordering}
 use Rattle.std.specs.BTreeMap.{insert_entry}
 use Rattle.std.specs.Ordering.{nat_cmp, ordering_then}
-use Rattle.json.specs.Json.{Json, Members, member}
+use Rattle.json.specs.Json.{Json, member}
 use Rattle.json.specs.Value.{value_view, members_view}
 use Rattle.json.specs.declared.value.Value.{Value}
-use Rattle.group_defs.specs.Members.{is_setting}
 use Rattle.group_defs.specs.Order.{text_cmp, Place, place_of, place_cmp, by_name_after, in_order_after}
 use Rattle.group_defs.specs.Shown.{shown_names, shown_places}
 use Rattle.group_defs.proofs.Maps.{seen-insert}

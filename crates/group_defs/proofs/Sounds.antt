@@ -1,9 +1,9 @@
 -- Groups that are joined keep sound members, in the order of their names.
-use Rattle.std.proofs.Common.{◌≡◌, ◌&&◌, ◌||◌, ℕ, ℤ, ◌+◌, ◌<◌, ◌≤◌, Bool, true, false, not, cond, List, [], ◌∷◌, length, map, Option, None, Some, Result, Ok, Err, MatchOption, is_some, unwrap_or, refl, sym, ap, ◌∙◌, subst, arith}
+use Rattle.std.proofs.Common.{◌≡◌, ◌&&◌, ℕ, ℤ, ◌+◌, ◌<◌, ◌≤◌, Bool, true, false, cond, List, [], ◌∷◌, length, Option, Some, Result, Ok, Err, MatchOption, is_some, unwrap_or, refl, sym, ap, ◌∙◌, subst, arith}
 use Rattle.std.specs.Prelude.{codes}
 use Rattle.std.specs.declared.cmp.Ordering.{Ordering}
 use Rattle.std.specs.declared.cmp.Ordering.TheVariants.{Less, Equal, Greater}
-use Rattle.std.specs.Ordering.{nat_cmp, is_eq, ordering_reverse, match_ordering}
+use Rattle.std.specs.Ordering.{is_eq, ordering_reverse, match_ordering}
 use Rattle.std.specs.Cmp.{IsTotalOrder}
 use Rattle.std.specs.Cmp.Lexicographic.{nat_list_cmp_total, bytes_decides}
 use Rattle.std.specs.BTreeMap.{insert_entry, is_at}
@@ -11,7 +11,6 @@ use Rattle.std.specs.Map.{lookup, keys_of}
 use Rattle.std.specs.List.{AllByRecursion, IsDistinct, enumerate_from, list_any}
 use Rattle.std.specs.List.Sorted.{IsStrictlySortedBy}
 use Rattle.std.specs.Str.{bytes_eq}
-use Rattle.indexmap.specs.IndexMap as index
 use Rattle.json.specs.Json.{Json, Members}
 use Rattle.json.specs.Find.{as_object, as_str, as_bool}
 use Rattle.json.specs.Strict.{keys}
@@ -23,10 +22,9 @@ use Rattle.group_defs.specs.Members.{is_setting, is_unknown, text_at, kind_at, o
 use Rattle.group_defs.specs.Keys.{setting_of, said_by}
 use Rattle.group_defs.specs.Order.{text_cmp, Place, in_order, json_of, groups_of}
 use Rattle.group_defs.specs.Joined.{Joined, blank}
-use Rattle.group_defs.specs.Joining.{Groups, known, with_group, has_member, joined_with, join_key, join_keys, join_group, join_groups, join_text, join_info, join_infos, in_record, fault_in, join_record, join_texts}
-use Rattle.group_defs.specs.declared.fault.Stop.{Stop}
+use Rattle.group_defs.specs.Joining.{known, with_group, joined_with, join_key, join_keys, join_group, join_groups, join_text, join_info, join_infos, join_record, join_texts}
+use Rattle.group_defs.specs.Statements.{Groups, has_member, in_record, fault_in}
 use Rattle.group_defs.specs.declared.fault.Stop.TheVariants as stops
-use Rattle.group_defs.specs.declared.fault.GroupFault.{GroupFault}
 use Rattle.group_defs.specs.declared.said.Said.{Said}
 use Rattle.group_defs.specs.declared.said.Said.TheVariants.{Id, Atomic, Member}
 use Rattle.group_defs.specs.declared.said.MemberText.{MemberText}
@@ -131,7 +129,7 @@ pub record AreSound (records : ℕ) (gs : Groups) : Type 0 where
 
 -- ---- names that differ
 
-apart : (a b : List ℕ) → bytes_eq a b ≡ false → bytes_eq b a ≡ false
+pub apart : (a b : List ℕ) → bytes_eq a b ≡ false → bytes_eq b a ≡ false
 apart a b h = go (bytes_eq b a) refl
   where
     go : (t : Bool) → bytes_eq b a ≡ t → bytes_eq b a ≡ false
@@ -147,7 +145,7 @@ unlike_put x name g (e ∷ es) h a = go (unlike_put x name g es h a.1) (bytes_eq
     go rest true = a
     go rest false = (a.0, rest)
 
-distinct_put : (es : Groups) (name : List ℕ) (g : Joined) → IsDistinct bytes_eq (keys_of es) → IsDistinct bytes_eq (keys_of (with_group es name g))
+pub distinct_put : (es : Groups) (name : List ℕ) (g : Joined) → IsDistinct bytes_eq (keys_of es) → IsDistinct bytes_eq (keys_of (with_group es name g))
 unfolding IsDistinct
 distinct_put [] name g d = (tt, tt)
 distinct_put (e ∷ es) name g d = go (distinct_put es name g d.1) (bytes_eq name e.0) refl

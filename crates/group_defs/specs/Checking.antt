@@ -1,5 +1,5 @@
 -- Which group can't be defined, and the definition of one that can (QSRV manual, "Group PV definitions").
-use Rattle.std.specs.Prelude.{ℕ, suc, Bool, true, false, not, ◌&&◌, ◌||◌, ◌==◌, List, [], ◌∷◌, length, take, drop}
+use Rattle.std.specs.Prelude.{ℕ, Bool, false, not, ◌&&◌, ◌||◌, ◌==◌, List, [], ◌∷◌, length, take, drop}
 use Rattle.std.specs.Prelude.{map, Option, None, Some, Result, Ok, Err}
 use Rattle.std.specs.Prelude.{is_some, codes, nat_lt, if◌then◌else◌}
 use Rattle.std.specs.List.{list_any, enumerate_from}
@@ -7,7 +7,8 @@ use Rattle.std.specs.Str.{bytes_eq}
 use Rattle.rec_kinds.specs.declared.record_text.RecText.{RecText}
 use Rattle.group_defs.specs.Told.{◌>>=◌, each}
 use Rattle.group_defs.specs.Joined.{Joined}
-use Rattle.group_defs.specs.Joining.{Groups, join_texts}
+use Rattle.group_defs.specs.Joining.{join_texts}
+use Rattle.group_defs.specs.Statements.{Groups, statements, stated}
 use Rattle.group_defs.specs.Triggers.{trigger_of, is_known, numbers_in}
 use Rattle.group_defs.specs.declared.def.GroupDef.{GroupDef}
 use Rattle.group_defs.specs.declared.def.MemberDef.{MemberDef}
@@ -98,8 +99,14 @@ group_def g =
       members = member_defs (names_of g.members) (has_trigger g.members) g.members;
     }
 
+-- the definitions that statements of texts make, or the first fault of a group
+abbrev pub checked : List RecText → Groups → Result (List GroupDef) GroupFault
+checked texts groups = fault_from texts (listed groups) >>= λ _. Ok (map group_def (listed groups))
+
 -- the definitions that the texts of records state, or their first fault
 unfoldable pub defined : List RecText → Result (List GroupDef) GroupFault
-defined texts =
-    join_texts texts >>= λ groups.
-    fault_from texts (listed groups) >>= λ _. Ok (map group_def (listed groups))
+defined texts = statements texts >>= λ ss. checked texts (stated ss)
+
+-- the same, with the groups joined in place
+unfoldable pub defined_in_place : List RecText → Result (List GroupDef) GroupFault
+defined_in_place texts = join_texts texts >>= λ groups. checked texts groups

@@ -1,9 +1,9 @@
 -- Maps of groups, and what calls on them give.
-use Rattle.std.specs.Prelude.{◌≡◌, ℕ, List, map, string_bytes, Result, Ok, Err}
+use Rattle.std.specs.Prelude.{◌≡◌, map, string_bytes, Result, Ok, Err}
 use Rattle.std.specs.declared.string.String.{String}
 use Rattle.indexmap.specs.IndexMap.{IndexMap}
 use Rattle.group_defs.specs.Joined.{Joined}
-use Rattle.group_defs.specs.Joining.{Groups}
+use Rattle.group_defs.specs.Statements.{Groups}
 use Rattle.group_defs.specs.declared.fault.GroupFault.{GroupFault}
 use Rattle.group_defs.specs.declared.fault.GroupFault.TheVariants.{NoMemory}
 

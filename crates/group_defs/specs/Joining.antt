@@ -1,8 +1,8 @@
--- Groups as the texts that were read state them together (QSRV manual, "Group PV definitions").
-use Rattle.std.specs.Prelude.{ℕ, zero, suc, Bool, true, false, List, [], ◌∷◌, Option, Some, None, Result, Ok, Err}
-use Rattle.std.specs.Prelude.{codes, is_some, unwrap_or}
+-- Groups joined in place, text by text, as the code keeps them. That these are the groups of `Statements` is proved.
+use Rattle.std.specs.Prelude.{ℕ, List, [], Result, Ok, Err}
+use Rattle.std.specs.Prelude.{codes, unwrap_or}
 use Rattle.std.specs.Prelude.{if◌then◌else◌}
-use Rattle.std.specs.BTreeMap.{insert_entry, is_at}
+use Rattle.std.specs.BTreeMap.{insert_entry}
 use Rattle.std.specs.Map.{lookup}
 use Rattle.std.specs.List.{enumerate_from}
 use Rattle.std.specs.Str.{bytes_eq}
@@ -11,19 +11,14 @@ use Rattle.json.specs.Json.{Json, Members}
 use Rattle.rec_kinds.specs.declared.record_text.Info.{Info}
 use Rattle.rec_kinds.specs.declared.record_text.RecText.{RecText}
 use Rattle.group_defs.specs.Told.{Told, ◌>>=◌, each}
+use Rattle.group_defs.specs.Statements.{Groups, has_member, in_record}
 use Rattle.group_defs.specs.Keys.{said_by}
 use Rattle.group_defs.specs.Order.{text_cmp, Place, in_order, json_of, groups_of}
 use Rattle.group_defs.specs.Joined.{Joined, blank}
-use Rattle.group_defs.specs.declared.fault.Stop.{Stop}
 use Rattle.group_defs.specs.declared.fault.Stop.TheVariants as stops
 use Rattle.group_defs.specs.declared.fault.GroupFault.{GroupFault}
-use Rattle.group_defs.specs.declared.fault.GroupFault.TheVariants as faults
 use Rattle.group_defs.specs.declared.said.Said.{Said}
 use Rattle.group_defs.specs.declared.said.Said.TheVariants.{Id, Atomic, Member}
-
--- whether the group has a member of this name
-abbrev pub has_member : Joined → List ℕ → Bool
-has_member g name = is_some (lookup (is_at (text_cmp name)) g.members)
 
 -- the group with what a key says besides: a later id or flag stands in the place of an earlier one
 abbrev pub joined_with : Joined → List ℕ → Said → Told Joined
@@ -39,10 +34,6 @@ join_key number g key j = said_by number key j >>= λ said. joined_with g key sa
 -- the group with all that these keys say
 abbrev pub join_keys : ℕ → Joined → List (Place × Json) → Told Joined
 join_keys number = each (λ g e. join_key number g e.0.0 e.1)
-
--- groups by their names, in the order in which they were first named
-abbrev pub Groups : Type 0
-Groups = List (List ℕ × Joined)
 
 abbrev pub known : Groups → List ℕ → Joined
 known groups name = unwrap_or (lookup (bytes_eq name) groups) blank
@@ -67,18 +58,6 @@ join_info number groups i = if bytes_eq i.name (codes "Q:group") then join_text 
 
 abbrev pub join_infos : ℕ → Groups → List Info → Told Groups
 join_infos number = each (join_info number)
-
--- the fault that a record of this name has
-abbrev pub fault_in : List ℕ → Stop → GroupFault
-fault_in name stops.BadJson = faults.BadJson name
-fault_in name stops.UnknownKey = faults.UnknownKey name
-fault_in name stops.SameMember = faults.SameMember name
-fault_in name stops.BadMember = faults.BadMember name
-fault_in name stops.NoMemory = faults.NoMemory
-
-abbrev pub in_record : {A : Type 0} → List ℕ → Told A → Result A GroupFault
-in_record name (Ok x) = Ok x
-in_record name (Err stop) = Err (fault_in name stop)
 
 -- a record and its number
 abbrev pub join_record : Groups → ℕ × RecText → Result Groups GroupFault

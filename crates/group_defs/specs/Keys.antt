@@ -1,5 +1,5 @@
 -- What a key of a group's object says: a setting of the group, or a member (QSRV manual, "Group PV definitions").
-use Rattle.std.specs.Prelude.{ℕ, Bool, List, Ok, Err, codes, if◌then◌else◌}
+use Rattle.std.specs.Prelude.{ℕ, List, Ok, Err, codes, if◌then◌else◌}
 use Rattle.std.specs.Str.{bytes_eq}
 use Rattle.json.specs.Json.{Json}
 use Rattle.json.specs.Find.{as_str, as_bool}

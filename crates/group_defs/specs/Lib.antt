@@ -5,6 +5,7 @@ pub mod Keys
 pub mod Order
 pub mod Shown
 pub mod Joined
+pub mod Statements
 pub mod Joining
 pub mod Groups
 pub mod Triggers

@@ -1,12 +1,12 @@
 -- What a member's object says (QSRV manual, "Group PV definitions").
-use Rattle.std.specs.Prelude.{ℕ, ℤ, Bool, true, false, not, ◌&&◌, ◌||◌, List, [], ◌∷◌, length, Option, Some, None, Ok}
+use Rattle.std.specs.Prelude.{ℕ, ℤ, Bool, true, false, not, ◌&&◌, ◌||◌, List, [], length, Option, Some, None, Ok}
 use Rattle.std.specs.Prelude.{Err}
 use Rattle.std.specs.Prelude.{codes, if◌then◌else◌, nat_eq, nat_lt, option_and_then, negsuc, pos}
 use Rattle.std.specs.Char.{digit_value}
 use Rattle.std.specs.List.{list_any, list_all, starts_with}
 use Rattle.std.specs.Str.{bytes_eq}
 use Rattle.std.specs.Str.Parse.{without_leading_sign, signed_digits_value}
-use Rattle.json.specs.Json.{Json, Members}
+use Rattle.json.specs.Json.{Json}
 use Rattle.json.specs.Find.{get, as_str, as_number, as_object}
 use Rattle.json.specs.Strict.{keys}
 use Rattle.rec_kinds.specs.Sorts.{within}

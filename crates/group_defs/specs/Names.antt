@@ -1,5 +1,5 @@
 -- The names of members (QSRV manual, "Group PV definitions").
-use Rattle.std.specs.Prelude.{ℕ, Bool, true, false, not, ◌&&◌, ◌||◌, List, [], ◌∷◌, length, ◌==◌, if◌then◌else◌}
+use Rattle.std.specs.Prelude.{ℕ, Bool, true, false, not, ◌&&◌, ◌||◌, List, length, ◌==◌, if◌then◌else◌}
 use Rattle.std.specs.List.{list_any, slice_split}
 use Rattle.group_defs.specs.declared.def.MemberKind.{MemberKind}
 use Rattle.group_defs.specs.declared.def.MemberKind.TheVariants.{Whole, Plain, Any, Meta, Proc, Structure}

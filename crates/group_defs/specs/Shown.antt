@@ -1,5 +1,5 @@
 -- The maps and lists of references that stand for the objects of a JSON text.
-use Rattle.std.specs.Prelude.{ℕ, List, [], ◌∷◌, map}
+use Rattle.std.specs.Prelude.{ℕ, List, map}
 use Rattle.std.specs.Borrow.{Bor}
 use Rattle.std.specs.declared.vec.Vec.{Vec}
 use Rattle.json.specs.Json.{Json, Members}

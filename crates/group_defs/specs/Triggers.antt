@@ -1,6 +1,6 @@
 -- What a trigger names (QSRV manual, "Group PV definitions", `+trigger`).
-use Rattle.std.specs.Prelude.{ℕ, suc, Bool, true, false, not, ◌||◌, List, [], ◌∷◌, length, map, ◌==◌, Option, None}
-use Rattle.std.specs.Prelude.{Some, is_some, position, reverse, if◌then◌else◌}
+use Rattle.std.specs.Prelude.{ℕ, suc, Bool, true, not, ◌||◌, List, [], ◌∷◌, length, map, ◌==◌, Option, None}
+use Rattle.std.specs.Prelude.{is_some, position, reverse, if◌then◌else◌}
 use Rattle.std.specs.List.{list_any, slice_split, filter_map}
 use Rattle.std.specs.Str.{bytes_eq}
 

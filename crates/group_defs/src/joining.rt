@@ -4,7 +4,8 @@ ghost use Rattle.json.specs.Value.{value_view, members_view};
 ghost use Rattle.group_defs.specs.Told.{Gives};
 ghost use Rattle.group_defs.specs.Groups.{groups_seen, FaultsAs, Answers};
 ghost use Rattle.group_defs.specs.Shown.{shown_places, shown_groups};
-ghost use Rattle.group_defs.specs.Joining.{known, with_group, join_key, join_keys, join_group, join_groups, join_text, join_info, join_infos, join_record, join_texts, fault_in};
+ghost use Rattle.group_defs.specs.Joining.{known, with_group, join_key, join_keys, join_group, join_groups, join_text, join_info, join_infos, join_record, join_texts};
+ghost use Rattle.group_defs.specs.Statements.{fault_in};
 
 use crate::draft::Draft;
 use crate::fault::{GroupFault, Stop};

@@ -1,7 +1,7 @@
 ghost use Rattle.std.specs.Prelude.{length, IfOk};
 ghost use Rattle.group_defs.specs.Groups.{Answers};
 ghost use Rattle.group_defs.specs.Sound.{AreGroups};
-ghost use Rattle.group_defs.specs.Checking.{defined};
+ghost use Rattle.group_defs.specs.Checking.{defined, defined_in_place};
 
 use crate::building::group_defs;
 use crate::checking::check;
@@ -12,15 +12,10 @@ use crate::listed::listed;
 use rec_kinds::RecText;
 use std::alloc::Global;
 
-/// The groups that the records' infos `Q:group` define, in the order in which they are first named (QSRV manual, "Group PV
-/// definitions").
-///
-/// Faults are found in two readings. The first goes by the records, then by the groups' names and the keys of each by
-/// their bytes, and finds BadJson at a record, and UnknownKey, BadMember and SameMember in this order at a key. The
-/// second goes from group to group, and finds UnknownTrigger, NameTaken and TooMany in this order at each.
-#[tactic(auto, unfolding(crate::specs::Checking::defined))]
-pub fn read_groups(alloc: Global, texts: &[RecText]) -> Result<Vec<GroupDef>, GroupFault>
-    ensures exact { Answers (λ defs. defs.items) result (defined texts.now) }
+/// The groups that the records' infos define, joined in place.
+#[tactic(auto, unfolding(crate::specs::Checking::defined_in_place))]
+fn read_in_place(alloc: Global, texts: &[RecText]) -> Result<Vec<GroupDef>, GroupFault>
+    ensures exact { Answers (λ defs. defs.items) result (defined_in_place texts.now) }
     ensures sound { IfOk result (λ defs. AreGroups (length texts.now) defs.items) }
 {
     if texts.len() > u32::MAX as usize {
@@ -31,4 +26,17 @@ pub fn read_groups(alloc: Global, texts: &[RecText]) -> Result<Vec<GroupDef>, Gr
     let groups = found.as_slice();
     check(alloc, texts, groups)?;
     Ok(group_defs(alloc, groups)?)
+}
+
+/// The groups that the records' infos `Q:group` define, in the order in which they are first named (QSRV manual, "Group PV
+/// definitions").
+///
+/// Faults are found in two readings. The first goes by the records, then by the groups' names and the keys of each by
+/// their bytes, and finds BadJson at a record, and UnknownKey, BadMember and SameMember in this order at a key. The
+/// second goes from group to group, and finds UnknownTrigger, NameTaken and TooMany in this order at each.
+pub fn read_groups(alloc: Global, texts: &[RecText]) -> Result<Vec<GroupDef>, GroupFault>
+    ensures exact { Answers (λ defs. defs.items) result (defined texts.now) }
+    ensures sound { IfOk result (λ defs. AreGroups (length texts.now) defs.items) }
+{
+    read_in_place(alloc, texts)
 }

@@ -1,4 +1,4 @@
-use Rattle.std.proofs.Common.{◌≡◌, ℕ, ◌<◌, ◌≤◌, length, subst, sym, arith}
+use Rattle.std.proofs.Common.{◌<◌, ◌≤◌, length, subst, sym, arith}
 use Rattle.group_defs.specs.declared.listed.Group.{Group}
 use Rattle.group_defs.proofs.Passing.{all_at}
 use Rattle.group_defs.proofs.building.group_defs.Goals as goal

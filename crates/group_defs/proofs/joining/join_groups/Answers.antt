@@ -1,10 +1,10 @@
-use Rattle.std.proofs.Common.{◌+◌, drop, length, sym, ap, ◌∙◌, arith}
+use Rattle.std.proofs.Common.{◌+◌, drop, sym, ap, ◌∙◌, arith}
 use Rattle.std.proofs.lemmas.Result.{err_from_is_err_and}
 use Rattle.json.specs.Value.{members_view}
 use Rattle.group_defs.specs.Told.{each}
 use Rattle.group_defs.specs.Groups.{groups_seen}
 use Rattle.group_defs.specs.Shown.{shown_groups}
-use Rattle.group_defs.specs.Joining.{join_group, join_groups}
+use Rattle.group_defs.specs.Joining.{join_group}
 use Rattle.group_defs.proofs.Passing.{from_place, each_fails, each_goes}
 use Rattle.group_defs.proofs.joining.join_groups.Goals as goal
 

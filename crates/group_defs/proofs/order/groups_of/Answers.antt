@@ -1,9 +1,9 @@
-use Rattle.std.proofs.Common.{List, ◌∷◌, [], sym, ap, ◌∙◌, map}
+use Rattle.std.proofs.Common.{[], sym, ap, ◌∙◌}
 use Rattle.std.proofs.lemmas.Bool.{false≢true}
 use Rattle.std.proofs.lemmas.List.{map-append}
 use Rattle.json.specs.Value.{value_view, members_view}
 use Rattle.json.proofs.Trees.{view-Object}
-use Rattle.group_defs.specs.Order.{by_name, found_in, objects_in}
+use Rattle.group_defs.specs.Order.{found_in, objects_in}
 use Rattle.group_defs.specs.Shown.{shown_names, shown_groups}
 use Rattle.group_defs.proofs.Objects.{with_groups, groups_start, groups_next, groups_done}
 use Rattle.group_defs.proofs.Passing.{nothing_left}

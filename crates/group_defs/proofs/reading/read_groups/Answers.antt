@@ -1,12 +1,10 @@
-use Rattle.std.proofs.Common.{◌∙◌}
-use Rattle.group_defs.specs.Groups.{groups_seen}
-use Rattle.group_defs.proofs.Lasting.{few_groups, read_last}
+use Rattle.std.proofs.Common.{List, Result, subst}
+use Rattle.group_defs.specs.Groups.{Answers}
+use Rattle.group_defs.specs.declared.def.GroupDef.{GroupDef}
+use Rattle.group_defs.specs.declared.fault.GroupFault.{GroupFault}
+use Rattle.group_defs.proofs.Stating.{same_defined}
 use Rattle.group_defs.proofs.reading.read_groups.Goals as goal
 
-pub group_defs-requires : goal.group_defs-requires
-group_defs-requires c = (few_groups c.args.texts.now c.as_slice-groups.result.now c.in_ok-check.ensures).1
-
-pub returns-clause-sound : goal.returns-clause-sound
-returns-clause-sound c =
-    read_last c.args.texts.now (groups_seen c.in_ok-drafts.drafts) c.as_slice-groups.result.now c.in_ok-group_defs.field-0.items c.in_ok-drafts.ensures
-    (c.as_slice-groups.ensures.value ∙ c.in_ok-found.ensures) c.in_ok-check.ensures c.in_ok-group_defs.ensures
+pub returns-clause-exact : goal.returns-clause-exact
+returns-clause-exact c =
+    subst (λ (told : Result (List GroupDef) GroupFault). Answers (λ defs. defs.items) c.read_in_place.result told) (same_defined c.args.texts.now) c.read_in_place.ensures.exact

@@ -1,4 +1,4 @@
-use Rattle.std.proofs.Common.{Bool, None, cond, map, sym, ap, ◌∙◌}
+use Rattle.std.proofs.Common.{Bool, None, cond, sym, ap, ◌∙◌}
 use Rattle.std.specs.Prelude.{position}
 use Rattle.std.specs.Str.{bytes_eq}
 use Rattle.group_defs.specs.Named.{names_seen}
