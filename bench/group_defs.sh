@@ -1,7 +1,7 @@
 #!/bin/sh
 # Reads 1 MiB of groups in each of four shapes, five times each: 1,024 groups of many records, full groups whose members
-# trigger all, full groups whose triggers name many members, and one group with too many members. Prints the bytes, how many groups
-# were read, and the best processor time in microseconds.
+# trigger all, full groups whose triggers name many members, and one group with too many members. Prints the bytes, how
+# many groups were read, and the best processor time in microseconds.
 # It works in a copy of the crates, since a program of this kind is no part of the repository. Needs `rt` and some minutes.
 set -eu
 top=$(cd "$(dirname "$0")/.." && pwd)
@@ -75,8 +75,8 @@ fn records(alloc: Global, groups: u32, count: u32, trigger: &str) -> Result<Vec<
     let mut texts = Vec::new(alloc);
     let mut bytes = 0usize;
     for number in 0..u32::MAX {
-        let first = (number / groups).wrapping_mul(count);
-        let json = group(alloc, number % groups, first, count, trigger)?;
+        let first = (number / groups.max(1)).wrapping_mul(count);
+        let json = group(alloc, number % groups.max(1), first, count, trigger)?;
         bytes = bytes.wrapping_add(json.len());
         if bytes > BYTES {
             break;
