@@ -11,3 +11,4 @@ mod Numbering
 mod Sounds
 mod Lasting
 mod Stating
+mod Naming

@@ -14,5 +14,6 @@ module _ {A : Type 0} where
   abbrev pub shown_places : List ((Bor (List ℕ) × ℕ) × Bor (Value A)) → List (Place × Json)
   shown_places es = map (λ e. ((e.0.0.now, e.0.1), value_view e.1.now)) es
 
-  abbrev pub shown_groups : {Z : Type 0} → List (Bor (List ℕ) × Bor (Vec (Bor (List ℕ) × Value A) Z)) → List (List ℕ × Members)
+  abbrev pub shown_groups : {Z : Type 0} → List (Bor (List ℕ) × Bor (Vec (Bor (List ℕ) × Value A) Z))
+      → List (List ℕ × Members)
   shown_groups es = map (λ e. (e.0.now, members_view e.1.now.items)) es

@@ -1,5 +1,6 @@
 ghost use Rattle.std.specs.Prelude.{◌≡◌, ◌<◌, ◌≤◌, ◌^◌, length, map, IfOk, is_some};
-ghost use Rattle.std.specs.List.{list_any, AllByRecursion};
+ghost use Rattle.std.specs.List.{list_any, AllByRecursion, IsDistinct};
+ghost use Rattle.std.specs.Str.{bytes_eq};
 ghost use Rattle.group_defs.specs.Named.{names_seen};
 ghost use Rattle.group_defs.specs.Checking.{names_of, has_trigger, triggered, member_def, member_defs, group_def};
 
@@ -28,7 +29,8 @@ fn triggered(
     member: &Member,
 ) -> Result<Vec<u32>, NoMemory>
     requires { length (names_seen names.now) < 2 ^ 32 }
-    ensures { IfOk result (λ numbers. numbers.items ≡ triggered (names_seen names.now) some number member.now.text.trigger) }
+    ensures { IfOk result (λ numbers. numbers.items
+        ≡ triggered (names_seen names.now) some number member.now.text.trigger) }
 {
     match &member.text.trigger {
         Some(text) => {
@@ -87,8 +89,10 @@ fn numbered_defs(
 
 /// The definitions of members.
 fn member_defs(alloc: Global, members: &[Member]) -> Result<Vec<MemberDef>, NoMemory>
-    requires { length members.now < 2 ^ 32 }
-    ensures { IfOk result (λ defs. defs.items ≡ member_defs (names_of members.now) (has_trigger members.now) members.now) }
+    requires fits { length members.now < 2 ^ 32 }
+    requires distinct { IsDistinct bytes_eq (names_of members.now) }
+    ensures { IfOk result (λ defs. defs.items
+        ≡ member_defs (names_of members.now) (has_trigger members.now) members.now) }
 {
     let names = names_of(alloc, members)?;
     let some = has_trigger(members);
@@ -97,7 +101,8 @@ fn member_defs(alloc: Global, members: &[Member]) -> Result<Vec<MemberDef>, NoMe
 
 /// The definition of a group.
 fn group_def(alloc: Global, group: &Group) -> Result<GroupDef, NoMemory>
-    requires { length group.now.members < 2 ^ 32 }
+    requires fits { length group.now.members < 2 ^ 32 }
+    requires distinct { IsDistinct bytes_eq (names_of group.now.members) }
     ensures { IfOk result (λ def. def ≡ group_def group.now) }
 {
     Ok(GroupDef {
@@ -111,7 +116,8 @@ fn group_def(alloc: Global, group: &Group) -> Result<GroupDef, NoMemory>
 /// The definitions of groups.
 #[tactic(auto, using(crate::proofs::Passing::mapped_more))]
 pub(crate) fn group_defs(alloc: Global, groups: &[Group]) -> Result<Vec<GroupDef>, NoMemory>
-    requires { AllByRecursion (λ g. length g.members ≤ 256) groups.now }
+    requires few { AllByRecursion (λ g. length g.members ≤ 256) groups.now }
+    requires distinct { AllByRecursion (λ g. IsDistinct bytes_eq (names_of g.members)) groups.now }
     ensures { IfOk result (λ defs. defs.items ≡ map group_def groups.now) }
 {
     let mut defs = Vec::new(alloc);

@@ -1,5 +1,6 @@
 ghost use Rattle.std.specs.Prelude.{◌≡◌, ◌<◌, ◌≤◌, length, IfOk};
-ghost use Rattle.std.specs.List.{list_any};
+ghost use Rattle.std.specs.List.{list_any, AllByRecursion, IsDistinct};
+ghost use Rattle.std.specs.Str.{bytes_eq};
 ghost use Rattle.group_defs.specs.Groups.{Answers};
 ghost use Rattle.group_defs.specs.Named.{names_seen};
 ghost use Rattle.group_defs.specs.Checking.{names_of, is_lost, has_lost, is_ending, is_named, is_taken, fault_of, fault_from};
@@ -19,14 +20,12 @@ const MOST_MEMBERS: usize = 256;
 
 /// The names of members, each of which stands once.
 pub(crate) fn names_of(alloc: Global, members: &[Member]) -> Result<IndexSet<&[u8]>, NoMemory>
+    requires { IsDistinct bytes_eq (names_of members.now) }
     ensures { IfOk result (λ names. names_seen names ≡ names_of members.now) }
 {
     let mut names = IndexSet::new(alloc);
     for member in members {
-        let (_, added) = names.insert_full(member.name.as_str().as_bytes())?;
-        if !added {
-            return Err(NoMemory);
-        }
+        names.insert_full(member.name.as_str().as_bytes())?;
     }
     Ok(names)
 }
@@ -94,6 +93,7 @@ fn fault_of(
     before: usize,
     group: &Group,
 ) -> Result<(), GroupFault>
+    requires { IsDistinct bytes_eq (names_of group.now.members) }
     ensures { Answers (λ u. u) result (fault_of texts.now total before group.now) }
 {
     let members = group.members.as_slice();
@@ -115,6 +115,7 @@ fn fault_of(
 
 /// The first fault of groups, one after another.
 pub(crate) fn check(alloc: Global, texts: &[RecText], groups: &[Group]) -> Result<(), GroupFault>
+    requires { AllByRecursion (λ g. IsDistinct bytes_eq (names_of g.members)) groups.now }
     ensures { Answers (λ u. u) result (fault_from texts.now groups.now) }
 {
     for (before, group) in groups.iter().enumerate() {

@@ -93,8 +93,10 @@ fn add_member(
     key: &str,
     member: MemberText,
 ) -> Result<bool, NoMemory>
-    ensures added { IfOk result (λ added. added ≡ not (is_some (lookup (is_at (text_cmp key.now)) (members_seen members.old.entries)))) }
-    ensures entries { OnOk result (members_seen members.new.entries ≡ insert_entry text_cmp (members_seen members.old.entries) key.now member) }
+    ensures added { IfOk result (λ added. added
+        ≡ not (is_some (lookup (is_at (text_cmp key.now)) (members_seen members.old.entries)))) }
+    ensures entries { OnOk result (members_seen members.new.entries
+        ≡ insert_entry text_cmp (members_seen members.old.entries) key.now member) }
 {
     let name = String::from_str(alloc, key)?;
     let old = members.insert(name, member)?;

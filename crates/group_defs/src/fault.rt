@@ -1,8 +1,8 @@
 use pvd_type::{Name, NoMemory, TypeFault};
 use std::alloc::{AllocError, AllocFailed};
 
-/// Why groups can't be defined. BadJson, UnknownKey, SameMember and BadMember name the record whose text is at fault, or
-/// the group where they are found while its type is built; the others name the group.
+/// Why groups can't be defined. BadJson, UnknownKey, SameMember and BadMember name the record whose text is at fault,
+/// or the group where they are found while its type is built; the others name the group.
 #[derive(Debug, Drop)]
 pub enum GroupFault {
     /// A text is no JSON, nests deeper than 128 levels, or is no object of objects.
@@ -15,7 +15,8 @@ pub enum GroupFault {
     UnknownTrigger(Name),
     /// A record, or its `.VAL` or `.DESC`, has the group's name.
     NameTaken(Name),
-    /// A value is of another type than its key asks, a channel is missing or not allowed, or a member's name is not allowed.
+    /// A value is of another type than its key asks, a channel is missing or not allowed, or a member's name is not
+    /// allowed.
     BadMember(Name),
     /// The group's members make no type.
     Shape(TypeFault),

@@ -91,7 +91,8 @@ fn join_group<'a>(
     name: &str,
     members: &Vec<(&'a str, Value<'a>)>,
 ) -> Result<(), Stop>
-    ensures { Gives (λ _. groups_seen groups.new) result (join_group number (groups_seen groups.old) (name.now, members_view members.now.items)) }
+    ensures { Gives (λ _. groups_seen groups.new) result
+        (join_group number (groups_seen groups.old) (name.now, members_view members.now.items)) }
 {
     let keys = in_order(alloc, members)?;
     let mut draft = take(alloc, groups, name)?;
@@ -107,7 +108,8 @@ fn join_groups<'a>(
     groups: &mut Drafts,
     objects: &[(&'a str, &Vec<(&'a str, Value<'a>)>)],
 ) -> Result<(), Stop>
-    ensures { Gives (λ _. groups_seen groups.new) result (join_groups number (groups_seen groups.old) (shown_groups objects.now)) }
+    ensures { Gives (λ _. groups_seen groups.new) result
+        (join_groups number (groups_seen groups.old) (shown_groups objects.now)) }
 {
     for object in objects {
         join_group(alloc, number, groups, object.0, object.1)?;

@@ -1,4 +1,5 @@
-//! Groups of records: the definitions that the texts of `info(Q:group, ..)` state (QSRV manual, "Group PV definitions").
+//! Groups of records: the definitions that the texts of `info(Q:group, ..)` state (QSRV manual, "Group PV
+//! definitions").
 #![tactic(auto)]
 
 mod building;

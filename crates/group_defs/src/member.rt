@@ -194,7 +194,8 @@ fn member_text(
     order: Option<i32>,
     trigger: Option<&str>,
 ) -> Result<MemberText, NoMemory>
-    ensures { IfOk result (λ m. m ≡ member_text kind number (option_map (λ s. s.now) id.entry) order (option_map (λ s. s.now) trigger.entry)) }
+    ensures { IfOk result (λ m. m ≡ member_text kind number
+        (option_map (λ s. s.now) id.entry) order (option_map (λ s. s.now) trigger.entry)) }
 {
     let id = match id {
         Some(text) => Name::of(alloc, text)?,

@@ -8,7 +8,8 @@ use crate::def::MemberKind;
 /// What stands before the first of these bytes, and what follows it if there is one.
 pub(crate) fn cut(text: &str, at: char) -> (&str, Option<&str>)
     requires { at < 128 }
-    ensures split { slice_split (λ x. x == at) text.now ≡ result.0.now ∷ option_map_or (λ rest. slice_split (λ x. x == at) rest.now) result.1 [] }
+    ensures split { slice_split (λ x. x == at) text.now
+        ≡ result.0.now ∷ option_map_or (λ rest. slice_split (λ x. x == at) rest.now) result.1 [] }
     ensures shorter { IfSome result.1 (λ rest. length rest.now < length text.now) }
 {
     match text.split_once(at) {

@@ -32,8 +32,8 @@ fn place_of(key: &str, index: usize) -> usize
     if is_setting(key) { 0 } else { index }
 }
 
-/// The values of a group's object by the bytes of their keys. Of a setting that is doubled the last counts, and a member
-/// that is named twice stands twice.
+/// The values of a group's object by the bytes of their keys. Of a setting that is doubled the last counts, and a
+/// member that is named twice stands twice.
 pub(crate) fn in_order<'v, 'a>(
     alloc: Global,
     members: &'v Vec<(&'a str, Value<'a>)>,
@@ -48,8 +48,8 @@ pub(crate) fn in_order<'v, 'a>(
     Ok(found)
 }
 
-/// The value that a text is. JSON that nests deeper than 128 levels is refused, and none is read by recursion that a text
-/// could drive deeper.
+/// The value that a text is. JSON that nests deeper than 128 levels is refused, and none is read by recursion that a
+/// text could drive deeper.
 #[tactic(auto, unfolding(crate::specs::Order::json_of))]
 pub(crate) fn json_of<'a>(
     alloc: Global,

@@ -28,12 +28,14 @@ fn read_in_place(alloc: Global, texts: &[RecText]) -> Result<Vec<GroupDef>, Grou
     Ok(group_defs(alloc, groups)?)
 }
 
-/// The groups that the records' infos `Q:group` define, in the order in which they are first named (QSRV manual, "Group PV
-/// definitions").
+/// The groups that the records' infos `Q:group` define, in the order in which they are first named (QSRV manual,
+/// "Group PV definitions"). A record's number is its place among the texts.
 ///
 /// Faults are found in two readings. The first goes by the records, then by the groups' names and the keys of each by
 /// their bytes, and finds BadJson at a record, and UnknownKey, BadMember and SameMember in this order at a key. The
-/// second goes from group to group, and finds UnknownTrigger, NameTaken and TooMany in this order at each.
+/// second goes from group to group, and finds UnknownTrigger, NameTaken and TooMany in this order at each: at most
+/// 1,024 groups with at most 256 members each. Of a doubled `+` key or a doubled group name in one object the last
+/// counts; JSON that nests deeper than 128 levels is BadJson. Shape comes only from building a group's type.
 pub fn read_groups(alloc: Global, texts: &[RecText]) -> Result<Vec<GroupDef>, GroupFault>
     ensures exact { Answers (λ defs. defs.items) result (defined texts.now) }
     ensures sound { IfOk result (λ defs. AreGroups (length texts.now) defs.items) }

@@ -113,7 +113,9 @@ pub(crate) fn is_known(names: &IndexSet<&[u8]>, trigger: &Trigger<'_>) -> bool
 
 /// Whether each of these names is a member's.
 fn all_known(names: &IndexSet<&[u8]>, triggered: &[&[u8]]) -> bool
-    ensures { result ≡ not (list_any (λ name. not (is_some (number_of (names_seen names.now) name))) (map (λ s. s.now) triggered.now)) }
+    ensures { result ≡ not (list_any
+        (λ name. not (is_some (number_of (names_seen names.now) name)))
+        (map (λ s. s.now) triggered.now)) }
 {
     for name in triggered {
         if number_of(names, name).is_none() {
@@ -158,7 +160,8 @@ fn numbers_of(
     triggered: &[&[u8]],
 ) -> Result<Vec<u32>, NoMemory>
     requires { length (names_seen names.now) < 2 ^ 32 }
-    ensures { IfOk result (λ numbers. numbers.items ≡ filter_map (number_of (names_seen names.now)) (map (λ s. s.now) triggered.now)) }
+    ensures { IfOk result (λ numbers. numbers.items
+        ≡ filter_map (number_of (names_seen names.now)) (map (λ s. s.now) triggered.now)) }
 {
     let mut numbers = Vec::new(alloc);
     for name in triggered {
