@@ -1,0 +1,14 @@
+mod CutLemmas
+mod Passing
+mod Maps
+mod Numbers
+mod Orderly
+mod Objects
+mod Drafts
+mod Trimming
+mod Joins
+mod Numbering
+mod Sounds
+mod Lasting
+mod Stating
+mod Naming

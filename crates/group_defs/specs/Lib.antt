@@ -1,0 +1,14 @@
+pub mod Told
+pub mod Names
+pub mod Members
+pub mod Keys
+pub mod Order
+pub mod Shown
+pub mod Joined
+pub mod Statements
+pub mod Joining
+pub mod Groups
+pub mod Triggers
+pub mod Checking
+pub mod Named
+pub mod Sound

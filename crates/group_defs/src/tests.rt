@@ -1,0 +1,399 @@
+use super::*;
+use pvd_type::{Name, NoMemory};
+use rec_kinds::{Info, Items, Kind, RecText};
+use std::alloc::Global;
+use std::test::Fail;
+
+fn discard<T: Drop>(_value: T) {}
+
+/// Records, each a name and the JSON of its info, where a text that is empty stands for no info.
+fn records(alloc: Global, given: &[(&str, &str)]) -> Result<Vec<RecText>, NoMemory> {
+    let mut texts = Vec::new(alloc);
+    for (name, json) in given {
+        texts.push(record(alloc, name, json)?)?;
+    }
+    Ok(texts)
+}
+
+fn record(alloc: Global, name: &str, json: &str) -> Result<RecText, NoMemory> {
+    let mut infos = Vec::new(alloc);
+    if !json.is_empty() {
+        infos.push(info(alloc, json)?)?;
+    }
+    Ok(RecText {
+        kind: Kind::Longout,
+        name: Name::of(alloc, name)?,
+        fields: Items::from_vec(Vec::new(alloc)),
+        infos: Items::from_vec(infos),
+        line: 1,
+    })
+}
+
+fn info(alloc: Global, json: &str) -> Result<Info, NoMemory> {
+    Ok(Info {
+        name: Name::of(alloc, "Q:group")?,
+        text: Name::of(alloc, json)?,
+        json: true,
+        line: 1,
+    })
+}
+
+fn kind_word(kind: MemberKind) -> &'static str {
+    match kind {
+        MemberKind::Whole => "scalar",
+        MemberKind::Plain => "plain",
+        MemberKind::Any => "any",
+        MemberKind::Meta => "meta",
+        MemberKind::Proc => "proc",
+        MemberKind::Structure => "structure",
+    }
+}
+
+/// A member in words: name, kind, record, id, put order, triggered members.
+fn member_words(alloc: Global, member: &MemberDef) -> Result<String, NoMemory> {
+    let mut words = format!(in alloc; " {}={}", member.name.as_str(), kind_word(member.kind))?;
+    if let Some(rec) = member.rec {
+        words.push_str(&format!(in alloc; "@{rec}")?)?;
+    }
+    if !member.id.as_str().is_empty() {
+        words.push_str(&format!(in alloc; "'{}'", member.id.as_str())?)?;
+    }
+    if let Some(order) = member.order {
+        words.push_str(&format!(in alloc; "#{order}")?)?;
+    }
+    words.push_str(">")?;
+    for number in member.trigger.as_slice() {
+        words.push_str(&format!(in alloc; "{number}")?)?;
+    }
+    Ok(words)
+}
+
+/// A group in words: name, id, whether it is atomic, members.
+fn group_words(alloc: Global, group: &GroupDef) -> Result<String, NoMemory> {
+    let word = if group.atomic { "atomic" } else { "apart" };
+    let mut words = format!(in alloc; "{} '{}' {word}:", group.name.as_str(), group.id.as_str())?;
+    for member in group.members.as_slice() {
+        words.push_str(member_words(alloc, member)?.as_str())?;
+    }
+    words.push_str(";")?;
+    Ok(words)
+}
+
+fn groups_words(alloc: Global, groups: &[GroupDef]) -> Result<String, NoMemory> {
+    let mut words = String::new(alloc);
+    for group in groups {
+        words.push_str(group_words(alloc, group)?.as_str())?;
+    }
+    Ok(words)
+}
+
+fn fault_words(alloc: Global, fault: &GroupFault) -> Result<String, NoMemory> {
+    let words = match fault {
+        GroupFault::BadJson(name) => format!(in alloc; "BadJson {}", name.as_str())?,
+        GroupFault::UnknownKey(name) => format!(in alloc; "UnknownKey {}", name.as_str())?,
+        GroupFault::SameMember(name) => format!(in alloc; "SameMember {}", name.as_str())?,
+        GroupFault::UnknownTrigger(name) => format!(in alloc; "UnknownTrigger {}", name.as_str())?,
+        GroupFault::NameTaken(name) => format!(in alloc; "NameTaken {}", name.as_str())?,
+        GroupFault::BadMember(name) => format!(in alloc; "BadMember {}", name.as_str())?,
+        GroupFault::Shape(_) => format!(in alloc; "Shape")?,
+        GroupFault::TooMany(count) => format!(in alloc; "TooMany {count}")?,
+        GroupFault::NoMemory => format!(in alloc; "NoMemory")?,
+    };
+    Ok(words)
+}
+
+fn answer_words(
+    alloc: Global,
+    answer: &Result<Vec<GroupDef>, GroupFault>,
+) -> Result<String, NoMemory> {
+    match answer {
+        Ok(groups) => groups_words(alloc, groups),
+        Err(fault) => fault_words(alloc, fault),
+    }
+}
+
+/// The groups of records in words, or their fault.
+fn defined(alloc: Global, given: &[(&str, &str)]) -> Result<String, NoMemory> {
+    let texts = records(alloc, given)?;
+    defined_by(alloc, &texts)
+}
+
+fn defined_by(alloc: Global, texts: &[RecText]) -> Result<String, NoMemory> {
+    let answer = read_groups(alloc, texts);
+    let words = answer_words(alloc, &answer);
+    discard(answer);
+    words
+}
+
+#[test]
+fn three_longouts_are_put_in_their_order(rt: HostRuntime) -> Result<(), Fail> {
+    let alloc = rt.alloc();
+    let given = [
+        (
+            "A",
+            r#"{"G": {"a": {"+type":"scalar", "+channel":"VAL", "+putorder":2, "+trigger":"*"}}}"#,
+        ),
+        (
+            "B",
+            r#"{"G": {"b": {"+type":"scalar", "+channel":"VAL", "+putorder":0, "+trigger":""}}}"#,
+        ),
+        (
+            "C",
+            r#"{"G": {"c": {"+type":"scalar", "+channel":"VAL", "+putorder":1, "+trigger":""}}}"#,
+        ),
+    ];
+    assert_eq!(rt;
+        defined(alloc, &given)?.as_str(),
+        "G '' atomic: a=scalar@0#2>012 b=scalar@1#0> c=scalar@2#1>;"
+    );
+    Ok(())
+}
+
+#[test]
+fn the_motor_slice_is_one_group(rt: HostRuntime) -> Result<(), Fail> {
+    let alloc = rt.alloc();
+    let given = [
+        (
+            "BL:M1:Pos",
+            r#"{ "BL:M1:G": {
+    "pos": {"+channel":"VAL", "+type":"plain", "+putorder":1, "+trigger":"*"},
+    "": {"+channel":"VAL", "+type":"meta"} } }"#,
+        ),
+        (
+            "BL:M1:Mode",
+            r#"{ "BL:M1:G": { "mode": {"+channel":"VAL", "+putorder":0, "+trigger":""} } }"#,
+        ),
+    ];
+    assert_eq!(rt;
+        defined(alloc, &given)?.as_str(),
+        "BL:M1:G '' atomic: =meta@0> mode=scalar@1#0> pos=plain@0#1>012;"
+    );
+    Ok(())
+}
+
+#[test]
+fn definitions_are_joined_with_their_triggers(rt: HostRuntime) -> Result<(), Fail> {
+    let alloc = rt.alloc();
+    let rows: [(&[(&str, &str)], &str); 7] = [
+        (
+            &[
+                (
+                    "A",
+                    r#"{"G": {"+id":"x", "+atomic":true, "z": {"+channel":"VAL", "+trigger":" c ,\ta.b"}}, "E": {}}"#,
+                ),
+                (
+                    "B",
+                    r#"{"H": {"+atomic":false}, "G": {"a.b": {"+channel":"VAL", "+type":"any", "+id":"t"}}}"#,
+                ),
+                (
+                    "C",
+                    r#"{"G": {"+id":"y", "+atomic":false, "c": {"+type":"structure", "+id":"s", "+trigger":" * "}}}"#,
+                ),
+            ],
+            "E '' atomic:;G 'y' apart: a.b=any@1't'> c=structure's'>012 z=scalar@0>10;H '' apart:;",
+        ),
+        (
+            &[(
+                "A",
+                r#"{"G": {"b": {"+channel":"VAL"}, "a": {"+channel":"VAL", "x":{}, "+putorder":-2147483648}}}"#,
+            )],
+            "G '' atomic: a=scalar@0#-2147483648>0 b=scalar@0>1;",
+        ),
+        (
+            &[(
+                "A",
+                r#"{"G": {"p": {"+type":"proc", "+channel":"PROC", "+trigger":" \t"}, "q": {"+channel":"VAL"}}}"#,
+            )],
+            "G '' atomic: p=proc@0> q=scalar@0>;",
+        ),
+        (
+            &[(
+                "A",
+                r#"{"G": 1, "G": {"+id":2, "+id":"last", "a": {"+channel":1, "+channel":"VAL"}}}"#,
+            )],
+            "G 'last' atomic: a=scalar@0>0;",
+        ),
+        (&[("A", ""), ("B", "")], ""),
+        (
+            &[(
+                "A",
+                r#"{"G": {"aa": {"+channel":"VAL"}, "b": {"+channel":"VAL"}, "B": {"+channel":"VAL"}}}"#,
+            )],
+            "G '' atomic: B=scalar@0>0 aa=scalar@0>1 b=scalar@0>2;",
+        ),
+        (&[("A", "{}")], ""),
+    ];
+    for (given, words) in rows {
+        assert_eq!(rt; defined(alloc, given)?.as_str(), words);
+    }
+    Ok(())
+}
+
+/// A member that has no fault.
+const FINE: &str = r#"{"G": {"m": {"+channel":"VAL"}}}"#;
+
+#[test]
+fn each_fault_comes_in_its_place(rt: HostRuntime) -> Result<(), Fail> {
+    let alloc = rt.alloc();
+    let rows: [(&[(&str, &str)], &str); 30] = [
+        (&[("A", "1")], "BadJson A"),
+        (&[("A", r#"{"G": []}"#)], "BadJson A"),
+        (&[("A", r#"{"F": {"+x":1}, "G": 2}"#)], "BadJson A"),
+        (
+            &[("A", FINE), ("B", "{"), ("C", r#"{"G": {"+x": 1}}"#)],
+            "BadJson B",
+        ),
+        (&[("A", r#"{"G": {"+x": 1}}"#), ("B", "{")], "UnknownKey A"),
+        (&[("A", r#"{"G": {"+channel": "VAL"}}"#)], "UnknownKey A"),
+        (
+            &[("A", r#"{"G": {"m": {"+channel": 1, "+atomic": true}}}"#)],
+            "UnknownKey A",
+        ),
+        (
+            &[("A", r#"{"G": {"a": {"+channel": 1}, "b": {"+x": 1}}}"#)],
+            "BadMember A",
+        ),
+        (
+            &[("A", r#"{"H": {"+x": 1}, "G": {"b": {"+channel": 1}}}"#)],
+            "BadMember A",
+        ),
+        (
+            &[
+                ("A", FINE),
+                ("B", r#"{"G": {"m": {"+channel":"VAL"}, "n": 1}}"#),
+            ],
+            "SameMember B",
+        ),
+        (
+            &[
+                ("A", FINE),
+                ("B", r#"{"G": {"m": {"+channel":"VAL"}, "+id": 1}}"#),
+            ],
+            "BadMember B",
+        ),
+        (
+            &[("A", FINE), ("B", r#"{"G": {"m": {"+channel":"X"}}}"#)],
+            "BadMember B",
+        ),
+        (
+            &[(
+                "A",
+                r#"{"G": {"m": {"+channel":"VAL"}, "m": {"+channel":"VAL"}}}"#,
+            )],
+            "SameMember A",
+        ),
+        (
+            &[(
+                "A",
+                r#"{"G": {"m": {"+channel":"VAL"}, "l": {"+x":1}, "m": {"+channel":"VAL"}}}"#,
+            )],
+            "UnknownKey A",
+        ),
+        (&[("A", r#"{"G": {"m": 1}}"#)], "BadMember A"),
+        (
+            &[("A", r#"{"G": {"m": {"+channel":"VAL", "+type":"bool"}}}"#)],
+            "BadMember A",
+        ),
+        (&[("A", r#"{"G": {"m": {"+type":"proc"}}}"#)], "BadMember A"),
+        (
+            &[("A", r#"{"G": {"m": {"+channel":"VAL", "+putorder":1.5}}}"#)],
+            "BadMember A",
+        ),
+        (
+            &[("A", r#"{"G": {"m": {"+channel":"VAL", "+putorder":1.0}}}"#)],
+            "BadMember A",
+        ),
+        (
+            &[(
+                "A",
+                r#"{"G": {"m": {"+channel":"VAL", "+putorder":2147483648}}}"#,
+            )],
+            "BadMember A",
+        ),
+        (
+            &[("A", r#"{"G": {"a..b": {"+channel":"VAL"}}}"#)],
+            "BadMember A",
+        ),
+        (
+            &[("A", r#"{"G": {"a.": {"+channel":"VAL"}}}"#)],
+            "BadMember A",
+        ),
+        (
+            &[("A", r#"{"G": {"a[0]": {"+channel":"VAL"}}}"#)],
+            "BadMember A",
+        ),
+        (
+            &[("A", r#"{"G": {"": {"+channel":"VAL"}}}"#)],
+            "BadMember A",
+        ),
+        (
+            &[
+                ("A", r#"{"G": {"m": {"+channel":"VAL", "+trigger":"n"}}}"#),
+                ("G", ""),
+            ],
+            "UnknownTrigger G",
+        ),
+        (
+            &[("A", r#"{"G": {"m": {"+channel":"VAL", "+trigger":"m,"}}}"#)],
+            "UnknownTrigger G",
+        ),
+        (
+            &[(
+                "A",
+                r#"{"A": {"m": {"+channel":"VAL"}}, "G": {"m": {"+channel":"VAL", "+trigger":"n"}}}"#,
+            )],
+            "NameTaken A",
+        ),
+        (&[("A", r#"{"A.DESC": {}}"#)], "NameTaken A.DESC"),
+        (&[("A", r#"{"A.VAL": {}}"#)], "NameTaken A.VAL"),
+        (&[("A", r#"{"A.SCAN": {}}"#)], "A.SCAN '' atomic:;"),
+    ];
+    for (given, words) in rows {
+        assert_eq!(rt; defined(alloc, given)?.as_str(), words);
+    }
+    Ok(())
+}
+
+/// The JSON of an object with so many keys, each with this value.
+fn object(alloc: Global, count: u32, value: &str) -> Result<String, NoMemory> {
+    let mut json = String::from_str(alloc, "{")?;
+    for number in 0..count {
+        let comma = if number == 0 { "" } else { "," };
+        json.push_str(&format!(in alloc; "{comma}\"k{number}\":{value}")?)?;
+    }
+    json.push_str("}")?;
+    Ok(json)
+}
+
+#[test]
+fn groups_and_members_are_counted(rt: HostRuntime) -> Result<(), Fail> {
+    let alloc = rt.alloc();
+    let many = object(alloc, 1025, "{}")?;
+    assert_eq!(rt;
+        defined(alloc, &[("A", many.as_str())])?.as_str(),
+        "TooMany 1025"
+    );
+    let members = object(alloc, 257, "{\"+channel\":\"VAL\"}")?;
+    let one = format!(in alloc; "{{\"G\":{}}}", members.as_str())?;
+    assert_eq!(rt;
+        defined(alloc, &[("A", one.as_str())])?.as_str(),
+        "TooMany 257"
+    );
+    let taken = [("A", one.as_str()), ("G.X", "")];
+    assert_eq!(rt; defined(alloc, &taken)?.as_str(), "TooMany 257");
+    Ok(())
+}
+
+#[test]
+fn deep_json_is_refused(rt: HostRuntime) -> Result<(), Fail> {
+    let alloc = rt.alloc();
+    let mut deep = String::from_str(alloc, "{\"G\":")?;
+    for _ in 0..100_000u32 {
+        deep.push_str("[")?;
+    }
+    assert_eq!(rt;
+        defined(alloc, &[("A", deep.as_str())])?.as_str(),
+        "BadJson A"
+    );
+    Ok(())
+}
