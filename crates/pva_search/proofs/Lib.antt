@@ -1,0 +1,14 @@
+pub mod Loops
+pub mod Opens
+pub mod Replies
+pub mod Giving
+pub mod Asking
+pub mod Again
+pub mod Protocols
+pub mod Responding
+pub mod Searching
+pub mod Knowing
+pub mod Written
+pub mod Heard
+pub mod Spelled
+pub mod Items
