@@ -1,5 +1,6 @@
 pub mod Loops
 pub mod Opens
+pub mod Items
 pub mod Replies
 pub mod Giving
 pub mod Asking
@@ -8,7 +9,7 @@ pub mod Protocols
 pub mod Responding
 pub mod Searching
 pub mod Knowing
-pub mod Written
-pub mod Heard
+pub mod Within
+pub mod Taking
+pub mod Lengths
 pub mod Spelled
-pub mod Items

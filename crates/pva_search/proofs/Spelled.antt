@@ -1,15 +1,15 @@
--- One round between a finder and a server that knows one of its names.
-use Rattle.std.proofs.Common.{◌≡◌, ◌∙◌, ℕ, ◌<◌, ◌^◌, Bool, List, [], ◌++◌, length, drop, Some, sym, ap}
-use Rattle.std.proofs.lemmas.List.{append-nil, drop_at}
+-- A datagram is read as a message exactly where it spells one.
+use Rattle.std.proofs.Common.{◌≡◌, ◌∙◌, ℕ, List, ◌++◌, take, drop, Some, sym, ap, arith, length-take}
+use Rattle.std.proofs.lemmas.List.{drop_at, take-append-drop}
 use Rattle.pva_wire.specs.declared.order.Order.{Order}
-use Rattle.pva_frames.specs.Spelling.{header_bytes}
-use Rattle.pva_search.specs.Fields.{Field, canonical}
-use Rattle.pva_search.specs.Messages.{search_fields, response_fields, search_command, response_command, datagram}
+use Rattle.pva_search.specs.Fields.{Field}
+use Rattle.pva_search.specs.Messages.{search_fields, response_fields, search_command, response_command}
 use Rattle.pva_search.specs.Grammar.{IsSpelled}
 use Rattle.pva_search.specs.Reading.{message_in, search_at, response_at, in_order, read_by}
-use Rattle.pva_search.specs.Laws.{SearchIsRead, ResponseIsRead}
+use Rattle.pva_search.specs.Laws.{SearchIsRead, SearchIsSpelled, ResponseIsRead, ResponseIsSpelled}
 use Rattle.pva_search.proofs.Again.{search_again, response_again}
-use Rattle.pva_search.proofs.Written.{EachCan, CanField, all_written, head_size, is_one, order_is}
+use Rattle.pva_search.proofs.Taking.{search_take, response_take}
+use Rattle.pva_search.proofs.Within.{search_within, response_within, has_eight}
 
 -- the order and the payload of a datagram that spells some items
 message_is : (command : ℕ) (bytes : List ℕ) (order : Order) (fields : List Field) (p : IsSpelled command bytes order fields)
@@ -29,16 +29,39 @@ response_is_read bytes order r twelve sixteen p =
     ap (λ m. read_by response_at m) (message_is response_command bytes order (response_fields r) p)
     ∙ ap (in_order order) (response_again order r p.front p.more twelve sixteen p.items)
 
--- what is written spells its items
-pub is_spelled : (order : Order) (server : Bool) (command : ℕ) (fields : List Field) → EachCan CanField fields → length (canonical order fields) < 2 ^ 32
-    → IsSpelled command (datagram order server command fields) order fields
-is_spelled order server command fields can fits = record {
-  head = header_bytes order server 0 command (length (canonical order fields));
-  front = canonical order fields;
-  more = [];
-  size = head_size order server command (length (canonical order fields));
-  parts = ap (λ (xs : List ℕ). header_bytes order server 0 command (length (canonical order fields)) ++ xs) (sym (append-nil (canonical order fields)));
-  message = is_one order server command (canonical order fields) fits;
-  told = order_is order server command (canonical order fields) fits;
-  items = all_written order fields can;
-}
+pub search_spells : SearchIsSpelled
+search_spells datagram order s fits h =
+    let w = search_within datagram order s fits h in
+    let t = search_take order (drop 8 datagram) (s, w.rest) w.fits w.given in (
+      t.0,
+      t.1,
+      t.2,
+      record {
+        head = take 8 datagram;
+        front = t.3.0;
+        more = w.rest;
+        size = omega (arith, length-take 8 datagram, has_eight search_command datagram w.message);
+        parts = sym (take-append-drop 8 datagram) ∙ ap (λ (xs : List ℕ). take 8 datagram ++ xs) t.3.2.parts;
+        message = w.message;
+        told = w.told;
+        items = t.3.1;
+      },
+    )
+
+pub response_spells : ResponseIsSpelled
+response_spells datagram order r fits h =
+    let w = response_within datagram order r fits h in
+    let t = response_take order (drop 8 datagram) (r, w.rest) w.fits w.given in (
+      t.0,
+      t.1,
+      record {
+        head = take 8 datagram;
+        front = t.2.0;
+        more = w.rest;
+        size = omega (arith, length-take 8 datagram, has_eight response_command datagram w.message);
+        parts = sym (take-append-drop 8 datagram) ∙ ap (λ (xs : List ℕ). take 8 datagram ++ xs) t.2.2.parts;
+        message = w.message;
+        told = w.told;
+        items = t.2.1;
+      },
+    )

@@ -82,6 +82,10 @@ answer_to known setup from (Some s) = reply_to setup from s.0 s.1 (known_of know
 abbrev pub answer_of : (List ℕ → Bool) → Setup → Peer → List ℕ → Option (List ℕ × Peer)
 answer_of known setup from datagram = answer_to known setup from (search_in datagram)
 
+-- the most bytes of a UDP datagram over IPv4 (RFC 768, RFC 791)
+abbrev pub udp_most : ℕ
+udp_most = 65507
+
 -- each call of f at a text answers what this test says of the text
 abbrev pub Tells : {F : Type 0} → Shared F (Bor (List ℕ) × Unit {0}) Bool → F → (List ℕ → Bool) → Type 0
 Tells g f test = (text : List ℕ) (r : Bool) → IsUtf8 text → FnReturnsAt g f text r → r ≡ test text

@@ -16,7 +16,7 @@ pub record Finding : Type 0 where
   pub next : ℕ
   -- the number of the next datagram
   pub sequence : ℕ
-  -- the rounds behind this one
+  -- how many rounds are still to come
   pub rounds : ℕ
 
 -- the server of a name; none for a number that is no position
@@ -100,7 +100,7 @@ abbrev pub given : Bool → Peer → Option Peer → Option Peer
 given true server None = Some server
 given named server s = s
 
--- the servers from a position on, behind a response that names these
+-- the servers from a position on, after a response that names these
 abbrev pub given_from : ℕ → List ℕ → Peer → List (Option Peer) → List (Option Peer)
 given_from i named server [] = []
 given_from i named server (s ∷ servers) =
@@ -114,14 +114,14 @@ server_of from r = record { address = if is_zero r.address then from.address els
 abbrev pub tells : Finding → Response → Bool
 tells f r = r.found && list_any (is_open f.servers) r.instances
 
--- behind a response
-abbrev pub behind : Finding → Peer → Response → Finding
-behind f from r = if r.found then record f { servers = given_from 0 r.instances (server_of from r) f.servers } else f
+-- the state after a response
+abbrev pub heard : Finding → Peer → Response → Finding
+heard f from r = if r.found then record f { servers = given_from 0 r.instances (server_of from r) f.servers } else f
 
 -- What hearing a datagram tells and changes.
 abbrev pub Hears : Finding → Finding → Peer → Bool → Option (Order × Response) → Type 0
 Hears old new from result None = (result ≡ false) × (new ≡ old)
-Hears old new from result (Some r) = (result ≡ tells old r.1) × (new ≡ behind old from r.1)
+Hears old new from result (Some r) = (result ≡ tells old r.1) × (new ≡ heard old from r.1)
 
 -- The next round, where there is one.
 abbrev pub turned : Finding → Finding

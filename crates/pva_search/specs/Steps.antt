@@ -39,6 +39,6 @@ pub record IsTaken (names : List (List ℕ)) (servers : List (Option Peer)) (nex
       → most < head_size + length (channel_bytes names (open_in servers next (taken.end - next)))
       + 5 + length (get_or names taken.end [])
 
--- behind a number that is named
+-- the servers after a number that is named
 abbrev pub given_at : ℕ → Peer → List (Option Peer) → List (Option Peer)
 given_at i server servers = if is_open servers i then slice_set servers i (Some server) else servers

@@ -1,7 +1,7 @@
-ghost use Rattle.std.specs.Prelude.{◌≡◌, ◌≤◌, ◌++◌, ◌||◌, ◌==◌, if◌then◌else◌, ℕ, List, length, Bool, IfOk, OnOk};
+ghost use Rattle.std.specs.Prelude.{◌≡◌, ◌≤◌, ◌+◌, ◌*◌, ◌++◌, ◌||◌, ◌==◌, if◌then◌else◌, ℕ, List, length, Bool, IfOk, IfSome, OnOk};
 ghost use Rattle.pva_search.specs.Fields.{canonical};
 ghost use Rattle.pva_search.specs.Messages.{response_fields, response_bytes, Search as message};
-ghost use Rattle.pva_search.specs.Answers.{is_zero, is_mapped, is_for, is_wanted, response_of, goes_to, answer_of, Tells, Gave};
+ghost use Rattle.pva_search.specs.Answers.{is_zero, is_mapped, is_for, is_wanted, response_of, goes_to, answer_of, udp_most, Tells, Gave};
 ghost use Rattle.pva_search.specs.Parts.{HoldsSearch};
 
 use crate::datagram::datagram_of;
@@ -103,7 +103,8 @@ fn response_of(
     instances: &[u32],
 ) -> Result<Vec<u8>, NoMemory>
     requires { length instances.now ≤ 65535 }
-    ensures { IfOk result (λ v. v.items ≡ response_bytes order (response_of setup.now sequence instances.now)) }
+    ensures value { IfOk result (λ v. v.items ≡ response_bytes order (response_of setup.now sequence instances.now)) }
+    ensures size { IfOk result (λ v. length v.items ≡ 49 + 4 * length instances.now) }
 {
     let mut payload = Vec::new(alloc);
     write_response(&mut payload, order, setup, sequence, instances)?;
@@ -120,6 +121,10 @@ fn response_of(
 ///
 /// Each name is asked for once, with `known`. Memory is taken only where there is an answer; NoMemory
 /// where it runs out.
+///
+/// A datagram of at most 65,507 bytes, the most that UDP carries over IPv4, never makes an answer of more.
+/// A longer search, which no datagram brings, is answered in the same way, with four bytes for each name
+/// that is known.
 pub fn answer<F: Fn(&str) -> bool>(
     alloc: Global,
     datagram: &[u8],
@@ -128,8 +133,9 @@ pub fn answer<F: Fn(&str) -> bool>(
     known: &F,
 ) -> Result<Option<(Vec<u8>, Peer)>, NoMemory>
     requires { F.IsAlwaysCallable known.now }
-    ensures { (test : List ℕ → Bool) → Tells F.Fn known.now test
+    ensures value { (test : List ℕ → Bool) → Tells F.Fn known.now test
         → Gave (λ x. (x.0.items, x.1)) result (answer_of test setup.now from datagram.now) }
+    ensures fits { length datagram.now ≤ udp_most → IfOk result (λ o. IfSome o (λ x. length x.0.items ≤ udp_most)) }
 {
     let Some(search) = search_in(datagram) else {
         return Ok(None);

@@ -27,8 +27,9 @@ fn write_beacon(
     put_byte(out, 255)
 }
 
-/// The datagram by which a server tells that it is there. `sequence` counts its beacons, and `changes`
-/// its changes; both begin anew behind their greatest. NoMemory where memory runs out.
+/// The datagram by which a server tells that it is there, in the order of the setup (pvAccess Protocol
+/// Specification, "beacon"). `sequence` counts its beacons modulo 256, and `changes` its changes modulo
+/// 65,536. NoMemory where memory runs out.
 pub fn beacon(alloc: Global, setup: &Setup, sequence: u8, changes: u16) -> Result<Vec<u8>, NoMemory>
     ensures { IfOk result (λ v. v.items ≡ beacon_bytes setup.now sequence changes) }
 {

@@ -36,7 +36,7 @@ pub struct Finder {
     /// The names before this one have had their turn in this round.
     next: usize,
     sequence: u32,
-    /// The rounds behind this one.
+    /// How many rounds are still to come.
     rounds: u32,
 }
 
@@ -55,7 +55,7 @@ impl Model for Finder {
 struct Taken {
     /// How many they are.
     count: u16,
-    /// The position behind the last of them, from which on the others stand.
+    /// The position after the last of them, from which on the others stand.
     end: usize,
 }
 
@@ -222,7 +222,7 @@ impl Finder {
 
     /// A search for the first of the names that aren't found and weren't asked in this round, as many
     /// as a datagram of at most 1,400 bytes takes; None exactly where there are none. It asks servers to
-    /// answer at this port. Behind 2^32 datagrams their numbers begin anew. NoMemory where memory runs
+    /// answer at this port. Datagrams are numbered from 0, modulo 2^32. NoMemory where memory runs
     /// out; then the finder is as before.
     pub fn ask(&mut self, alloc: Global, port: u16) -> Result<Option<Vec<u8>>, NoMemory>
         ensures { Asks (λ v. v.items) self.old self.new port result }

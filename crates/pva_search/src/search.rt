@@ -89,7 +89,7 @@ fn knows<F: Fn(&str) -> bool>(known: &F, name: &str) -> bool
     known(name)
 }
 
-/// Puts a number behind the others.
+/// Appends a number.
 fn add(found: &mut Vec<u32>, instance: u32) -> Result<(), NoMemory>
     ensures { OnOk result (found.new.items ≡ found.old.items ++ instance ∷ []) }
 {

@@ -1,5 +1,5 @@
 use crate::{Finder, Name, NoMemory, Order, Peer, Setup, answer, beacon};
-use std::alloc::Global;
+use std::alloc::{AllocError, Global};
 use std::test::Fail;
 
 /// The address 10.0.0.7 at port 40,000, from which searches come.
@@ -66,8 +66,8 @@ fn is_x_or_y(name: &str) -> bool {
     name == "X" || name == "Y"
 }
 
-fn nothing(_name: &str) -> bool {
-    false
+fn anything(_name: &str) -> bool {
+    true
 }
 
 /// Whether an answer is these bytes, to be sent there.
@@ -91,11 +91,57 @@ fn an_unknown_name_is_answered_only_where_a_response_is_wanted(
     rt: HostRuntime,
 ) -> Result<(), Fail> {
     let alloc = rt.alloc();
-    assert!(rt; answer(alloc, &SEARCH, FROM, &SETUP, &nothing)?.is_none());
-    let mut wanted = SEARCH;
-    wanted[12] = 0x81;
-    let reply = answer(alloc, &wanted, FROM, &SETUP, &nothing)?;
+    let mut unknown = SEARCH;
+    unknown[46] = b'Y';
+    assert!(rt; answer(alloc, &unknown, FROM, &SETUP, &is_x)?.is_none());
+    unknown[12] = 0x81;
+    let reply = answer(alloc, &unknown, FROM, &SETUP, &is_x)?;
     assert!(rt; is_reply(reply, &NOT_FOUND, BACK));
+    Ok(())
+}
+
+#[test]
+fn what_follows_the_last_item_is_passed_over(rt: HostRuntime) -> Result<(), Fail> {
+    let mut more = [0xEE; 48];
+    more[..47].copy_from_slice(&SEARCH);
+    more[4] = 0x28;
+    let reply = answer(rt.alloc(), &more, FROM, &SETUP, &is_x)?;
+    assert!(rt; is_reply(reply, &RESPONSE, BACK));
+    Ok(())
+}
+
+/// A search for 1,024 names of 64 bytes each, with the numbers from 0 on.
+fn long_search(alloc: Global) -> Result<Vec<u8>, AllocError> {
+    let mut search = Vec::new(alloc);
+    search.extend_from_slice(&[0xCA, 2, 0, 3, 0x21, 0x14, 1, 0])?;
+    search.extend_from_slice(&SEARCH[8..39])?;
+    search.extend_from_slice(&[0, 4])?;
+    for number in 0..1_024u32 {
+        search.extend_from_slice(&number.to_le_bytes())?;
+        search.extend_from_slice(&[64])?;
+        search.extend_from_slice(&[b'X'; 64])?;
+    }
+    Ok(search)
+}
+
+/// Whether an answer has 4,145 bytes, of which the last are the numbers 1,022 and 1,023.
+fn is_long_reply(answer: Option<(Vec<u8>, Peer)>) -> bool {
+    match answer {
+        Some((reply, at)) => {
+            reply.len() == 4_145
+                && reply.as_slice().ends_with(&[0xFE, 3, 0, 0, 0xFF, 3, 0, 0])
+                && at == BACK
+        }
+        None => false,
+    }
+}
+
+#[test]
+fn a_search_with_65536_bytes_of_names_is_answered_whole(rt: HostRuntime) -> Result<(), Fail> {
+    let alloc = rt.alloc();
+    let search = long_search(alloc)?;
+    let reply = answer(alloc, search.as_slice(), FROM, &SETUP, &anything)?;
+    assert!(rt; is_long_reply(reply));
     Ok(())
 }
 
