@@ -1,0 +1,15 @@
+pub mod Loops
+pub mod Opens
+pub mod Items
+pub mod Replies
+pub mod Giving
+pub mod Asking
+pub mod Again
+pub mod Protocols
+pub mod Responding
+pub mod Searching
+pub mod Knowing
+pub mod Within
+pub mod Taking
+pub mod Lengths
+pub mod Spelled

@@ -1,0 +1,9 @@
+pub mod Fields
+pub mod Messages
+pub mod Grammar
+pub mod Reading
+pub mod Answers
+pub mod Finding
+pub mod Parts
+pub mod Steps
+pub mod Laws
