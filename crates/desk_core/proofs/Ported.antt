@@ -86,8 +86,8 @@ module _ {P : Type 0} (port : P → PortView) (configs : List Config) (ports : L
   pub ported : (new : List (Option P)) → ports_there (map (option_map port) new) ≡ ports_there (map (option_map port) ports) → ports_there new ≡ ports_wanted configs
   ported new stay = sym (views_there port new) ∙ stay ∙ views_there port ports ∙ wanted
 
-  pub told : (new : Ports) (rec : ℕ) (config : Config) (drove : Bool) (text : List ℕ) → slice_get configs rec ≡ Some config → IsDrivenAt (map (option_map port) ports) new rec drove text → (drove || is_some config.port) ≡ true
-  told new rec config drove text configured d =
+  pub told : (new : Ports) (rec : ℕ) (config : Config) → slice_get configs rec ≡ Some config → (drove : Bool) (text : List ℕ) → IsDrivenAt (map (option_map port) ports) new rec drove text → (drove || is_some config.port) ≡ true
+  told new rec config configured drove text d =
       let here : slice_get (ports_there (map (option_map port) ports)) rec ≡ Some (is_some d.before) =
           slice_get-map (λ (o : Option PortView). is_some o) (map (option_map port) ports) rec ∙ ap (option_map (λ (o : Option PortView). is_some o)) d.there in
       let asked : slice_get (ports_wanted configs) rec ≡ Some (is_some config.port) =

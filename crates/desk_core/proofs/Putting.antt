@@ -1,5 +1,5 @@
 -- What a put does to the ports.
-use Rattle.std.proofs.Common.{◌≡◌, ℕ, ◌+◌, Bool, ◌||◌, true, List, [], ◌∷◌, length, take, Option, Some, Result, Ok, Err, inl, inr, refl, sym, ◌∙◌, ap, subst}
+use Rattle.std.proofs.Common.{◌≡◌, ℕ, ◌+◌, Bool, ◌||◌, true, List, [], ◌∷◌, length, take, Option, Some, Result, Ok, Err, IfOk, OnErr, inl, inr, refl, sym, ◌∙◌, ap, subst}
 use Rattle.std.specs.List.{slice_get}
 use Rattle.std.specs.Prelude.{is_some}
 use Rattle.rec_kinds.specs.Configs.{Config}
@@ -22,9 +22,11 @@ use Rattle.desk_api.specs.declared.mark.Seat.{Seat}
 use Rattle.desk_api.specs.declared.put.Done.{Done}
 use Rattle.desk_api.specs.declared.put.PutAnswer.{PutAnswer}
 use Rattle.desk_api.specs.declared.put.PutAnswer.TheVariants as answers
-use Rattle.desk_core.specs.Ports.{Ports, IsDrivenAt, IsTriedAt, AreDriven, AreDrivenBy, AreDrivenInPart, DrivesPorts, actions_or_none}
+use Rattle.desk_core.specs.Ports.{Ports, IsDrivenAt, IsTriedAt, AreDriven, AreDrivenBy, AreDrivenInPart, DrivesPorts, actions_or_none, ports_there}
 use Rattle.desk_core.specs.Standing.{AreEntered, IsEntered, IsDraft, answer_of, entry_of}
+use Rattle.desk_core.specs.declared.draft.Draft.{Draft}
 use Rattle.desk_core.proofs.Cells.{legal_one}
+use Rattle.desk_core.proofs.Ported.{stay_at, stay_tried}
 
 -- no port was driven, though memory ran out
 none_driven : (s : Seat) (old new : Ports) (asked : Asked) → new ≡ old → AreDrivenInPart s old new asked
@@ -83,3 +85,9 @@ module _ (s : Seat) (asked : Asked) (cells : List RecState) (rec : ℕ) (config 
         entered_drives s t old new asked entry result c
         (subst (λ (e : Entry). AreDriven old new e.drove e.writes) (sym d.entry_is) (new, driven_so, refl))
         (subst (λ (e : Entry). AreProcessed asked.site.configs (state_at s.seen (now s)) asked.moment (take (length e.writes) (actions_or_none (asked_actions asked))) e.drove e.writes) (sym d.entry_is) (first_of d.drove told))
+
+-- whatever was drafted, ports stay where they are
+pub stay_drafted : {E : Type 0} (r : Result Draft E) (old new : Ports) (rec : ℕ) (config : Config) (state : RecState) (action : Action) (moment : Moment) (text : List ℕ)
+    → IfOk r (λ d. IsDraft old new rec config state action moment d.entry d.state) → OnErr r (IsTriedAt old new rec text) → ports_there new ≡ ports_there old
+stay_drafted (Ok d) old new rec config state action moment text drafted tried = stay_at old new rec drafted.drove (text_of_datum d.state.datum) drafted.driven
+stay_drafted (Err e) old new rec config state action moment text drafted tried = stay_tried old new rec text tried
