@@ -164,6 +164,18 @@ impl<P: Port + Drop> SoloDesk<P> {
 }
 
 impl<P: Port> SoloDesk<P> {
+    ghost use Rattle.desk_core.specs.Desks.{ports_of};
+
+    /// The port of a record, by the record's number; None where it has none.
+    pub fn port(&self, rec: usize) -> Option<&P>
+        requires { rec < length (ports_of P.port self.now) }
+        ensures { Some (option_map (λ p. P.port p.now) result) ≡ slice_get (ports_of P.port self.now) rec }
+    {
+        self.ports[rec].as_ref()
+    }
+}
+
+impl<P: Port> SoloDesk<P> {
     ghost use Rattle.std.specs.Prelude.{◌^◌, ◌∷◌, []};
     ghost use Rattle.desk_core.specs.Desks.{ports_of};
     ghost use Rattle.journal_core.specs.Legality.{IsLegalEntry};
@@ -235,7 +247,9 @@ impl<P: Port> Desk for SoloDesk<P> {
     {
         let rec = channel.number as usize;
         let (config, state) = record_at(&self.terms.site, &self.cells, rec);
-        let value = shown(alloc, channel.kind, config, state)?;
+        let Ok(value) = shown(alloc, channel.kind, config, state) else {
+            return Err(NoMemory);
+        };
         note_read::<Brand>(&mut self.log, &self.terms.site, channel, &self.cells);
         Ok(value)
     }
