@@ -168,9 +168,10 @@ impl<P: Port> SoloDesk<P> {
 
     /// The port of a record, by the record's number; None where it has none.
     pub fn port(&self, rec: usize) -> Option<&P>
-        requires { rec < length (ports_of P.port self.now) }
+        requires { rec < length self.now.log.seen.base.site.names }
         ensures { Some (option_map (λ p. P.port p.now) result) ≡ slice_get (ports_of P.port self.now) rec }
     {
+        record_at(&self.terms.site, &self.cells, rec);
         self.ports[rec].as_ref()
     }
 }
