@@ -52,7 +52,7 @@ payload_small config (Put datum) may = put_small config datum (enabled_own confi
 payload_small config Process may = omega arith
 
 -- each record has a cell
-valid_count : (configs : List Config) (cells : List RecState) → AreValid configs cells → length configs ≡ length cells
+pub valid_count : (configs : List Config) (cells : List RecState) → AreValid configs cells → length configs ≡ length cells
 valid_count [] [] v = refl
 valid_count [] (s ∷ cells) v = absurd v
 valid_count (c ∷ configs) [] v = absurd v

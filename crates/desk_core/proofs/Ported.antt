@@ -89,9 +89,9 @@ module _ {P : Type 0} (port : P → PortView) (configs : List Config) (ports : L
   pub told : (new : Ports) (rec : ℕ) (config : Config) → slice_get configs rec ≡ Some config → (drove : Bool) (text : List ℕ) → IsDrivenAt (map (option_map port) ports) new rec drove text → (drove || is_some config.port) ≡ true
   told new rec config configured drove text d =
       let here : slice_get (ports_there (map (option_map port) ports)) rec ≡ Some (is_some d.before) =
-          slice_get-map (λ (o : Option PortView). is_some o) (map (option_map port) ports) rec ∙ ap (option_map (λ (o : Option PortView). is_some o)) d.there in
+      slice_get-map (λ (o : Option PortView). is_some o) (map (option_map port) ports) rec ∙ ap (option_map (λ (o : Option PortView). is_some o)) d.there in
       let asked : slice_get (ports_wanted configs) rec ≡ Some (is_some config.port) =
-          slice_get-map (λ (c : Config). is_some c.port) configs rec ∙ ap (option_map (λ (c : Config). is_some c.port)) configured in
+      slice_get-map (λ (c : Config). is_some c.port) configs rec ∙ ap (option_map (λ (c : Config). is_some c.port)) configured in
       let same : Some (is_some d.before) ≡ Some (is_some config.port) = sym here ∙ ap (λ (l : List Bool). slice_get l rec) (views_there port ports ∙ wanted) ∙ asked in
       let same_bool : is_some d.before ≡ is_some config.port = cc in
       ap (λ (b : Bool). drove || b) (sym same_bool) ∙ told_by d.before d.after drove text d.driven
