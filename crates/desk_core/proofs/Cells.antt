@@ -1,7 +1,7 @@
 -- The states of the records, and entries of one action.
 use Rattle.std.proofs.Common.{◌≡◌, ◌==◌, ℕ, ◌+◌, ◌*◌, ◌≤◌, ◌<◌, zero, suc, Bool, true, false, if◌then◌else◌, List, [], ◌∷◌, length, drop, get_or, Option, None, Some, refl, sym, ap, subst, arith}
 use Rattle.std.specs.List.{slice_get, list_all, list_any, sum_by}
-use Rattle.std.specs.Prelude.{◌^◌, IsTrue, nat_le}
+use Rattle.std.specs.Prelude.{◌^◌, ◌||◌, IsTrue, is_some, nat_le}
 use Rattle.std.proofs.lemmas.Bool.{eq-eqb, leb-true, and_parts}
 use Rattle.std.proofs.lemmas.List.Elements.{All-same, All-cons, All-nil}
 use Rattle.std.proofs.lemmas.List.Sums.{sum_by-cons}
@@ -52,7 +52,7 @@ payload_small config (Put datum) may = put_small config datum (enabled_own confi
 payload_small config Process may = omega arith
 
 -- each record has a cell
-valid_count : (configs : List Config) (cells : List RecState) → AreValid configs cells → length configs ≡ length cells
+pub valid_count : (configs : List Config) (cells : List RecState) → AreValid configs cells → length configs ≡ length cells
 valid_count [] [] v = refl
 valid_count [] (s ∷ cells) v = absurd v
 valid_count (c ∷ configs) [] v = absurd v
@@ -80,17 +80,17 @@ inside_one : (rec : ℕ) (state : RecState) → IsTrue (list_all (λ (w : ℕ ×
 inside_one rec state = rw (eq-eqb rec rec refl) refl
 
 -- the entry of one action that may be done is legal
-pub legal_one : (configs : List Config) (cells : List RecState) (rec : ℕ) (config : Config) (old : RecState) (action : Action) (moment : Moment) → AreValid configs cells → slice_get configs rec ≡ Some config → slice_get cells rec ≡ Some old → MayBeDone config action → IsLegalEntry configs cells (entry_of rec config old action moment)
-legal_one configs cells rec config old action moment valid configured found may =
-    let write : ℕ × RecState = (rec, processed config old action moment true) in
+pub legal_one : (configs : List Config) (cells : List RecState) (rec : ℕ) (config : Config) (old : RecState) (action : Action) (moment : Moment) (drove : Bool) → AreValid configs cells → slice_get configs rec ≡ Some config → slice_get cells rec ≡ Some old → MayBeDone config action → (drove || is_some config.port) ≡ true → IsLegalEntry configs cells (entry_of rec config old action moment drove)
+legal_one configs cells rec config old action moment drove valid configured found may told =
+    let write : ℕ × RecState = (rec, processed config old action moment drove) in
     record {
       valid = valid;
       processed = (
-        subst (λ (o : Option Config × Option RecState). IsDone o.0 o.1 moment (rec, action) true write) (λ i. (sym configured i, sym found i)) (record { may = may; driven = refl; write_is = refl }),
+        subst (λ (o : Option Config × Option RecState). IsDone o.0 o.1 moment (rec, action) drove write) (λ i. (sym configured i, sym found i)) (record { may = may; driven = told; write_is = refl }),
         tt,
       );
-      inside = inside_one rec (processed config old action moment true);
+      inside = inside_one rec (processed config old action moment drove);
     }
 
-pub light_one : (rec : ℕ) (config : Config) (old : RecState) (action : Action) (moment : Moment) → config.nelm < 2 ^ 32 → MayBeDone config action → weight (entry_of rec config old action moment) < 2 ^ 64
-light_one rec config old action moment few may = omega (arith, few, payload_small config action may)
+pub light_one : (rec : ℕ) (config : Config) (old : RecState) (action : Action) (moment : Moment) (drove : Bool) → config.nelm < 2 ^ 32 → MayBeDone config action → weight (entry_of rec config old action moment drove) < 2 ^ 64
+light_one rec config old action moment drove few may = omega (arith, few, payload_small config action may)

@@ -1,3 +1,5 @@
 pub mod Cells
+pub mod Ported
 pub mod Marking
 pub mod Soloing
+pub mod Putting

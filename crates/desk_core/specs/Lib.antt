@@ -1,1 +1,3 @@
 pub mod Standing
+pub mod Ports
+pub mod Desks

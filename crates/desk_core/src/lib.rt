@@ -2,10 +2,13 @@
 #![tactic(auto)]
 
 mod draft;
+mod driving;
 mod log;
 mod solo;
 #[cfg(test)]
 mod tests;
 
 pub use desk_api::{Channel, Desk, Done, Moment, NoMemory, PutAnswer, PvType, PvValue, Site};
+pub use driving::drive;
+pub use pva_outside::Port;
 pub use solo::SoloDesk;

@@ -1,9 +1,10 @@
 // A desk that nobody shares.
-ghost use Rattle.std.specs.Prelude.{◌≡◌, ◌<◌, ◌≤◌, ◌^◌, ◌++◌, drop, length, slice_get, Some, true, IfOk, IsTrue, OnOk};
+ghost use Rattle.std.specs.Prelude.{◌≡◌, ◌<◌, ◌≤◌, ◌^◌, ◌++◌, drop, length, map, option_map, slice_get, Some, true, IfOk, IsTrue, OnOk};
 ghost use Rattle.desk_api.specs.History.{IsLegal, commits};
 ghost use Rattle.desk_api.specs.Calls.{first_seat, Calls, OnMarked, EndsAtLastMark};
 ghost use Rattle.desk_api.specs.Types.{type_for};
 ghost use Rattle.desk_api.specs.Views.{value_for};
+ghost use Rattle.desk_core.specs.Ports.{ports_there, ports_wanted};
 ghost use Rattle.desk_core.specs.Standing.{AreAsked, Stands, answer_of, base_of};
 ghost use Rattle.journal_core.proofs.Facts.{are_legal_prop, are_valid_prop};
 ghost use Rattle.journal_core.specs.Legality.{AreValid};
@@ -18,19 +19,22 @@ use desk_api::{
     RecState, Site,
 };
 use journal_core::{History, weight};
+use pva_outside::Port;
 use pvd_type::BitSet;
 use rec_fields::{FieldAnswer, action_of, desc_view, view};
 use rec_kinds::{Action, RecConfig};
 use std::alloc::Global;
 use std::marker::Brand;
 
-/// The desk of a site that nobody else reads or writes. No call of it waits.
+/// The desk of a site that nobody else reads or writes, with the ports of its records. No call of it waits.
 #[derive(Drop)]
-pub struct SoloDesk {
+pub struct SoloDesk<P> {
     terms: Terms,
     history: History,
     /// The present states of the records.
     cells: Vec<RecState>,
+    /// The ports of the records, each at its record's place.
+    ports: Vec<Option<P>>,
     /// Its seat, which takes no bytes: the history and the marks of its calls.
     pub log: Log,
     /// The history is the one that the desk keeps, the cells are its last states, and every entry is the desk's own.
@@ -39,6 +43,8 @@ pub struct SoloDesk {
     ghost legal: { IsLegal log.seen } by { are_legal_prop log.seen.base.site.configs log.seen.base.site.opening (commits log.seen) },
     /// Each record is in a state that is valid for it.
     ghost valid: { AreValid terms.site.configs cells.items } by { are_valid_prop terms.site.configs cells.items },
+    /// A record has a port exactly where its configuration says so.
+    ghost ported: { ports_there ports.items ≡ ports_wanted terms.site.configs },
 }
 
 /// The states that the records of a site open with.
@@ -125,11 +131,21 @@ fn not_done(answer: FieldAnswer) -> PutAnswer
     }
 }
 
-impl SoloDesk {
-    /// A desk of this site, whose entries may weigh no more than the limit together. Its history is the site's opening states
-    /// with no entry, and its log is empty.
-    pub fn new(alloc: Global, site: Site, limit: u64) -> Result<SoloDesk, NoMemory>
-        ensures { IfOk result (λ desk. desk.log ≡ first_seat (record { site = site; limit = limit })) }
+impl<P: Port + Drop> SoloDesk<P> {
+    ghost use Rattle.desk_core.specs.Desks.{ports_of};
+
+    /// A desk of this site, with a port for each record whose configuration says that it has one, each at its record's place
+    /// (EPICS record reference, "DTYP", "OUT"). The entries may weigh no more than the limit together. The history is the
+    /// site's opening states with no entry, and the log is empty. No port is driven.
+    pub fn new(
+        alloc: Global,
+        site: Site,
+        ports: Vec<Option<P>>,
+        limit: u64,
+    ) -> Result<SoloDesk<P>, NoMemory>
+        requires { ports_there ports.items ≡ ports_wanted site.configs }
+        ensures seat { IfOk result (λ desk. desk.log ≡ first_seat (record { site = site; limit = limit })) }
+        ensures ports { IfOk result (λ desk. ports_of P.port desk ≡ map (option_map P.port) ports.items) }
     {
         let cells = opening_of(alloc, &site)?;
         let history = History::new(alloc, opening_of(alloc, &site)?);
@@ -139,6 +155,7 @@ impl SoloDesk {
                 terms,
                 history,
                 cells,
+                ports,
                 log,
             }),
             Err(no_memory) => Err(no_memory),
@@ -146,8 +163,22 @@ impl SoloDesk {
     }
 }
 
-impl SoloDesk {
+impl<P: Port> SoloDesk<P> {
+    ghost use Rattle.desk_core.specs.Desks.{ports_of};
+
+    /// The port of a record, by the record's number; None where it has none.
+    pub fn port(&self, rec: usize) -> Option<&P>
+        requires { rec < length self.now.log.seen.base.site.names }
+        ensures { Some (option_map (λ p. P.port p.now) result) ≡ slice_get (ports_of P.port self.now) rec }
+    {
+        record_at(&self.terms.site, &self.cells, rec);
+        self.ports[rec].as_ref()
+    }
+}
+
+impl<P: Port> SoloDesk<P> {
     ghost use Rattle.std.specs.Prelude.{◌^◌, ◌∷◌, []};
+    ghost use Rattle.desk_core.specs.Desks.{ports_of};
     ghost use Rattle.journal_core.specs.Legality.{IsLegalEntry};
     ghost use Rattle.journal_core.specs.Weights.{weight as weight_of};
     ghost use Rattle.desk_core.specs.Standing.{AreEntered};
@@ -162,6 +193,7 @@ impl SoloDesk {
         ensures calls { Calls self.old.log self.new.log (AreEntered draft.entry result) }
         ensures ends { OnMarked result (EndsAtLastMark self.new.log) }
         ensures base { self.new.log.seen.base ≡ self.old.log.seen.base }
+        ensures ports { ports_of P.port self.new ≡ ports_of P.port self.old }
     {
         let kept = self.history.kept();
         let added = weight(&draft.entry);
@@ -186,7 +218,13 @@ impl SoloDesk {
     }
 }
 
-impl Desk for SoloDesk {
+impl<P: Port> Desk for SoloDesk<P> {
+    ghost use Rattle.desk_api.specs.Calls.{AreGet, ArePut};
+    ghost use Rattle.desk_api.specs.Sites as sites;
+    ghost use Rattle.desk_api.specs.Types as types;
+    ghost use Rattle.desk_core.specs.Desks.{ports_of};
+    ghost use Rattle.desk_core.specs.Ports.{DrivesPorts};
+
     ghost seat = { λ desk. desk.log };
 
     fn has_legal_history(&self) {}
@@ -199,14 +237,27 @@ impl Desk for SoloDesk {
         self.terms.site.type_of(channel)
     }
 
-    fn get(&mut self, alloc: Global, channel: Channel) -> Result<PvValue, NoMemory> {
+    /// What the channel shows, as every desk does it. It drives no port.
+    fn get(&mut self, alloc: Global, channel: Channel) -> Result<PvValue, NoMemory>
+        requires { IsTrue (sites.is_channel self.old.log.seen.base.site channel) }
+        ensures calls { Calls self.old.log self.new.log (AreGet self.old.log.seen.base.site channel result) }
+        ensures ends { OnOk result (EndsAtLastMark self.new.log) }
+        ensures fits { IfOk result (λ v. fits_of 16 (view v) (types.type_of self.old.log.seen.base.site channel) ≡ true) }
+        ensures base { self.new.log.seen.base ≡ self.old.log.seen.base }
+        ensures ports { ports_of P.port self.new ≡ ports_of P.port self.old }
+    {
         let rec = channel.number as usize;
         let (config, state) = record_at(&self.terms.site, &self.cells, rec);
-        let value = shown(alloc, channel.kind, config, state)?;
+        let Ok(value) = shown(alloc, channel.kind, config, state) else {
+            return Err(NoMemory);
+        };
         note_read::<Brand>(&mut self.log, &self.terms.site, channel, &self.cells);
         Ok(value)
     }
 
+    /// Puts the marked leaves, as every desk does it. The port of the record, if it has one, is driven once with the new
+    /// value as plain text, after the channel has taken the put and before the entry is added: the entry tells whether the
+    /// port took it. A port that was driven stays so where the history is full or memory runs out.
     fn put(
         &mut self,
         alloc: Global,
@@ -214,14 +265,31 @@ impl Desk for SoloDesk {
         mask: &BitSet,
         value: &PvValue,
         moment: Moment,
-    ) -> Result<Done, PutAnswer> {
+    ) -> Result<Done, PutAnswer>
+        requires channel { IsTrue (sites.is_channel self.old.log.seen.base.site channel) }
+        requires fits { fits_of 16 (view value.now) (types.type_of self.old.log.seen.base.site channel) ≡ true }
+        requires leaves { types.HoldsLeaves (types.type_of self.old.log.seen.base.site channel) mask.now }
+        ensures calls { Calls self.old.log self.new.log (ArePut (record { site = self.old.log.seen.base.site; channel = channel; mask = mask.now; value = view value.now; moment = moment }) result) }
+        ensures ends { OnMarked result (EndsAtLastMark self.new.log) }
+        ensures base { self.new.log.seen.base ≡ self.old.log.seen.base }
+        ensures ports { DrivesPorts self.old.log self.new.log (ports_of P.port self.old) (ports_of P.port self.new) (record { site = self.old.log.seen.base.site; channel = channel; mask = mask.now; value = view value.now; moment = moment }) result }
+    {
         let rec = channel.number as usize;
         let (config, state) = record_at(&self.terms.site, &self.cells, rec);
         let action = match asked_of(alloc, channel.kind, config, value, mask) {
             Ok(action) => action,
             Err(answer) => return Err(not_done(answer)),
         };
-        let Ok(draft) = draft_of(alloc, channel.number, config, state, action, moment) else {
+        let number = channel.number;
+        let Ok(draft) = draft_of(
+            alloc,
+            &mut self.ports,
+            number,
+            config,
+            state,
+            action,
+            moment,
+        ) else {
             return Err(PutAnswer::NoMemory { done: 0 });
         };
         self.enter(rec, draft)

@@ -106,8 +106,9 @@ fn joined(alloc: Global, parts: &[&[u8]]) -> Result<Vec<u8>, NoMemory> {
 }
 
 /// The desk of the record X, which is 42.
-fn desk_of_x(alloc: Global) -> Result<SoloDesk, NoMemory> {
-    SoloDesk::new(alloc, Site::single(alloc, "X", 42)?, LIMIT)
+fn desk_of_x(alloc: Global) -> Result<SoloDesk<MemoryPort>, NoMemory> {
+    let ports = vec![in alloc; None]?;
+    SoloDesk::new(alloc, Site::single(alloc, "X", 42)?, ports, LIMIT)
 }
 
 /// Feeds bytes in pieces of this size, up to one that ends the connection.

@@ -5,4 +5,4 @@ use Rattle.std.specs.Ordering.{nat_cmp}
 use Rattle.desk_core.proofs.tests.no_leaf.Goals as goal
 
 pub returns : goal.returns
-returns c n marked = absurd (false≢true (sym (contains-empty nat_cmp n) ∙ ap (λ s. contains s n) (sym c.new.ensures) ∙ marked))
+returns c t n marked = absurd (false≢true (sym (contains-empty nat_cmp n) ∙ ap (λ s. contains s n) (sym c.new.ensures) ∙ marked))

@@ -1,0 +1,89 @@
+-- How puts drive the ports of their records (EPICS record reference, "DTYP", "OUT").
+use Rattle.std.specs.Prelude.{◌≡◌, ℕ, Bool, true, false, List, [], ◌∷◌, length, map, set, take, is_some, Option, None, Some, Result, Ok, Err, slice_get, ⊤, ◌⊎◌}
+use Rattle.pva_outside.specs.Ports.{PortView, IsDriven}
+use Rattle.pva_outside.specs.declared.port.DriveStep.{DriveStep}
+use Rattle.pva_outside.specs.declared.port.DriveStep.TheVariants.{Drove, Failed}
+use Rattle.rec_kinds.specs.Configs.{Config}
+use Rattle.rec_kinds.specs.Texts.{text_of_datum}
+use Rattle.rec_kinds.specs.declared.datum.Action.{Action}
+use Rattle.rec_kinds.specs.declared.state.RecState.{RecState}
+use Rattle.rec_fields.specs.declared.puts.FieldAnswer.{FieldAnswer}
+use Rattle.journal_core.specs.Legality.{AreProcessed}
+use Rattle.journal_core.specs.declared.entry.Entry.{Entry}
+use Rattle.desk_api.specs.History.{entries, state_at}
+use Rattle.desk_api.specs.Calls.{Asked, asked_actions, now}
+use Rattle.desk_api.specs.declared.mark.Seat.{Seat}
+use Rattle.desk_api.specs.declared.put.Done.{Done}
+use Rattle.desk_api.specs.declared.put.PutAnswer.{PutAnswer}
+use Rattle.desk_api.specs.declared.put.PutAnswer.TheVariants as answers
+
+-- what is known of the ports of records, in order: nothing of a record without one
+abbrev pub Ports : Type 0
+Ports = List (Option PortView)
+
+-- which of these records are to have a port
+abbrev pub ports_wanted : List Config → List Bool
+ports_wanted configs = map (λ config. is_some config.port) configs
+
+-- at which of these places there is one
+abbrev pub ports_there : {P : Type 0} → List (Option P) → List Bool
+ports_there ports = map (λ port. is_some port) ports
+
+-- what a drive came to, by whether the port took the text
+abbrev pub step_of : Bool → DriveStep
+step_of true = Drove
+step_of false = Failed
+
+-- The port, if there is one, was driven once with this text. Without a port it is told as taken.
+abbrev pub IsDrivenOnce : Option PortView → Option PortView → Bool → List ℕ → Type 0
+IsDrivenOnce None new drove text = (new ≡ None) × (drove ≡ true)
+IsDrivenOnce (Some old) None drove text = ⊥
+IsDrivenOnce (Some old) (Some new) drove text = IsDriven old new (step_of drove) text
+
+-- The port of one record was driven so, and no other.
+pub record IsDrivenAt (old new : Ports) (rec : ℕ) (drove : Bool) (text : List ℕ) : Type 0 where
+  pub before : Option PortView
+  pub after : Option PortView
+  pub there : slice_get old rec ≡ Some before
+  pub driven : IsDrivenOnce before after drove text
+  pub others : new ≡ set old rec after
+
+-- Each of these writes drove the port of its record once, in order, with the plain text of the state that it writes.
+abbrev pub AreDriven : Ports → Ports → List Bool → List (ℕ × RecState) → Type 0
+AreDriven old new [] [] = new ≡ old
+AreDriven old new (drove ∷ drives) (write ∷ writes) =
+    ((next : Ports) × IsDrivenAt old next write.0 drove (text_of_datum write.1.datum) × AreDriven next new drives writes)
+AreDriven old new _ _ = ⊥
+
+-- The entry that a put added drove the ports: each of its actions once.
+pub record AreDrivenBy (s : Seat) (old new : Ports) (done : Done) : Type 0 where
+  pub entry : Entry
+  pub there : slice_get (entries s.seen) done.first ≡ Some (s.number, entry)
+  pub driven : AreDriven old new entry.drove entry.writes
+
+-- the actions that a put asks for, and none where it is refused
+abbrev pub actions_or_none : Result (List (ℕ × Action)) FieldAnswer → List (ℕ × Action)
+actions_or_none (Ok actions) = actions
+actions_or_none (Err answer) = []
+
+-- A put that added no entry drove the ports by its first actions, each once, or by none of them.
+pub record AreDrivenInPart (s : Seat) (old new : Ports) (asked : Asked) : Type 0 where
+  pub drives : List Bool
+  pub writes : List (ℕ × RecState)
+  pub driven : AreDriven old new drives writes
+  pub first : AreProcessed asked.site.configs (state_at s.seen (now s)) asked.moment (take (length writes) (actions_or_none (asked_actions asked))) drives writes
+
+-- What a put did to the ports, by its answer. A put that is refused drives none.
+abbrev pub DrivesPorts : Seat → Seat → Ports → Ports → Asked → Result Done PutAnswer → Type 0
+DrivesPorts s t old new asked (Ok done) = AreDrivenBy t old new done
+DrivesPorts s t old new asked (Err (answers.Refused refusal)) = new ≡ old
+DrivesPorts s t old new asked (Err (answers.JournalFull kept added limit done)) = AreDrivenInPart s old new asked
+DrivesPorts s t old new asked (Err (answers.NoMemory done)) = AreDrivenInPart s old new asked
+
+-- a port that was driven once with this text, or not at all
+abbrev pub IsTried : Option PortView → Option PortView → List ℕ → Type 0
+IsTried old new text = (new ≡ old) ⊎ ((drove : Bool) × IsDrivenOnce old new drove text)
+
+-- the same of the port of one record, and no other
+abbrev pub IsTriedAt : Ports → Ports → ℕ → List ℕ → Type 0
+IsTriedAt old new rec text = (new ≡ old) ⊎ ((drove : Bool) × IsDrivenAt old new rec drove text)
