@@ -8,3 +8,6 @@ pub mod Steps
 pub mod ReadBack
 pub mod PartBack
 pub mod RepliesBack
+pub mod Fitting
+pub mod Framing
+pub mod Lent

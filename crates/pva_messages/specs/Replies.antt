@@ -4,12 +4,14 @@ use Rattle.std.specs.Prelude.{◌≡◌, ℕ, Bool, true, false, ◌&&◌, not, 
 use Rattle.std.specs.Ordering.{nat_cmp}
 use Rattle.std.specs.FinSet.{FinSet}
 use Rattle.pva_wire.specs.declared.status.Status.{Status}
+use Rattle.pva_wire.specs.Status.{good}
 use Rattle.pvd_type.specs.Tree.{Tree}
 use Rattle.pva_messages.specs.declared.command.Command.{Command}
 use Rattle.pva_messages.specs.declared.command.Command.TheVariants as command
 use Rattle.pva_messages.specs.Subcommands.{begins, ends, asks_back, carries, OnlyWhere, ExactlyWhere}
 use Rattle.pva_messages.specs.Fields.{Field, Valued, PartData, byte, short, word, text, texts, status, description}
 use Rattle.pva_messages.specs.Fields.{valued, part, bits, rest}
+use Rattle.pva_messages.specs.Rows.{byte_of}
 
 pub data Reply : Type 0 where
   -- buffer size, registry size, methods
@@ -128,23 +130,44 @@ reply_fields (message req kind t) = word req ∷ byte kind ∷ text t ∷ []
 reply_fields (rpc req sub s v) = word req ∷ byte sub ∷ status s ∷ valued_field (carries s && not (begins sub)) v
 reply_fields (skipped c) = []
 
--- its command
+-- the byte of its command
 abbrev pub reply_command : Reply → ℕ
-reply_command (validation buffer registry methods) = 0x01
-reply_command (echo xs) = 0x02
-reply_command (created cid sid s) = 0x07
-reply_command (channel_destroyed sid cid) = 0x08
-reply_command (validated s) = 0x09
-reply_command (get req sub s t p) = 0x0A
-reply_command (put req sub s t p) = 0x0B
-reply_command (put_get req sub s t u p) = 0x0C
-reply_command (monitor_begun req sub s t) = 0x0D
-reply_command (monitor_update req sub u) = 0x0D
-reply_command (monitor_end req sub s) = 0x0D
-reply_command (get_field req s t) = 0x11
-reply_command (message req kind t) = 0x12
-reply_command (rpc req sub s v) = 0x14
+reply_command (validation buffer registry methods) = byte_of command.Validation
+reply_command (echo xs) = byte_of command.Echo
+reply_command (created cid sid s) = byte_of command.CreateChannel
+reply_command (channel_destroyed sid cid) = byte_of command.DestroyChannel
+reply_command (validated s) = byte_of command.Validated
+reply_command (get req sub s t p) = byte_of command.Get
+reply_command (put req sub s t p) = byte_of command.Put
+reply_command (put_get req sub s t u p) = byte_of command.PutGet
+reply_command (monitor_begun req sub s t) = byte_of command.Monitor
+reply_command (monitor_update req sub u) = byte_of command.Monitor
+reply_command (monitor_end req sub s) = byte_of command.Monitor
+reply_command (get_field req s t) = byte_of command.GetField
+reply_command (message req kind t) = byte_of command.Message
+reply_command (rpc req sub s v) = byte_of command.Rpc
 reply_command (skipped c) = c
+
+-- the reply to a get, a put or a put-get
+abbrev pub GetsOrPuts : Reply → Type 0
+GetsOrPuts (get req sub s t p) = Unit {0}
+GetsOrPuts (put req sub s t p) = Unit {0}
+GetsOrPuts (put_get req sub s t u p) = Unit {0}
+GetsOrPuts m = ⊥
+
+-- the reply OK that begins a get, a put or a monitor, with this type
+abbrev pub begun_reply : Command → ℕ → ℕ → Tree → Reply
+begun_reply command.Get req sub t = get req sub good (Some t) None
+begun_reply command.Put req sub t = put req sub good (Some t) None
+begun_reply command.Monitor req sub t = monitor_begun req sub good (Some t)
+begun_reply c req sub t = skipped 0
+
+-- the reply OK to a get, with this part; an update of a monitor
+abbrev pub value_reply : ℕ → ℕ → PartData → Reply
+value_reply req sub p = get req sub good None (Some p)
+
+abbrev pub update_reply : ℕ → PartData → FinSet nat_cmp → Reply
+update_reply req p overrun = monitor_update req 0 (Some (p, overrun))
 
 -- The message says what its row has, and no more.
 abbrev pub CanReply : Reply → Type 0

@@ -7,6 +7,7 @@ use Rattle.pva_messages.specs.declared.command.Command.TheVariants as command
 use Rattle.pva_messages.specs.Subcommands.{begins, asks_back, counts, has_part, OnlyWhere, ExactlyWhere}
 use Rattle.pva_messages.specs.Fields.{Field, Valued, PartData, byte, short, word, text, channels, valued, last_valued}
 use Rattle.pva_messages.specs.Fields.{part, rest}
+use Rattle.pva_messages.specs.Rows.{byte_of}
 
 -- The part of a put: there is none; it was left unread and begins at this place of the payload; or this.
 pub data PutPart : Type 0 where
@@ -115,22 +116,29 @@ request_fields (message req kind t) = word req ∷ byte kind ∷ text t ∷ []
 request_fields (rpc sid req sub v) = word sid ∷ word req ∷ byte sub ∷ valued v ∷ []
 request_fields (skipped c) = []
 
--- its command
+-- the byte of its command
 abbrev pub request_command : Request → ℕ
-request_command (validation buffer registry qos method v) = 0x01
-request_command (echo xs) = 0x02
-request_command (create cs) = 0x07
-request_command (destroy_channel sid cid) = 0x08
-request_command (get sid req sub v) = 0x0A
-request_command (put sid req sub v p) = 0x0B
-request_command (put_get sid req sub v p) = 0x0C
-request_command (monitor sid req sub v n) = 0x0D
-request_command (destroy_request sid req) = 0x0F
-request_command (cancel sid req) = 0x15
-request_command (get_field sid req path) = 0x11
-request_command (message req kind t) = 0x12
-request_command (rpc sid req sub v) = 0x14
+request_command (validation buffer registry qos method v) = byte_of command.Validation
+request_command (echo xs) = byte_of command.Echo
+request_command (create cs) = byte_of command.CreateChannel
+request_command (destroy_channel sid cid) = byte_of command.DestroyChannel
+request_command (get sid req sub v) = byte_of command.Get
+request_command (put sid req sub v p) = byte_of command.Put
+request_command (put_get sid req sub v p) = byte_of command.PutGet
+request_command (monitor sid req sub v n) = byte_of command.Monitor
+request_command (destroy_request sid req) = byte_of command.DestroyRequest
+request_command (cancel sid req) = byte_of command.Cancel
+request_command (get_field sid req path) = byte_of command.GetField
+request_command (message req kind t) = byte_of command.Message
+request_command (rpc sid req sub v) = byte_of command.Rpc
 request_command (skipped c) = c
+
+-- a get, a put or a put-get
+abbrev pub GetsOrPuts : Request → Type 0
+GetsOrPuts (get sid req sub v) = Unit {0}
+GetsOrPuts (put sid req sub v p) = Unit {0}
+GetsOrPuts (put_get sid req sub v p) = Unit {0}
+GetsOrPuts m = ⊥
 
 -- a part of a put is given exactly where the message has one
 abbrev pub PartWhere : Bool → PutPart → Type 0

@@ -57,23 +57,40 @@ put_next known sub = if begins sub then valued ∷ [] else if asks_back sub then
 abbrev pub count_next : ℕ → List Item
 count_next sub = if counts sub then word ∷ [] else []
 
+-- the byte of a command
+abbrev pub byte_of : Command → ℕ
+byte_of Validation = 0x01
+byte_of Echo = 0x02
+byte_of CreateChannel = 0x07
+byte_of DestroyChannel = 0x08
+byte_of Validated = 0x09
+byte_of Get = 0x0A
+byte_of Put = 0x0B
+byte_of PutGet = 0x0C
+byte_of Monitor = 0x0D
+byte_of DestroyRequest = 0x0F
+byte_of GetField = 0x11
+byte_of Message = 0x12
+byte_of Rpc = 0x14
+byte_of Cancel = 0x15
+
 -- the command of a byte
 unfoldable pub command_of : ℕ → Option Command
 command_of b =
-    if b == 0x01 then Some Validation
-    else if b == 0x02 then Some Echo
-    else if b == 0x07 then Some CreateChannel
-    else if b == 0x08 then Some DestroyChannel
-    else if b == 0x09 then Some Validated
-    else if b == 0x0A then Some Get
-    else if b == 0x0B then Some Put
-    else if b == 0x0C then Some PutGet
-    else if b == 0x0D then Some Monitor
-    else if b == 0x0F then Some DestroyRequest
-    else if b == 0x11 then Some GetField
-    else if b == 0x12 then Some Message
-    else if b == 0x14 then Some Rpc
-    else if b == 0x15 then Some Cancel
+    if b == byte_of Validation then Some Validation
+    else if b == byte_of Echo then Some Echo
+    else if b == byte_of CreateChannel then Some CreateChannel
+    else if b == byte_of DestroyChannel then Some DestroyChannel
+    else if b == byte_of Validated then Some Validated
+    else if b == byte_of Get then Some Get
+    else if b == byte_of Put then Some Put
+    else if b == byte_of PutGet then Some PutGet
+    else if b == byte_of Monitor then Some Monitor
+    else if b == byte_of DestroyRequest then Some DestroyRequest
+    else if b == byte_of GetField then Some GetField
+    else if b == byte_of Message then Some Message
+    else if b == byte_of Rpc then Some Rpc
+    else if b == byte_of Cancel then Some Cancel
     else None
 
 -- the rows of what a client says

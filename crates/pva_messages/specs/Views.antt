@@ -22,8 +22,11 @@ abbrev pub valued_view : Option (Tree × PvValue) → Valued
 valued_view None = None
 valued_view (Some v) = Some (v.0, view v.1)
 
+abbrev pub part_of : Tree → FinSet nat_cmp → PvValue → PartData
+part_of ty mask value = record { ty = ty; mask = mask; value = view value }
+
 abbrev pub part_data : Part → PartData
-part_data p = record { ty = p.ty; mask = p.mask; value = view p.value }
+part_data p = part_of p.ty p.mask p.value
 
 abbrev pub part_view : Option Part → Option PartData
 part_view None = None

@@ -23,16 +23,17 @@ fn name_at(alloc: Global, order: Order, bytes: &[u8]) -> Result<(Name, &[u8]), V
     Ok((text, rest))
 }
 
-/// So many texts.
+/// So many texts. `room` of them are made room for at once.
 fn times_text(
     alloc: Global,
     order: Order,
     count: u32,
+    room: usize,
     bytes: &[u8],
 ) -> Result<(Vec<Name>, &[u8]), ValueStop>
     ensures { Gives (λ x. (x.0.items, x.1.now)) result (items_at (λ b. lifted (text_at order b)) count bytes.now) }
 {
-    let mut texts = Vec::new(alloc);
+    let mut texts = Vec::with_capacity(alloc, room)?;
     let mut rest = bytes;
     for _ in 0..count {
         let (text, after) = name_at(alloc, order, rest)?;
@@ -42,17 +43,29 @@ fn times_text(
     Ok((texts, rest))
 }
 
-/// A size that counts, and so many texts.
+/// How many bytes of memory a read may take for each byte of the texts.
+const TIMES: u64 = 16;
+
+/// How many bytes of memory a text counts for.
+const TEXT: u64 = 56;
+
+/// A size that counts, and so many texts. An empty text is one byte, so the memory that all may take is bounded, as that
+/// of a value is: above it the answer is NoMemory. A count that lies counts for no more texts than bytes are left.
 #[tactic(auto, unfolding(crate::specs::Reading::texts_at))]
-pub(crate) fn texts_at(
+pub(crate) fn texts_at<'a>(
     alloc: Global,
     order: Order,
-    bytes: &[u8],
-) -> Result<(Vec<Name>, &[u8]), ValueStop>
-    ensures { Gives (λ x. (x.0.items, x.1.now)) result (texts_at order bytes.now) }
+    changed: &mut Definitions,
+    bytes: &'a [u8],
+) -> Result<(Vec<Name>, &'a [u8]), ValueStop>
+    ensures texts { Gives (λ x. (x.0.items, x.1.now)) result (texts_at order bytes.now) }
+    ensures same { changed.new ≡ changed.old }
 {
     let (count, rest) = count_at(order, bytes)?;
-    let (texts, rest) = times_text(alloc, order, count, rest)?;
+    let most = rest.len().min(count as usize);
+    changed.allow((rest.len() as u64).saturating_mul(TIMES));
+    changed.spend((most as u64).saturating_mul(TEXT))?;
+    let (texts, rest) = times_text(alloc, order, count, most, rest)?;
     Ok((texts, rest))
 }
 

@@ -29,7 +29,7 @@ pub use reading::{
     read_put_part, read_reply, read_request, read_request_part, read_to_client, read_to_server,
     request_in, request_of,
 };
-pub use replies_writing::write_to_client;
+pub use replies_writing::{write_begun, write_get_value, write_monitor_update, write_to_client};
 pub use requests_writing::write_to_server;
 pub use subcommand::begins;
 pub use to_client::ToClient;

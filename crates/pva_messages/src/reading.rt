@@ -8,10 +8,12 @@ ghost use Rattle.pvd_value.specs.Fits.{fits_of};
 ghost use Rattle.pvd_desc.specs.Types.{Types, laid};
 ghost use Rattle.pvd_codec.specs.declared.fault.ValueFault.TheVariants.{NoMemory};
 ghost use Rattle.pvd_codec.specs.Grammar.{Part};
+ghost use Rattle.pvd_codec.specs.Written.{CanEach};
 ghost use Rattle.pvd_codec.specs.Faults.{part_view};
 ghost use Rattle.pvd_codec.specs.Reading.{part_at};
-ghost use Rattle.pva_messages.specs.Requests.{Request};
-ghost use Rattle.pva_messages.specs.Replies.{Reply};
+ghost use Rattle.pva_messages.specs.Requests.{Request, request_fields};
+ghost use Rattle.pva_messages.specs.Replies.{Reply, reply_fields};
+ghost use Rattle.pva_messages.specs.Written.{FitsField};
 ghost use Rattle.pva_messages.specs.Payloads.{IsRequest, IsReply};
 ghost use Rattle.pva_messages.specs.Reading.{request_at, reply_at, names_request, id_of, request_id};
 ghost use Rattle.pva_wire.specs.Reading.{number_at};
@@ -50,6 +52,7 @@ pub fn read_to_server(
     ensures found { (front follow : List ℕ) (m : Request) (after : Types) → IsRequest message.now.order None message.now.command registry.old front follow m after → message.now.payload ≡ front ++ follow → AnswersMessage request_view result m }
     ensures spelled { IfOk result (λ m. (front : List ℕ) × (follow : List ℕ) × IsRequest message.now.order None message.now.command registry.old front follow (request_view m) registry.new × (message.now.payload ≡ front ++ follow)) }
     ensures part { IfOk result (λ m. PartWithin (request_view m) (length message.now.payload)) }
+    ensures fits { IfOk result (λ m. CanEach FitsField (request_fields (request_view m))) }
 {
     read_request(
         alloc,
@@ -92,6 +95,7 @@ pub fn read_request(
     ensures found { (front follow : List ℕ) (m : Request) (after : Types) → IsRequest order None command registry.old front follow m after → payload.now ≡ front ++ follow → AnswersMessage request_view result m }
     ensures spelled { IfOk result (λ m. (front : List ℕ) × (follow : List ℕ) × IsRequest order None command registry.old front follow (request_view m) registry.new × (payload.now ≡ front ++ follow)) }
     ensures part { IfOk result (λ m. PartWithin (request_view m) (length payload.now)) }
+    ensures fits { IfOk result (λ m. CanEach FitsField (request_fields (request_view m))) }
 {
     let mut defined = Definitions::new(alloc);
     match request_at(alloc, order, registry, &mut defined, command, payload) {
@@ -189,6 +193,7 @@ pub fn read_to_client(
     ensures exact { GivesMessage message.now.command (length message.now.payload) registry.old registry.new reply_view result (reply_at message.now.order (option_copied known.entry) message.now.command (message.now.payload, registry.old)) }
     ensures found { (front follow : List ℕ) (m : Reply) (after : Types) → IsReply message.now.order (option_copied known.entry) message.now.command registry.old front follow m after → message.now.payload ≡ front ++ follow → AnswersMessage reply_view result m }
     ensures spelled { IfOk result (λ m. (front : List ℕ) × (follow : List ℕ) × IsReply message.now.order (option_copied known.entry) message.now.command registry.old front follow (reply_view m) registry.new × (message.now.payload ≡ front ++ follow)) }
+    ensures fits { IfOk result (λ m. CanEach FitsField (reply_fields (reply_view m))) }
 {
     read_reply(
         alloc,
@@ -213,6 +218,7 @@ pub fn read_reply(
     ensures exact { GivesMessage command (length payload.now) registry.old registry.new reply_view result (reply_at order (option_copied known.entry) command (payload.now, registry.old)) }
     ensures found { (front follow : List ℕ) (m : Reply) (after : Types) → IsReply order (option_copied known.entry) command registry.old front follow m after → payload.now ≡ front ++ follow → AnswersMessage reply_view result m }
     ensures spelled { IfOk result (λ m. (front : List ℕ) × (follow : List ℕ) × IsReply order (option_copied known.entry) command registry.old front follow (reply_view m) registry.new × (payload.now ≡ front ++ follow)) }
+    ensures fits { IfOk result (λ m. CanEach FitsField (reply_fields (reply_view m))) }
 {
     let mut defined = Definitions::new(alloc);
     match reply_at(

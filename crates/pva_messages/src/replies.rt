@@ -45,7 +45,7 @@ pub(crate) fn reply_at<'a>(
         return Ok((ToClient::Skipped(byte), bytes));
     };
     match command {
-        Command::Validation => validation_at(alloc, order, bytes),
+        Command::Validation => validation_at(alloc, order, base, changed, bytes),
         Command::Echo => echo_at(alloc, bytes),
         Command::CreateChannel => created_at(alloc, order, bytes),
         Command::DestroyChannel => channel_destroyed_at(order, bytes),
@@ -62,12 +62,18 @@ pub(crate) fn reply_at<'a>(
 }
 
 #[tactic(auto, unfolding(crate::specs::Reading::stages_at, crate::specs::Reading::all_at, crate::specs::Reading::item_at))]
-fn validation_at(alloc: Global, order: Order, bytes: &[u8]) -> Result<(ToClient, &[u8]), ValueStop>
-    ensures { (types : Types) → Gives (λ x. (reply_view x.0, (x.1.now, types))) result (reply_row_at order None command.Validation (bytes.now, types)) }
+fn validation_at<'a>(
+    alloc: Global,
+    order: Order,
+    base: &Registry,
+    changed: &mut Definitions,
+    bytes: &'a [u8],
+) -> Result<(ToClient, &'a [u8]), ValueStop>
+    ensures { Gives (λ x. (reply_view x.0, (x.1.now, laid base.now changed.new))) result (reply_row_at order None command.Validation (bytes.now, laid base.now changed.old)) }
 {
     let (buffer, rest) = u32_at(order, bytes)?;
     let (registry, rest) = u16_at(order, rest)?;
-    let (methods, rest) = texts_at(alloc, order, rest)?;
+    let (methods, rest) = texts_at(alloc, order, changed, rest)?;
     let message = ToClient::Validation {
         buffer,
         registry,

@@ -1,25 +1,33 @@
-ghost use Rattle.std.specs.Prelude.{true, ◌≡◌, ◌<◌, ◌++◌, ◌∷◌, [], ◌&&◌, not, OnOk, OnErr};
-ghost use Rattle.pvd_codec.specs.Written.{CanEach};
+ghost use Rattle.std.specs.Prelude.{true, false, Some, ◌≡◌, ◌<◌, ◌++◌, ◌∷◌, [], ◌&&◌, not, OnOk, OnErr};
+ghost use Rattle.pvd_codec.specs.Written.{Begins, CanEach};
 ghost use Rattle.pva_frames.specs.Spelling.{message_bytes};
+ghost use Rattle.pva_wire.specs.Status.{good};
+ghost use Rattle.pva_messages.specs.declared.command.Command.TheVariants.{Get, Monitor};
+ghost use Rattle.pva_messages.specs.Rows.{byte_of};
 ghost use Rattle.pva_messages.specs.Fields as field;
 ghost use Rattle.pva_messages.specs.Subcommands.{begins, carries};
 ghost use Rattle.pva_messages.specs.Replies as replies;
-ghost use Rattle.pva_messages.specs.Replies.{CanReply, type_field, valued_field, part_field, reply_fields, reply_command};
+ghost use Rattle.pva_messages.specs.Replies.{CanReply, GetsOrPuts, begun_reply, value_reply, update_reply, type_field, valued_field, part_field, reply_fields, reply_command};
 ghost use Rattle.pva_messages.specs.Written.{canonical, CanField, FitsField};
 ghost use Rattle.pva_messages.specs.Laws.{IsReplyWritable, reply_payload};
-ghost use Rattle.pva_messages.specs.Views.{valued_view, part_view, update_view, reply_view};
+ghost use Rattle.pva_messages.specs.Views.{valued_view, part_of, part_view, update_view, reply_view};
 
+use crate::command::Command;
 use crate::part::Part;
 use crate::subcommand::{begins, carries};
 use crate::to_client::ToClient;
 use crate::writing::{
-    put_any_part, put_ids, put_reply_head, put_text_message, put_texts, put_type, put_update,
-    put_valued,
+    put_any_part, put_ids, put_part, put_reply_head, put_rest, put_text_message, put_texts,
+    put_type, put_update, put_valued,
 };
-use pva_frames::write_message;
-use pva_wire::{Order, Status, write_status, write_u16, write_u32};
+use pva_frames::{begin_message, end_message};
+use pva_wire::{Order, Status, write_bits, write_status, write_u16, write_u32};
+use pvd_desc::write_desc;
 use pvd_type::{BitSet, Name, NoMemory, PvType};
 use pvd_value::PvValue;
+
+/// The status OK without texts.
+const GOOD: u8 = 0xFF;
 
 /// Appends the one spelling of a message of a server, as one frame or as segments of `segment` bytes
 /// (pvAccess Protocol Specification, "Application Messages").
@@ -41,39 +49,133 @@ pub fn write_to_client(
     ensures spelled { OnOk result (IsReplyWritable (reply_view message.now)) }
     ensures err { OnErr result (out.new.items ≡ out.old.items) }
 {
-    let mut payload = Vec::new(*out.allocator());
-    put_reply(&mut payload, order, message)?;
-    write_message(out, order, true, command_of(message), &payload, segment)
-}
-
-/// The command of a message.
-fn command_of(message: &ToClient) -> u8
-    ensures { result ≡ reply_command (reply_view message.now) }
-{
-    match message {
-        ToClient::Validation { .. } => 0x01,
-        ToClient::Echo { .. } => 0x02,
-        ToClient::Created { .. } => 0x07,
-        ToClient::ChannelDestroyed { .. } => 0x08,
-        ToClient::Validated { .. } => 0x09,
-        ToClient::Get { .. } => 0x0A,
-        ToClient::Put { .. } => 0x0B,
-        ToClient::PutGet { .. } => 0x0C,
-        ToClient::MonitorBegun { .. } => 0x0D,
-        ToClient::MonitorUpdate { .. } => 0x0D,
-        ToClient::MonitorEnd { .. } => 0x0D,
-        ToClient::GetField { .. } => 0x11,
-        ToClient::Message { .. } => 0x12,
-        ToClient::Rpc { .. } => 0x14,
-        ToClient::Skipped(command) => *command,
+    let start = out.len();
+    begin_message(out)?;
+    match put_reply(out, order, message) {
+        Ok(()) => end_message(out, start, order, true, byte_of(message), segment),
+        Err(failed) => {
+            out.truncate(start);
+            Err(failed)
+        }
     }
 }
 
-/// Appends the items of a message, or a part of them.
+/// `write_to_client` for the reply OK that begins a get (0A), a put (0B) or a monitor (0D) with a type that stands
+/// elsewhere, and isn't copied into a message first. `command` is one of these three, and `sub` has bit 08.
+pub fn write_begun(
+    out: &mut Vec<u8>,
+    order: Order,
+    segment: u32,
+    command: Command,
+    req: u32,
+    sub: u8,
+    ty: &PvType,
+) -> Result<(), NoMemory>
+    requires segment { 0 < segment }
+    requires message { CanReply (begun_reply command req sub ty.now) }
+    ensures ok { OnOk result (out.new.items ≡ out.old.items ++ message_bytes order true (byte_of command) (reply_payload order (begun_reply command req sub ty.now)) segment) }
+    ensures spelled { OnOk result (IsReplyWritable (begun_reply command req sub ty.now)) }
+    ensures err { OnErr result (out.new.items ≡ out.old.items) }
+{
+    let start = out.len();
+    begin_message(out)?;
+    match put_begun_type(out, order, req, sub, ty) {
+        Ok(()) => end_message(out, start, order, true, command.byte(), segment),
+        Err(failed) => {
+            out.truncate(start);
+            Err(failed)
+        }
+    }
+}
+
+/// `write_to_client` for the reply to a get (0A) that is OK and brings a part of a value, from what stands elsewhere:
+/// nothing is copied into a message first. `sub` is without bit 08.
+pub fn write_get_value(
+    out: &mut Vec<u8>,
+    order: Order,
+    segment: u32,
+    req: u32,
+    sub: u8,
+    ty: &PvType,
+    mask: &BitSet,
+    value: &PvValue,
+) -> Result<(), NoMemory>
+    requires segment { 0 < segment }
+    requires message { begins sub ≡ false }
+    requires fits { FitsField (field.part (part_of ty.now mask.now value.now)) }
+    ensures ok { OnOk result (out.new.items ≡ out.old.items ++ message_bytes order true (byte_of Get) (reply_payload order (value_reply req sub (part_of ty.now mask.now value.now))) segment) }
+    ensures spelled { OnOk result (IsReplyWritable (value_reply req sub (part_of ty.now mask.now value.now))) }
+    ensures err { OnErr result (out.new.items ≡ out.old.items) }
+{
+    let start = out.len();
+    begin_message(out)?;
+    match put_get_value(out, order, req, sub, ty, mask, value) {
+        Ok(()) => end_message(out, start, order, true, Command::Get.byte(), segment),
+        Err(failed) => {
+            out.truncate(start);
+            Err(failed)
+        }
+    }
+}
+
+/// `write_to_client` for an update of a monitor (0D), from what stands elsewhere: nothing is copied into a message
+/// first. `mask` is what changed, `overrun` what did so more than once.
+pub fn write_monitor_update(
+    out: &mut Vec<u8>,
+    order: Order,
+    segment: u32,
+    req: u32,
+    ty: &PvType,
+    mask: &BitSet,
+    value: &PvValue,
+    overrun: &BitSet,
+) -> Result<(), NoMemory>
+    requires segment { 0 < segment }
+    requires fits { FitsField (field.part (part_of ty.now mask.now value.now)) }
+    ensures ok { OnOk result (out.new.items ≡ out.old.items ++ message_bytes order true (byte_of Monitor) (reply_payload order (update_reply req (part_of ty.now mask.now value.now) overrun.now)) segment) }
+    ensures spelled { OnOk result (IsReplyWritable (update_reply req (part_of ty.now mask.now value.now) overrun.now)) }
+    ensures err { OnErr result (out.new.items ≡ out.old.items) }
+{
+    let start = out.len();
+    begin_message(out)?;
+    match put_changes(out, order, req, ty, mask, value, overrun) {
+        Ok(()) => end_message(out, start, order, true, Command::Monitor.byte(), segment),
+        Err(failed) => {
+            out.truncate(start);
+            Err(failed)
+        }
+    }
+}
+
+/// The byte of a message's command.
+fn byte_of(message: &ToClient) -> u8
+    ensures { result ≡ reply_command (reply_view message.now) }
+{
+    match message {
+        ToClient::Validation { .. } => Command::Validation.byte(),
+        ToClient::Echo { .. } => Command::Echo.byte(),
+        ToClient::Created { .. } => Command::CreateChannel.byte(),
+        ToClient::ChannelDestroyed { .. } => Command::DestroyChannel.byte(),
+        ToClient::Validated { .. } => Command::Validated.byte(),
+        ToClient::Get { .. } => Command::Get.byte(),
+        ToClient::Put { .. } => Command::Put.byte(),
+        ToClient::PutGet { .. } => Command::PutGet.byte(),
+        ToClient::MonitorBegun { .. } => Command::Monitor.byte(),
+        ToClient::MonitorUpdate { .. } => Command::Monitor.byte(),
+        ToClient::MonitorEnd { .. } => Command::Monitor.byte(),
+        ToClient::GetField { .. } => Command::GetField.byte(),
+        ToClient::Message { .. } => Command::Message.byte(),
+        ToClient::Rpc { .. } => Command::Rpc.byte(),
+        ToClient::Skipped(byte) => *byte,
+    }
+}
+
+/// Appends the items of a message.
 fn put_reply(out: &mut Vec<u8>, order: Order, message: &ToClient) -> Result<(), NoMemory>
     requires { CanEach FitsField (reply_fields (reply_view message.now)) }
     ensures written { OnOk result (out.new.items ≡ out.old.items ++ canonical order (reply_fields (reply_view message.now))) }
     ensures can { OnOk result (CanEach CanField (reply_fields (reply_view message.now))) }
+    ensures begins { OnErr result (Begins out.old.items out.new.items) }
 {
     match message {
         ToClient::Validation {
@@ -81,35 +183,13 @@ fn put_reply(out: &mut Vec<u8>, order: Order, message: &ToClient) -> Result<(), 
             registry,
             methods,
         } => put_validation(out, order, *buffer, *registry, methods),
-        ToClient::Echo { bytes } => {
-            out.extend_from_slice(bytes)?;
-            Ok(())
-        }
+        ToClient::Echo { bytes } => put_rest(out, order, bytes),
         ToClient::Created { cid, sid, status } => put_created(out, order, *cid, *sid, status),
         ToClient::ChannelDestroyed { sid, cid } => put_ids(out, order, *sid, *cid),
         ToClient::Validated { status } => write_status(out, order, status),
-        ToClient::Get {
-            req,
-            sub,
-            status,
-            ty,
-            part,
-        } => put_got(out, order, *req, *sub, status, ty, part),
-        ToClient::Put {
-            req,
-            sub,
-            status,
-            ty,
-            part,
-        } => put_got(out, order, *req, *sub, status, ty, part),
-        ToClient::PutGet {
-            req,
-            sub,
-            status,
-            put_ty,
-            get_ty,
-            part,
-        } => put_put_got(out, order, *req, *sub, status, put_ty, get_ty, part),
+        ToClient::Get { .. } => put_accessed(out, order, message),
+        ToClient::Put { .. } => put_accessed(out, order, message),
+        ToClient::PutGet { .. } => put_accessed(out, order, message),
         ToClient::MonitorBegun {
             req,
             sub,
@@ -132,6 +212,123 @@ fn put_reply(out: &mut Vec<u8>, order: Order, message: &ToClient) -> Result<(), 
     }
 }
 
+/// Appends the items of the reply to a get, a put or a put-get.
+fn put_accessed(out: &mut Vec<u8>, order: Order, message: &ToClient) -> Result<(), NoMemory>
+    requires row { GetsOrPuts (reply_view message.now) }
+    requires fits { CanEach FitsField (reply_fields (reply_view message.now)) }
+    ensures written { OnOk result (out.new.items ≡ out.old.items ++ canonical order (reply_fields (reply_view message.now))) }
+    ensures can { OnOk result (CanEach CanField (reply_fields (reply_view message.now))) }
+    ensures begins { OnErr result (Begins out.old.items out.new.items) }
+{
+    match message {
+        ToClient::Get {
+            req,
+            sub,
+            status,
+            ty,
+            part,
+        } => put_got(out, order, *req, *sub, status, ty, part),
+        ToClient::Put {
+            req,
+            sub,
+            status,
+            ty,
+            part,
+        } => put_got(out, order, *req, *sub, status, ty, part),
+        ToClient::PutGet {
+            req,
+            sub,
+            status,
+            put_ty,
+            get_ty,
+            part,
+        } => put_put_got(out, order, *req, *sub, status, put_ty, get_ty, part),
+        ToClient::Validation { .. }
+        | ToClient::Echo { .. }
+        | ToClient::Created { .. }
+        | ToClient::ChannelDestroyed { .. }
+        | ToClient::Validated { .. }
+        | ToClient::MonitorBegun { .. }
+        | ToClient::MonitorUpdate { .. }
+        | ToClient::MonitorEnd { .. }
+        | ToClient::GetField { .. }
+        | ToClient::Message { .. }
+        | ToClient::Rpc { .. }
+        | ToClient::Skipped(_) => Ok(()),
+    }
+}
+
+/// Appends the id of a request, the subcommand and the status OK.
+fn put_good_head(out: &mut Vec<u8>, order: Order, req: u32, sub: u8) -> Result<(), NoMemory>
+    ensures written { OnOk result (out.new.items ≡ out.old.items ++ canonical order (field.word req ∷ field.byte sub ∷ field.status good ∷ [])) }
+    ensures can { OnOk result (CanEach CanField (field.word req ∷ field.byte sub ∷ field.status good ∷ [])) }
+    ensures begins { OnErr result (Begins out.old.items out.new.items) }
+{
+    write_u32(out, order, req)?;
+    out.push(sub)?;
+    out.push(GOOD)?;
+    Ok(())
+}
+
+/// Appends the reply OK that begins a request with a type.
+fn put_begun_type(
+    out: &mut Vec<u8>,
+    order: Order,
+    req: u32,
+    sub: u8,
+    ty: &PvType,
+) -> Result<(), NoMemory>
+    ensures written { OnOk result (out.new.items ≡ out.old.items ++ canonical order (field.word req ∷ field.byte sub ∷ field.status good ∷ field.description (Some ty.now) ∷ [])) }
+    ensures can { OnOk result (CanEach CanField (field.word req ∷ field.byte sub ∷ field.status good ∷ field.description (Some ty.now) ∷ [])) }
+    ensures begins { OnErr result (Begins out.old.items out.new.items) }
+{
+    put_good_head(out, order, req, sub)?;
+    write_desc(out, order, Some(ty))?;
+    Ok(())
+}
+
+/// Appends the reply to a get that is OK and brings a part of a value.
+fn put_get_value(
+    out: &mut Vec<u8>,
+    order: Order,
+    req: u32,
+    sub: u8,
+    ty: &PvType,
+    mask: &BitSet,
+    value: &PvValue,
+) -> Result<(), NoMemory>
+    requires { FitsField (field.part (part_of ty.now mask.now value.now)) }
+    ensures written { OnOk result (out.new.items ≡ out.old.items ++ canonical order (field.word req ∷ field.byte sub ∷ field.status good ∷ field.part (part_of ty.now mask.now value.now) ∷ [])) }
+    ensures can { OnOk result (CanEach CanField (field.word req ∷ field.byte sub ∷ field.status good ∷ field.part (part_of ty.now mask.now value.now) ∷ [])) }
+    ensures begins { OnErr result (Begins out.old.items out.new.items) }
+{
+    put_good_head(out, order, req, sub)?;
+    put_part(out, order, ty, mask, value)?;
+    Ok(())
+}
+
+/// Appends an update of a monitor.
+fn put_changes(
+    out: &mut Vec<u8>,
+    order: Order,
+    req: u32,
+    ty: &PvType,
+    mask: &BitSet,
+    value: &PvValue,
+    overrun: &BitSet,
+) -> Result<(), NoMemory>
+    requires { FitsField (field.part (part_of ty.now mask.now value.now)) }
+    ensures written { OnOk result (out.new.items ≡ out.old.items ++ canonical order (reply_fields (update_reply req (part_of ty.now mask.now value.now) overrun.now))) }
+    ensures can { OnOk result (CanEach CanField (reply_fields (update_reply req (part_of ty.now mask.now value.now) overrun.now))) }
+    ensures begins { OnErr result (Begins out.old.items out.new.items) }
+{
+    write_u32(out, order, req)?;
+    out.push(0)?;
+    put_part(out, order, ty, mask, value)?;
+    write_bits(out, order, overrun)?;
+    Ok(())
+}
+
 /// Appends the sizes of the server's buffer and registry, and its methods of authentication.
 fn put_validation(
     out: &mut Vec<u8>,
@@ -142,10 +339,12 @@ fn put_validation(
 ) -> Result<(), NoMemory>
     ensures written { OnOk result (out.new.items ≡ out.old.items ++ canonical order (reply_fields (replies.validation buffer registry methods.now))) }
     ensures can { OnOk result (CanEach CanField (reply_fields (replies.validation buffer registry methods.now))) }
+    ensures begins { OnErr result (Begins out.old.items out.new.items) }
 {
     write_u32(out, order, buffer)?;
     write_u16(out, order, registry)?;
-    put_texts(out, order, methods)
+    put_texts(out, order, methods)?;
+    Ok(())
 }
 
 /// Appends the ids of a channel, the client's first, and how its creation went.
@@ -158,9 +357,11 @@ fn put_created(
 ) -> Result<(), NoMemory>
     ensures written { OnOk result (out.new.items ≡ out.old.items ++ canonical order (reply_fields (replies.created cid sid status.now))) }
     ensures can { OnOk result (CanEach CanField (reply_fields (replies.created cid sid status.now))) }
+    ensures begins { OnErr result (Begins out.old.items out.new.items) }
 {
     put_ids(out, order, cid, sid)?;
-    write_status(out, order, status)
+    write_status(out, order, status)?;
+    Ok(())
 }
 
 /// Appends the reply to a get, or to a put, whose items are the same.
@@ -176,10 +377,12 @@ fn put_got(
     requires { CanEach FitsField (reply_fields (replies.get req sub status.now ty.now (part_view part.now))) }
     ensures written { OnOk result (out.new.items ≡ out.old.items ++ canonical order (reply_fields (replies.get req sub status.now ty.now (part_view part.now)))) }
     ensures can { OnOk result (CanEach CanField (reply_fields (replies.get req sub status.now ty.now (part_view part.now)))) }
+    ensures begins { OnErr result (Begins out.old.items out.new.items) }
 {
     put_reply_head(out, order, req, sub, status)?;
     put_type(out, order, carries(status) && begins(sub), ty)?;
-    put_any_part(out, order, part)
+    put_any_part(out, order, part)?;
+    Ok(())
 }
 
 /// Appends the reply to a put-get.
@@ -196,11 +399,13 @@ fn put_put_got(
     requires { CanEach FitsField (reply_fields (replies.put_get req sub status.now put_ty.now get_ty.now (part_view part.now))) }
     ensures written { OnOk result (out.new.items ≡ out.old.items ++ canonical order (reply_fields (replies.put_get req sub status.now put_ty.now get_ty.now (part_view part.now)))) }
     ensures can { OnOk result (CanEach CanField (reply_fields (replies.put_get req sub status.now put_ty.now get_ty.now (part_view part.now)))) }
+    ensures begins { OnErr result (Begins out.old.items out.new.items) }
 {
     put_reply_head(out, order, req, sub, status)?;
     put_type(out, order, carries(status) && begins(sub), put_ty)?;
     put_type(out, order, carries(status) && begins(sub), get_ty)?;
-    put_any_part(out, order, part)
+    put_any_part(out, order, part)?;
+    Ok(())
 }
 
 /// Appends the reply that begins a monitor.
@@ -214,9 +419,11 @@ fn put_monitor_begun(
 ) -> Result<(), NoMemory>
     ensures written { OnOk result (out.new.items ≡ out.old.items ++ canonical order (reply_fields (replies.monitor_begun req sub status.now ty.now))) }
     ensures can { OnOk result (CanEach CanField (reply_fields (replies.monitor_begun req sub status.now ty.now))) }
+    ensures begins { OnErr result (Begins out.old.items out.new.items) }
 {
     put_reply_head(out, order, req, sub, status)?;
-    put_type(out, order, carries(status), ty)
+    put_type(out, order, carries(status), ty)?;
+    Ok(())
 }
 
 /// Appends an update of a monitor.
@@ -230,10 +437,12 @@ fn put_monitor_update(
     requires { CanEach FitsField (reply_fields (replies.monitor_update req sub (update_view update.now))) }
     ensures written { OnOk result (out.new.items ≡ out.old.items ++ canonical order (reply_fields (replies.monitor_update req sub (update_view update.now)))) }
     ensures can { OnOk result (CanEach CanField (reply_fields (replies.monitor_update req sub (update_view update.now)))) }
+    ensures begins { OnErr result (Begins out.old.items out.new.items) }
 {
     write_u32(out, order, req)?;
     out.push(sub)?;
-    put_update(out, order, update)
+    put_update(out, order, update)?;
+    Ok(())
 }
 
 /// Appends the reply to a question for the type of a field.
@@ -246,10 +455,12 @@ fn put_field_type(
 ) -> Result<(), NoMemory>
     ensures written { OnOk result (out.new.items ≡ out.old.items ++ canonical order (reply_fields (replies.get_field req status.now ty.now))) }
     ensures can { OnOk result (CanEach CanField (reply_fields (replies.get_field req status.now ty.now))) }
+    ensures begins { OnErr result (Begins out.old.items out.new.items) }
 {
     write_u32(out, order, req)?;
     write_status(out, order, status)?;
-    put_type(out, order, carries(status), ty)
+    put_type(out, order, carries(status), ty)?;
+    Ok(())
 }
 
 /// Appends the reply to a call of a service, with its result where it was made.
@@ -264,9 +475,11 @@ fn put_called(
     requires { CanEach FitsField (reply_fields (replies.rpc req sub status.now (valued_view valued.now))) }
     ensures written { OnOk result (out.new.items ≡ out.old.items ++ canonical order (reply_fields (replies.rpc req sub status.now (valued_view valued.now)))) }
     ensures can { OnOk result (CanEach CanField (reply_fields (replies.rpc req sub status.now (valued_view valued.now)))) }
+    ensures begins { OnErr result (Begins out.old.items out.new.items) }
 {
     put_reply_head(out, order, req, sub, status)?;
-    put_result(out, order, carries(status) && !begins(sub), valued)
+    put_result(out, order, carries(status) && !begins(sub), valued)?;
+    Ok(())
 }
 
 /// Appends the result of a call, where the message has one.
@@ -279,9 +492,11 @@ fn put_result(
     requires { CanEach FitsField (valued_field brings (valued_view valued.now)) }
     ensures written { OnOk result (out.new.items ≡ out.old.items ++ canonical order (valued_field brings (valued_view valued.now))) }
     ensures can { OnOk result (CanEach CanField (valued_field brings (valued_view valued.now))) }
+    ensures begins { OnErr result (Begins out.old.items out.new.items) }
 {
     if !brings {
         return Ok(());
     }
-    put_valued(out, order, valued)
+    put_valued(out, order, valued)?;
+    Ok(())
 }

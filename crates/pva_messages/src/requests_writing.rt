@@ -1,20 +1,21 @@
 ghost use Rattle.std.specs.Prelude.{false, ◌≡◌, ◌<◌, ◌++◌, ◌∷◌, [], OnOk, OnErr};
-ghost use Rattle.pvd_codec.specs.Written.{CanEach};
+ghost use Rattle.pvd_codec.specs.Written.{Begins, CanEach};
 ghost use Rattle.pva_frames.specs.Spelling.{message_bytes};
 ghost use Rattle.pva_messages.specs.Fields as field;
 ghost use Rattle.pva_messages.specs.Requests as requests;
-ghost use Rattle.pva_messages.specs.Requests.{CanSend, begun, part_field, count_field, request_fields, request_command};
+ghost use Rattle.pva_messages.specs.Requests.{CanSend, GetsOrPuts, begun, part_field, count_field, request_fields, request_command};
 ghost use Rattle.pva_messages.specs.Written.{canonical, CanField, FitsField};
 ghost use Rattle.pva_messages.specs.Laws.{IsWritable, request_payload};
 ghost use Rattle.pva_messages.specs.Views.{valued_view, put_part_view, request_view};
 
+use crate::command::Command;
 use crate::part::PutPart;
 use crate::subcommand::begins;
 use crate::to_server::ToServer;
 use crate::writing::{
-    put_channels, put_ids, put_part, put_request_head, put_text_message, put_valued,
+    put_channels, put_ids, put_part, put_request_head, put_rest, put_text_message, put_valued,
 };
-use pva_frames::write_message;
+use pva_frames::{begin_message, end_message};
 use pva_wire::{Order, write_text, write_u16, write_u32};
 use pvd_type::{Name, NoMemory, PvType};
 use pvd_value::PvValue;
@@ -40,30 +41,36 @@ pub fn write_to_server(
     ensures spelled { OnOk result (IsWritable (request_view message.now)) }
     ensures err { OnErr result (out.new.items ≡ out.old.items) }
 {
-    let mut payload = Vec::new(*out.allocator());
-    put_request(&mut payload, order, message)?;
-    write_message(out, order, false, command_of(message), &payload, segment)
+    let start = out.len();
+    begin_message(out)?;
+    match put_request(out, order, message) {
+        Ok(()) => end_message(out, start, order, false, byte_of(message), segment),
+        Err(failed) => {
+            out.truncate(start);
+            Err(failed)
+        }
+    }
 }
 
-/// The command of a message.
-fn command_of(message: &ToServer) -> u8
+/// The byte of a message's command.
+fn byte_of(message: &ToServer) -> u8
     ensures { result ≡ request_command (request_view message.now) }
 {
     match message {
-        ToServer::Validation { .. } => 0x01,
-        ToServer::Echo { .. } => 0x02,
-        ToServer::Create { .. } => 0x07,
-        ToServer::DestroyChannel { .. } => 0x08,
-        ToServer::Get { .. } => 0x0A,
-        ToServer::Put { .. } => 0x0B,
-        ToServer::PutGet { .. } => 0x0C,
-        ToServer::Monitor { .. } => 0x0D,
-        ToServer::DestroyRequest { .. } => 0x0F,
-        ToServer::Cancel { .. } => 0x15,
-        ToServer::GetField { .. } => 0x11,
-        ToServer::Message { .. } => 0x12,
-        ToServer::Rpc { .. } => 0x14,
-        ToServer::Skipped(command) => *command,
+        ToServer::Validation { .. } => Command::Validation.byte(),
+        ToServer::Echo { .. } => Command::Echo.byte(),
+        ToServer::Create { .. } => Command::CreateChannel.byte(),
+        ToServer::DestroyChannel { .. } => Command::DestroyChannel.byte(),
+        ToServer::Get { .. } => Command::Get.byte(),
+        ToServer::Put { .. } => Command::Put.byte(),
+        ToServer::PutGet { .. } => Command::PutGet.byte(),
+        ToServer::Monitor { .. } => Command::Monitor.byte(),
+        ToServer::DestroyRequest { .. } => Command::DestroyRequest.byte(),
+        ToServer::Cancel { .. } => Command::Cancel.byte(),
+        ToServer::GetField { .. } => Command::GetField.byte(),
+        ToServer::Message { .. } => Command::Message.byte(),
+        ToServer::Rpc { .. } => Command::Rpc.byte(),
+        ToServer::Skipped(byte) => *byte,
     }
 }
 
@@ -73,6 +80,7 @@ fn put_request(out: &mut Vec<u8>, order: Order, message: &ToServer) -> Result<()
     requires fits { CanEach FitsField (request_fields (request_view message.now)) }
     ensures written { OnOk result (out.new.items ≡ out.old.items ++ canonical order (request_fields (request_view message.now))) }
     ensures can { OnOk result (CanEach CanField (request_fields (request_view message.now))) }
+    ensures begins { OnErr result (Begins out.old.items out.new.items) }
 {
     match message {
         ToServer::Validation {
@@ -82,32 +90,12 @@ fn put_request(out: &mut Vec<u8>, order: Order, message: &ToServer) -> Result<()
             method,
             argument,
         } => put_validation(out, order, (*buffer, *registry, *qos), method, argument),
-        ToServer::Echo { bytes } => {
-            out.extend_from_slice(bytes)?;
-            Ok(())
-        }
+        ToServer::Echo { bytes } => put_rest(out, order, bytes),
         ToServer::Create { channels } => put_channels(out, order, channels),
         ToServer::DestroyChannel { sid, cid } => put_ids(out, order, *sid, *cid),
-        ToServer::Get {
-            sid,
-            req,
-            sub,
-            request,
-        } => put_get(out, order, *sid, *req, *sub, request),
-        ToServer::Put {
-            sid,
-            req,
-            sub,
-            request,
-            part,
-        } => put_put(out, order, *sid, *req, *sub, request, part),
-        ToServer::PutGet {
-            sid,
-            req,
-            sub,
-            request,
-            part,
-        } => put_put(out, order, *sid, *req, *sub, request, part),
+        ToServer::Get { .. } => put_access(out, order, message),
+        ToServer::Put { .. } => put_access(out, order, message),
+        ToServer::PutGet { .. } => put_access(out, order, message),
         ToServer::Monitor {
             sid,
             req,
@@ -129,6 +117,49 @@ fn put_request(out: &mut Vec<u8>, order: Order, message: &ToServer) -> Result<()
     }
 }
 
+/// Appends the items of a get, a put or a put-get.
+fn put_access(out: &mut Vec<u8>, order: Order, message: &ToServer) -> Result<(), NoMemory>
+    requires row { GetsOrPuts (request_view message.now) }
+    requires fits { CanEach FitsField (request_fields (request_view message.now)) }
+    ensures written { OnOk result (out.new.items ≡ out.old.items ++ canonical order (request_fields (request_view message.now))) }
+    ensures can { OnOk result (CanEach CanField (request_fields (request_view message.now))) }
+    ensures begins { OnErr result (Begins out.old.items out.new.items) }
+{
+    match message {
+        ToServer::Get {
+            sid,
+            req,
+            sub,
+            request,
+        } => put_get(out, order, *sid, *req, *sub, request),
+        ToServer::Put {
+            sid,
+            req,
+            sub,
+            request,
+            part,
+        } => put_put(out, order, *sid, *req, *sub, request, part),
+        ToServer::PutGet {
+            sid,
+            req,
+            sub,
+            request,
+            part,
+        } => put_put(out, order, *sid, *req, *sub, request, part),
+        ToServer::Validation { .. }
+        | ToServer::Echo { .. }
+        | ToServer::Create { .. }
+        | ToServer::DestroyChannel { .. }
+        | ToServer::Monitor { .. }
+        | ToServer::DestroyRequest { .. }
+        | ToServer::Cancel { .. }
+        | ToServer::GetField { .. }
+        | ToServer::Message { .. }
+        | ToServer::Rpc { .. }
+        | ToServer::Skipped(_) => Ok(()),
+    }
+}
+
 /// Appends the sizes, the quality of service, the method and its argument.
 fn put_validation(
     out: &mut Vec<u8>,
@@ -140,12 +171,14 @@ fn put_validation(
     requires { FitsField (field.last_valued (valued_view argument.now)) }
     ensures written { OnOk result (out.new.items ≡ out.old.items ++ canonical order (field.word sizes.0 ∷ field.short sizes.1 ∷ field.short sizes.2 ∷ field.text method.now ∷ field.last_valued (valued_view argument.now) ∷ [])) }
     ensures can { OnOk result (CanEach CanField (field.word sizes.0 ∷ field.short sizes.1 ∷ field.short sizes.2 ∷ field.text method.now ∷ field.last_valued (valued_view argument.now) ∷ [])) }
+    ensures begins { OnErr result (Begins out.old.items out.new.items) }
 {
     write_u32(out, order, sizes.0)?;
     write_u16(out, order, sizes.1)?;
     write_u16(out, order, sizes.2)?;
     write_text(out, order, method)?;
-    put_valued(out, order, argument)
+    put_valued(out, order, argument)?;
+    Ok(())
 }
 
 /// Appends the request structure, where the subcommand begins a request.
@@ -158,11 +191,13 @@ fn put_begun(
     requires { CanEach FitsField (begun sub (valued_view request.now)) }
     ensures written { OnOk result (out.new.items ≡ out.old.items ++ canonical order (begun sub (valued_view request.now))) }
     ensures can { OnOk result (CanEach CanField (begun sub (valued_view request.now))) }
+    ensures begins { OnErr result (Begins out.old.items out.new.items) }
 {
     if !begins(sub) {
         return Ok(());
     }
-    put_valued(out, order, request)
+    put_valued(out, order, request)?;
+    Ok(())
 }
 
 /// Appends a get.
@@ -177,9 +212,11 @@ fn put_get(
     requires { CanEach FitsField (request_fields (requests.get sid req sub (valued_view request.now))) }
     ensures written { OnOk result (out.new.items ≡ out.old.items ++ canonical order (request_fields (requests.get sid req sub (valued_view request.now)))) }
     ensures can { OnOk result (CanEach CanField (request_fields (requests.get sid req sub (valued_view request.now)))) }
+    ensures begins { OnErr result (Begins out.old.items out.new.items) }
 {
     put_request_head(out, order, sid, req, sub)?;
-    put_begun(out, order, sub, request)
+    put_begun(out, order, sub, request)?;
+    Ok(())
 }
 
 /// Appends a put, or a put-get, whose items are the same.
@@ -195,10 +232,12 @@ fn put_put(
     requires { CanEach FitsField (request_fields (requests.put sid req sub (valued_view request.now) (put_part_view part.now))) }
     ensures written { OnOk result (out.new.items ≡ out.old.items ++ canonical order (request_fields (requests.put sid req sub (valued_view request.now) (put_part_view part.now)))) }
     ensures can { OnOk result (CanEach CanField (request_fields (requests.put sid req sub (valued_view request.now) (put_part_view part.now)))) }
+    ensures begins { OnErr result (Begins out.old.items out.new.items) }
 {
     put_request_head(out, order, sid, req, sub)?;
     put_begun(out, order, sub, request)?;
-    put_given(out, order, part)
+    put_given(out, order, part)?;
+    Ok(())
 }
 
 /// Appends the part of a put, where it is there.
@@ -206,11 +245,13 @@ fn put_given(out: &mut Vec<u8>, order: Order, part: &PutPart) -> Result<(), NoMe
     requires { CanEach FitsField (part_field (put_part_view part.now)) }
     ensures written { OnOk result (out.new.items ≡ out.old.items ++ canonical order (part_field (put_part_view part.now))) }
     ensures can { OnOk result (CanEach CanField (part_field (put_part_view part.now))) }
+    ensures begins { OnErr result (Begins out.old.items out.new.items) }
 {
     let PutPart::Given(part) = part else {
         return Ok(());
     };
-    put_part(out, order, part)
+    put_part(out, order, &part.ty, &part.mask, &part.value)?;
+    Ok(())
 }
 
 /// Appends a message of a monitor.
@@ -226,10 +267,12 @@ fn put_monitor(
     requires { CanEach FitsField (request_fields (requests.monitor sid req sub (valued_view request.now) count)) }
     ensures written { OnOk result (out.new.items ≡ out.old.items ++ canonical order (request_fields (requests.monitor sid req sub (valued_view request.now) count))) }
     ensures can { OnOk result (CanEach CanField (request_fields (requests.monitor sid req sub (valued_view request.now) count))) }
+    ensures begins { OnErr result (Begins out.old.items out.new.items) }
 {
     put_request_head(out, order, sid, req, sub)?;
     put_begun(out, order, sub, request)?;
-    put_count(out, order, count)
+    put_count(out, order, count)?;
+    Ok(())
 }
 
 /// Appends a call of a service.
@@ -244,9 +287,11 @@ fn put_rpc(
     requires { CanEach FitsField (request_fields (requests.rpc sid req sub (valued_view argument.now))) }
     ensures written { OnOk result (out.new.items ≡ out.old.items ++ canonical order (request_fields (requests.rpc sid req sub (valued_view argument.now)))) }
     ensures can { OnOk result (CanEach CanField (request_fields (requests.rpc sid req sub (valued_view argument.now)))) }
+    ensures begins { OnErr result (Begins out.old.items out.new.items) }
 {
     put_request_head(out, order, sid, req, sub)?;
-    put_valued(out, order, argument)
+    put_valued(out, order, argument)?;
+    Ok(())
 }
 
 /// Appends a question for the type of a field.
@@ -259,15 +304,18 @@ fn put_get_field(
 ) -> Result<(), NoMemory>
     ensures written { OnOk result (out.new.items ≡ out.old.items ++ canonical order (request_fields (requests.get_field sid req path.now))) }
     ensures can { OnOk result (CanEach CanField (request_fields (requests.get_field sid req path.now))) }
+    ensures begins { OnErr result (Begins out.old.items out.new.items) }
 {
     put_ids(out, order, sid, req)?;
-    write_text(out, order, path)
+    write_text(out, order, path)?;
+    Ok(())
 }
 
 /// Appends a count of updates, where there is one.
 fn put_count(out: &mut Vec<u8>, order: Order, count: Option<u32>) -> Result<(), NoMemory>
     ensures written { OnOk result (out.new.items ≡ out.old.items ++ canonical order (count_field count)) }
     ensures can { OnOk result (CanEach CanField (count_field count)) }
+    ensures begins { OnErr result (Begins out.old.items out.new.items) }
 {
     let Some(count) = count else {
         return Ok(());

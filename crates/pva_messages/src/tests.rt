@@ -2,7 +2,7 @@ ghost use Rattle.std.specs.Prelude.{◌≡◌, ◌≤◌, length, IfOk};
 
 use super::*;
 use pva_frames::{Payload, Whole};
-use pva_wire::{Name, Order, Status, StatusKind, WireFault};
+use pva_wire::{Name, Order, Status, StatusKind, WireFault, write_size};
 use pvd_codec::ValueFault;
 use pvd_desc::{DescFault, Registry};
 use pvd_type::{BitSet, NoMemory, PvType, Scalar, Shape, TypeFault};
@@ -570,6 +570,12 @@ fn every_row_to_the_client_is_read_in_both_orders(rt: HostRuntime) -> Result<(),
         ),
         (
             0x14,
+            &[5, 0, 0, 0, 8, 0xFF][..],
+            &[0, 0, 0, 5, 8, 0xFF][..],
+            [5, 8, 0, 0, 0],
+        ),
+        (
+            0x14,
             &[5, 0, 0, 0, 8, 0xFF, 0x22][..],
             &[0, 0, 0, 5, 8, 0xFF, 0x22][..],
             [5, 8, 0, 0, 0],
@@ -776,6 +782,129 @@ fn what_a_reply_brings_is_read_in_both_orders(rt: HostRuntime) -> Result<(), Fai
         let told = brought_told(rt.alloc(), Order::Big, command, big, &int)?;
         assert_eq!(rt; told, expected);
     }
+    Ok(())
+}
+
+/// Whether a type is there and is this one.
+fn is_type(ty: &Option<PvType>, wanted: &PvType) -> bool {
+    match ty {
+        Some(ty) => *ty == *wanted,
+        None => false,
+    }
+}
+
+/// Whether a reply brings this type.
+fn brings_type(message: &ToClient, wanted: &PvType) -> bool {
+    match message {
+        ToClient::Get { ty, .. } => is_type(ty, wanted),
+        ToClient::Put { ty, .. } => is_type(ty, wanted),
+        ToClient::MonitorBegun { ty, .. } => is_type(ty, wanted),
+        ToClient::GetField { ty, .. } => is_type(ty, wanted),
+        ToClient::PutGet { put_ty, get_ty, .. } => {
+            is_type(put_ty, wanted) && is_type(get_ty, wanted)
+        }
+        _ => false,
+    }
+}
+
+/// Whether a message to the client brings this type.
+fn type_told(
+    alloc: Global,
+    order: Order,
+    command: u8,
+    payload: &[u8],
+    wanted: &PvType,
+) -> Result<bool, MessageFault> {
+    let mut registry = Registry::new(alloc);
+    match read_reply(alloc, order, command, payload, &mut registry, None) {
+        Ok(message) => {
+            let told = brings_type(&message, wanted);
+            discard(message);
+            Ok(told)
+        }
+        Err(fault) => Err(fault),
+    }
+}
+
+#[test]
+fn the_type_that_a_reply_brings_is_read_in_both_orders(rt: HostRuntime) -> Result<(), Fail> {
+    let int = PvType::check(rt.alloc(), Shape::Plain(Scalar::I32))?;
+    for (command, little, big, expected) in [
+        (
+            0x0A,
+            &[1, 0, 0, 0, 8, 0xFF, 0x22][..],
+            &[0, 0, 0, 1, 8, 0xFF, 0x22][..],
+            true,
+        ),
+        (
+            0x0B,
+            &[2, 0, 0, 0, 8, 0xFF, 0x22][..],
+            &[0, 0, 0, 2, 8, 0xFF, 0x22][..],
+            true,
+        ),
+        (
+            0x0C,
+            &[3, 0, 0, 0, 8, 0xFF, 0x22, 0x22][..],
+            &[0, 0, 0, 3, 8, 0xFF, 0x22, 0x22][..],
+            true,
+        ),
+        (
+            0x0C,
+            &[3, 0, 0, 0, 8, 0xFF, 0x22, 0x43][..],
+            &[0, 0, 0, 3, 8, 0xFF, 0x22, 0x43][..],
+            false,
+        ),
+        (
+            0x0D,
+            &[4, 0, 0, 0, 8, 0xFF, 0x22][..],
+            &[0, 0, 0, 4, 8, 0xFF, 0x22][..],
+            true,
+        ),
+        (
+            0x11,
+            &[4, 0, 0, 0, 0xFF, 0x22][..],
+            &[0, 0, 0, 4, 0xFF, 0x22][..],
+            true,
+        ),
+        (
+            0x11,
+            &[4, 0, 0, 0, 0xFF, 0x24][..],
+            &[0, 0, 0, 4, 0xFF, 0x24][..],
+            false,
+        ),
+    ] {
+        let told = type_told(rt.alloc(), Order::Little, command, little, &int)?;
+        assert_eq!(rt; told, expected);
+        let told = type_told(rt.alloc(), Order::Big, command, big, &int)?;
+        assert_eq!(rt; told, expected);
+    }
+    Ok(())
+}
+
+/// A server's validation with so many methods that have no letters, in one order.
+fn empty_methods(alloc: Global, count: u32) -> Result<Vec<u8>, NoMemory> {
+    let mut payload = Vec::from_slice(alloc, &[0, 0, 1, 0, 0xFF, 0x7F])?;
+    write_size(&mut payload, Order::Little, count)?;
+    for _ in 0..count {
+        payload.push(0)?;
+    }
+    Ok(payload)
+}
+
+#[test]
+fn methods_take_no_more_memory_than_a_read_may(rt: HostRuntime) -> Result<(), Fail> {
+    let int = PvType::check(rt.alloc(), Shape::Plain(Scalar::I32))?;
+    let payload = empty_methods(rt.alloc(), 100_000)?;
+    let numbers = reply_told(rt.alloc(), Order::Little, 1, &payload, &int)?;
+    assert_eq!(rt; numbers, [65536, 32767, 100_000, 0, 0]);
+    let payload = empty_methods(rt.alloc(), 1_000_000)?;
+    let fault = reply_told(rt.alloc(), Order::Little, 1, &payload, &int).err();
+    let cause = ValueFault::NoMemory;
+    assert_eq!(rt; fault, Some(MessageFault { command: 1, cause }));
+    let lie = &[0, 0, 1, 0, 0xFF, 0x7F, 0xFE, 0xFE, 0xFF, 0xFF, 0x7F, 0];
+    let fault = reply_told(rt.alloc(), Order::Little, 1, lie, &int).err();
+    let cause = ValueFault::Wire(WireFault::Short(12));
+    assert_eq!(rt; fault, Some(MessageFault { command: 1, cause }));
     Ok(())
 }
 

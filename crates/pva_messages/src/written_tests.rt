@@ -504,6 +504,290 @@ fn call_replied(alloc: Global, order: Order) -> Option<Vec<u8>> {
     replied(alloc, order, message)
 }
 
+fn get_begun_replied(alloc: Global, order: Order) -> Option<Vec<u8>> {
+    let ty = int_type(alloc)?;
+    let (message, tree) = no_texts(alloc)?;
+    let kind = StatusKind::Good;
+    let status = Status {
+        kind,
+        message,
+        tree,
+    };
+    let message = ToClient::Get {
+        req: 1,
+        sub: 8,
+        status,
+        ty: Some(ty),
+        part: None,
+    };
+    replied(alloc, order, message)
+}
+
+fn put_value_replied(alloc: Global, order: Order) -> Option<Vec<u8>> {
+    let part = int_part(alloc, 7)?;
+    let (message, tree) = no_texts(alloc)?;
+    let kind = StatusKind::Good;
+    let status = Status {
+        kind,
+        message,
+        tree,
+    };
+    let message = ToClient::Put {
+        req: 2,
+        sub: 0x40,
+        status,
+        ty: None,
+        part: Some(part),
+    };
+    replied(alloc, order, message)
+}
+
+fn put_get_value_replied(alloc: Global, order: Order) -> Option<Vec<u8>> {
+    let part = int_part(alloc, 9)?;
+    let (message, tree) = no_texts(alloc)?;
+    let kind = StatusKind::Good;
+    let status = Status {
+        kind,
+        message,
+        tree,
+    };
+    let message = ToClient::PutGet {
+        req: 3,
+        sub: 0,
+        status,
+        put_ty: None,
+        get_ty: None,
+        part: Some(part),
+    };
+    replied(alloc, order, message)
+}
+
+fn field_replied(alloc: Global, order: Order) -> Option<Vec<u8>> {
+    let ty = int_type(alloc)?;
+    let (message, tree) = no_texts(alloc)?;
+    let kind = StatusKind::Good;
+    let status = Status {
+        kind,
+        message,
+        tree,
+    };
+    let message = ToClient::GetField {
+        req: 4,
+        status,
+        ty: Some(ty),
+    };
+    replied(alloc, order, message)
+}
+
+fn call_begun_replied(alloc: Global, order: Order) -> Option<Vec<u8>> {
+    let (message, tree) = no_texts(alloc)?;
+    let kind = StatusKind::Good;
+    let status = Status {
+        kind,
+        message,
+        tree,
+    };
+    let message = ToClient::Rpc {
+        req: 5,
+        sub: 8,
+        status,
+        result: None,
+    };
+    replied(alloc, order, message)
+}
+
+/// The frame of the reply that begins a put with a lent type.
+fn lent_put_begun_replied(alloc: Global, order: Order) -> Option<Vec<u8>> {
+    let ty = int_type(alloc)?;
+    let mut out = Vec::new(alloc);
+    let done = write_begun(&mut out, order, 65_528, Command::Put, 2, 8, &ty);
+    discard(ty);
+    match done {
+        Ok(()) => Some(out),
+        Err(_) => None,
+    }
+}
+
+/// The frame of the reply that begins a monitor with a lent type.
+fn lent_monitor_begun_replied(alloc: Global, order: Order) -> Option<Vec<u8>> {
+    let ty = int_type(alloc)?;
+    let mut out = Vec::new(alloc);
+    let done = write_begun(&mut out, order, 65_528, Command::Monitor, 4, 0x88, &ty);
+    discard(ty);
+    match done {
+        Ok(()) => Some(out),
+        Err(_) => None,
+    }
+}
+
+/// The frame of the reply to a get that brings a lent part.
+fn lent_value_replied(alloc: Global, order: Order) -> Option<Vec<u8>> {
+    let part = int_part(alloc, 42)?;
+    let mut out = Vec::new(alloc);
+    let done = write_get_value(
+        &mut out,
+        order,
+        65_528,
+        1,
+        0,
+        &part.ty,
+        &part.mask,
+        &part.value,
+    );
+    discard(part);
+    match done {
+        Ok(()) => Some(out),
+        Err(_) => None,
+    }
+}
+
+/// The frame of an update that brings a lent part.
+fn lent_update_replied(alloc: Global, order: Order) -> Option<Vec<u8>> {
+    let part = int_part(alloc, 5)?;
+    let mut out = Vec::new(alloc);
+    let done = write_monitor_update(
+        &mut out,
+        order,
+        65_528,
+        4,
+        &part.ty,
+        &part.mask,
+        &part.value,
+        &part.mask,
+    );
+    discard(part);
+    match done {
+        Ok(()) => Some(out),
+        Err(_) => None,
+    }
+}
+
+#[test]
+fn a_server_writes_types_and_parts_in_both_orders(rt: HostRuntime) -> Result<(), Fail> {
+    let alloc = rt.alloc();
+    assert!(rt;
+        is(
+            get_begun_replied(alloc, Order::Little),
+            &[0xCA, 2, 0x40, 0x0A, 7, 0, 0, 0, 1, 0, 0, 0, 8, 0xFF, 0x22]
+        )
+    );
+    assert!(rt;
+        is(
+            get_begun_replied(alloc, Order::Big),
+            &[0xCA, 2, 0xC0, 0x0A, 0, 0, 0, 7, 0, 0, 0, 1, 8, 0xFF, 0x22]
+        )
+    );
+    assert!(rt;
+        is(
+            put_value_replied(alloc, Order::Little),
+            &[
+                0xCA, 2, 0x40, 0x0B, 12, 0, 0, 0, 2, 0, 0, 0, 0x40, 0xFF, 1, 1, 7, 0, 0, 0
+            ]
+        )
+    );
+    assert!(rt;
+        is(
+            put_value_replied(alloc, Order::Big),
+            &[
+                0xCA, 2, 0xC0, 0x0B, 0, 0, 0, 12, 0, 0, 0, 2, 0x40, 0xFF, 1, 1, 0, 0, 0, 7
+            ]
+        )
+    );
+    assert!(rt;
+        is(
+            put_get_value_replied(alloc, Order::Little),
+            &[
+                0xCA, 2, 0x40, 0x0C, 12, 0, 0, 0, 3, 0, 0, 0, 0, 0xFF, 1, 1, 9, 0, 0, 0
+            ]
+        )
+    );
+    assert!(rt;
+        is(
+            put_get_value_replied(alloc, Order::Big),
+            &[
+                0xCA, 2, 0xC0, 0x0C, 0, 0, 0, 12, 0, 0, 0, 3, 0, 0xFF, 1, 1, 0, 0, 0, 9
+            ]
+        )
+    );
+    assert!(rt;
+        is(
+            field_replied(alloc, Order::Little),
+            &[0xCA, 2, 0x40, 0x11, 6, 0, 0, 0, 4, 0, 0, 0, 0xFF, 0x22]
+        )
+    );
+    assert!(rt;
+        is(
+            field_replied(alloc, Order::Big),
+            &[0xCA, 2, 0xC0, 0x11, 0, 0, 0, 6, 0, 0, 0, 4, 0xFF, 0x22]
+        )
+    );
+    assert!(rt;
+        is(
+            call_begun_replied(alloc, Order::Little),
+            &[0xCA, 2, 0x40, 0x14, 6, 0, 0, 0, 5, 0, 0, 0, 8, 0xFF]
+        )
+    );
+    assert!(rt;
+        is(
+            call_begun_replied(alloc, Order::Big),
+            &[0xCA, 2, 0xC0, 0x14, 0, 0, 0, 6, 0, 0, 0, 5, 8, 0xFF]
+        )
+    );
+    Ok(())
+}
+
+#[test]
+fn what_is_lent_is_written_as_what_is_owned(rt: HostRuntime) -> Result<(), Fail> {
+    let alloc = rt.alloc();
+    assert!(rt;
+        is(
+            lent_put_begun_replied(alloc, Order::Little),
+            &[0xCA, 2, 0x40, 0x0B, 7, 0, 0, 0, 2, 0, 0, 0, 8, 0xFF, 0x22]
+        )
+    );
+    assert!(rt;
+        is(
+            lent_monitor_begun_replied(alloc, Order::Big),
+            &[
+                0xCA, 2, 0xC0, 0x0D, 0, 0, 0, 7, 0, 0, 0, 4, 0x88, 0xFF, 0x22
+            ]
+        )
+    );
+    assert!(rt;
+        is(
+            lent_value_replied(alloc, Order::Little),
+            &[
+                0xCA, 2, 0x40, 0x0A, 12, 0, 0, 0, 1, 0, 0, 0, 0, 0xFF, 1, 1, 0x2A, 0, 0, 0
+            ]
+        )
+    );
+    assert!(rt;
+        is(
+            lent_value_replied(alloc, Order::Big),
+            &[
+                0xCA, 2, 0xC0, 0x0A, 0, 0, 0, 12, 0, 0, 0, 1, 0, 0xFF, 1, 1, 0, 0, 0, 0x2A
+            ]
+        )
+    );
+    assert!(rt;
+        is(
+            lent_update_replied(alloc, Order::Little),
+            &[
+                0xCA, 2, 0x40, 0x0D, 13, 0, 0, 0, 4, 0, 0, 0, 0, 1, 1, 5, 0, 0, 0, 1, 1
+            ]
+        )
+    );
+    assert!(rt;
+        is(
+            lent_update_replied(alloc, Order::Big),
+            &[
+                0xCA, 2, 0xC0, 0x0D, 0, 0, 0, 13, 0, 0, 0, 4, 0, 1, 1, 0, 0, 0, 5, 1, 1
+            ]
+        )
+    );
+    Ok(())
+}
+
 #[test]
 fn a_server_writes_what_the_rows_say(rt: HostRuntime) -> Result<(), Fail> {
     let alloc = rt.alloc();

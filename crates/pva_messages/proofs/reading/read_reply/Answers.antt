@@ -7,6 +7,7 @@ use Rattle.pva_messages.specs.Reading.{reply_at}
 use Rattle.pva_messages.specs.Views.{reply_view}
 use Rattle.pva_messages.proofs.Messages.{reply_again, reply_takes}
 use Rattle.pva_messages.proofs.Calls.{answers, cause_is, settled_gives, spelled_message}
+use Rattle.pva_messages.proofs.Fitting.{reply_fits}
 use Rattle.pva_messages.proofs.reading.read_reply.Goals as goal
 
 pub returns-in-Ok-clause-exact : goal.returns-in-Ok-clause-exact
@@ -33,6 +34,10 @@ returns-in-Ok-clause-spelled c =
     let fits : IsBytes bytes = λ i. search (rules, c.type_inv.payload i) in
     spelled_message (λ front follow m after. IsReply o (option_copied c.args.known) c.args.command base front follow m after) c.args.command (length bytes) base c.settled.new.registry reply_view c.settled.result (reply_at o (option_copied c.args.known) c.args.command (bytes, base)) bytes
     (λ x e. reply_takes o (option_copied c.args.known) c.args.command base bytes x fits e) (returns-in-Ok-clause-exact c)
+
+pub returns-in-Ok-clause-fits : goal.returns-in-Ok-clause-fits
+returns-in-Ok-clause-fits c =
+    reply_fits c.args.order (option_copied c.args.known) c.args.command c.args.registry.now c.settled.new.registry reply_view c.settled.result c.args.payload.now (returns-in-Ok-clause-spelled c)
 
 pub returns-in-Err-clause-exact : goal.returns-in-Err-clause-exact
 returns-in-Err-clause-exact c =

@@ -6,6 +6,7 @@ use Rattle.pva_messages.specs.Reading.{request_at}
 use Rattle.pva_messages.specs.Views.{request_view}
 use Rattle.pva_messages.proofs.Messages.{request_again, request_takes}
 use Rattle.pva_messages.proofs.Calls.{answers, cause_is, settled_gives, spelled_message, message_within}
+use Rattle.pva_messages.proofs.Fitting.{request_fits}
 use Rattle.pva_messages.proofs.reading.read_request.Goals as goal
 
 pub returns-in-Ok-clause-exact : goal.returns-in-Ok-clause-exact
@@ -36,6 +37,10 @@ returns-in-Ok-clause-spelled c =
 pub returns-in-Ok-clause-part : goal.returns-in-Ok-clause-part
 returns-in-Ok-clause-part c =
     message_within c.args.order c.args.command c.args.registry.now c.settled.new.registry request_view c.settled.result c.args.payload.now (returns-in-Ok-clause-spelled c)
+
+pub returns-in-Ok-clause-fits : goal.returns-in-Ok-clause-fits
+returns-in-Ok-clause-fits c =
+    request_fits c.args.order c.args.command c.args.registry.now c.settled.new.registry request_view c.settled.result c.args.payload.now (returns-in-Ok-clause-spelled c)
 
 pub returns-in-Err-clause-exact : goal.returns-in-Err-clause-exact
 returns-in-Err-clause-exact c =
