@@ -9,7 +9,7 @@ use Rattle.desk_api.specs.Sites.{is_channel}
 use Rattle.desk_api.specs.declared.history.Base.{Base}
 use Rattle.srv_stream.specs.Views.{state_of, output_of}
 use Rattle.srv_stream.proofs.Heard.{looked_up}
-use Rattle.srv_stream.proofs.Replying.{gave_up_at, not_got, got}
+use Rattle.srv_stream.proofs.Replying.{gave_up_at, not_got, told}
 use Rattle.srv_stream.proofs.session.Session.get.Goals as goal
 
 pub type_of-requires : goal.type_of-requires
@@ -51,6 +51,6 @@ returns g c moment =
     let s = state_of c.args.self.now in
     let ty_is = looked_up (λ t. t.now) c.type_of-2.result c.unwrap-2.result (type_of there.seen.base.site c.args.channel) c.unwrap-2.ensures c.type_of-2.ensures in
     let same : c.unwrap-2.result.now ≡ type_of here.seen.base.site c.args.channel = ty_is ∙ ap (λ (b : Base). type_of b.site c.args.channel) c.get.ensures.base in
-    got here there moment s (output_of c.args.self.now) c.args.req c.args.channel (view c.in_ok-value.value) ((c.in_ok-value.ensures {u = tt}).calls)
-    s (state_of c.say_value.new.self) (output_of c.args.self.now) (output_of c.say_value.new.self) c.unwrap-2.result.now _ c.say_value.result same refl refl refl
+    told here there moment s (output_of c.args.self.now) c.args.req c.args.channel (view c.in_ok-value.value) ((c.in_ok-value.ensures {u = tt}).calls)
+    s (state_of c.say_value.new.self) (output_of c.args.self.now) (output_of c.say_value.new.self) c.unwrap-2.result.now c.say_value.result same refl refl
     c.say_value.ensures.state c.say_value.ensures.ok c.say_value.ensures.err
