@@ -55,18 +55,18 @@ module _ (seat : Seat) (moment : Moment) (s t : State) (out after : List ℕ) (c
       let reply_is : reply.created cid 0xFFFF_FFFF x ≡ created cid (channel_named seat.seen.base.site name) =
       ap (λ (z : Status). reply.created cid 0xFFFF_FFFF z) is ∙ ap (created cid) (sym none) in
       said_alone seat moment s t out after (create cid name) (said (created cid (channel_named seat.seen.base.site name))) result legal (says_this _) refl
-      (on_ok result (state ∙ ap (opened s) (sym none)))
+      (on_ok result (state ∙ ap (opened seat.seen.base.site s) (sym none)))
       (subst (λ (z : Reply). OnOk result (after ≡ out ++ spelled s.order s.segment (said z))) reply_is ok) err
 
   -- It is there, and is open from then on.
-  pub found : (x : Status) (channel : Channel) → channel_named seat.seen.base.site name ≡ Some channel → x ≡ good → t ≡ opened s (Some channel)
+  pub found : (x : Status) (channel : Channel) → channel_named seat.seen.base.site name ≡ Some channel → x ≡ good → t ≡ opened seat.seen.base.site s (Some channel)
       → after ≡ out ++ spelled s.order s.segment (said (reply.created cid 0 x))
       → Takes (shown seat s out) (shown seat t after) moment (create cid name) (Ok tt)
   found x channel some is state ok =
       let reply_is : reply.created cid 0 x ≡ created cid (channel_named seat.seen.base.site name) =
       ap (λ (z : Status). reply.created cid 0 z) is ∙ ap (created cid) (sym some) in
       said_alone seat moment s t out after (create cid name) (said (created cid (channel_named seat.seen.base.site name))) (Ok tt) legal (says_this _) refl
-      (state ∙ ap (opened s) (sym some))
+      (state ∙ ap (opened seat.seen.base.site s) (sym some))
       (ok ∙ ap (λ (z : Reply). out ++ spelled s.order s.segment (said z)) reply_is) tt
 
 -- A request begins: its reply has the whole type of its channel.

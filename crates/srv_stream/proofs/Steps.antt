@@ -36,9 +36,9 @@ out_append site s (x ∷ xs) ys =
 
 -- A session's channel stays one of the site.
 
-opened_on_site : (site : SiteData) (s : State) (name : List ℕ) (o : Option Channel) → channel_named site name ≡ o → IsOf site s → IsOf site (opened s o)
+opened_on_site : (site : SiteData) (s : State) (name : List ℕ) (o : Option Channel) → channel_named site name ≡ o → IsOf site s → IsOf site (opened site s o)
 opened_on_site site s name None is ok = ok
-opened_on_site site s name (Some channel) is ok = found_is_channel site name channel is
+opened_on_site site s name (Some channel) is ok = record { channel_is = found_is_channel site name channel is; all_are = refl }
 
 pub task_on_site : (site : SiteData) (s : State) (task : Task) (marks : List Mark) → IsOf site s → IsOf site (after_task site s task marks)
 task_on_site site s pass_over marks ok = ok

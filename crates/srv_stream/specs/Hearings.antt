@@ -1,5 +1,8 @@
 -- What hearing an event gives.
 use Rattle.std.specs.Prelude.{◌≡◌, ℕ, true, ⊤, Option, None, Some, Result, Ok, Err, IsTrue}
+use Rattle.std.specs.FinSet.{FinSet}
+use Rattle.std.specs.Ordering.{nat_cmp}
+use Rattle.pvd_type.specs.Numbers.{leaves}
 use Rattle.pvd_value.specs.Fits.{fits_of}
 use Rattle.pvd_value.specs.View.{view}
 use Rattle.pvd_desc.specs.Types.{Types}
@@ -48,13 +51,17 @@ Hears types (Err stops.NotBuilt) hearing = hearing ≡ not_built
 Hears types (Err (stops.Message fault)) hearing = hearing ≡ unreadable fault
 Hears types (Err stops.NoMemory) hearing = ⊤
 
--- The channel of a task is one of the site.
-abbrev pub IsOnSite : SiteData → Option Channel → Type 0
-IsOnSite site None = ⊤
-IsOnSite site (Some channel) = IsTrue (is_channel site channel)
+-- an open channel is one of the site, and these are the leaves of its type
+pub record IsOpen (site : SiteData) (all : FinSet nat_cmp) (channel : Channel) : Type 0 where
+  pub channel_is : IsTrue (is_channel site channel)
+  pub all_are : all ≡ leaves (type_of site channel)
+
+abbrev pub IsOnSite : SiteData → FinSet nat_cmp → Option Channel → Type 0
+IsOnSite site all None = ⊤
+IsOnSite site all (Some channel) = IsOpen site all channel
 
 abbrev pub IsOf : SiteData → State → Type 0
-IsOf site s = IsOnSite site s.channel
+IsOf site s = IsOnSite site s.all s.channel
 
 -- a request begins by its subcommand
 pub record IsBegun (site : SiteData) (sub : ℕ) (channel : Channel) : Type 0 where
@@ -67,9 +74,10 @@ pub record IsPut (site : SiteData) (asked : Putting) : Type 0 where
   pub fits : fits_of 16 (view asked.value) (type_of site asked.channel) ≡ true
   pub leaves : HoldsLeaves (type_of site asked.channel) asked.mask
 
-abbrev pub IsTaskOf : SiteData → heard.Task → Type 0
-IsTaskOf site (tasks.BeginGet req sub channel) = IsBegun site sub channel
-IsTaskOf site (tasks.BeginPut req sub channel) = IsBegun site sub channel
-IsTaskOf site (tasks.Get req channel) = IsTrue (is_channel site channel)
-IsTaskOf site (tasks.Put asked) = IsPut site asked
-IsTaskOf site other = ⊤
+-- A task names what is there; these are the leaves of the open channel.
+abbrev pub IsTaskOf : SiteData → FinSet nat_cmp → heard.Task → Type 0
+IsTaskOf site all (tasks.BeginGet req sub channel) = IsBegun site sub channel
+IsTaskOf site all (tasks.BeginPut req sub channel) = IsBegun site sub channel
+IsTaskOf site all (tasks.Get req channel) = IsOpen site all channel
+IsTaskOf site all (tasks.Put asked) = IsPut site asked
+IsTaskOf site all other = ⊤

@@ -193,16 +193,16 @@ Part site s (mistake command req) = NoPart
 
 -- The state that a task leaves, with the marks that were made.
 
-abbrev pub opened : State → Option Channel → State
-opened s None = s
-opened s (Some channel) = record s { channel = Some channel }
+abbrev pub opened : SiteData → State → Option Channel → State
+opened site s None = s
+opened site s (Some channel) = record s { channel = Some channel; all = leaves (type_of site channel) }
 
 abbrev pub after_task : SiteData → State → Task → List Mark → State
 after_task site s pass_over marks = s
 after_task site s (echo_control number) marks = s
 after_task site s (validate buffer) marks = record s { validated = true; segment = segment_for buffer }
 after_task site s (echo payload) marks = s
-after_task site s (create cid name) marks = opened s (channel_named site name)
+after_task site s (create cid name) marks = opened site s (channel_named site name)
 after_task site s (begin_get req sub channel) marks = record s { get = Some req }
 after_task site s (begin_put req sub channel) marks = record s { put = Some req }
 after_task site s (get req channel) marks = s

@@ -23,6 +23,7 @@ state_of s = record {
   segment = s.segment;
   types = s.types;
   channel = s.channel;
+  all = s.all;
   get = s.get;
   put = s.put;
 }

@@ -64,7 +64,7 @@ impl Session {
         ensures heard { Hears (state_of self.new).types result (heard_whole (D.seat desk.now).seen.base.site (state_of self.old) (whole_of message.now)) }
         ensures state { state_of self.new ≡ knowing (state_of self.old) (state_of self.new).types }
         ensures output { output_of self.new ≡ output_of self.old }
-        ensures task { IfOk result (IsTaskOf (D.seat desk.now).seen.base.site) }
+        ensures task { IfOk result (IsTaskOf (D.seat desk.now).seen.base.site (state_of self.old).all) }
     {
         if message.command == ECHO {
             return Ok(Task::Echo(message.payload));
@@ -95,7 +95,7 @@ impl Session {
         ensures heard { Hears (state_of self.new).types result (heard_message (D.seat desk.now).seen.base.site (state_of self.old) (whole_of message.now) (state_of self.old).types (request_view request.now)) }
         ensures state { state_of self.new ≡ knowing (state_of self.old) (state_of self.new).types }
         ensures output { output_of self.new ≡ output_of self.old }
-        ensures task { IfOk result (IsTaskOf (D.seat desk.now).seen.base.site) }
+        ensures task { IfOk result (IsTaskOf (D.seat desk.now).seen.base.site (state_of self.old).all) }
     {
         match request {
             ToServer::Validation { buffer, method, .. } => self.hear_validation(*buffer, method),
@@ -122,7 +122,7 @@ impl Session {
     /// A validation is answered once, and by the method `anonymous`.
     fn hear_validation(&self, buffer: u32, method: &Name) -> Result<Task<'static>, SessionStop>
         ensures heard { Hears (state_of self.now).types result (heard_validation (state_of self.now) (state_of self.now).types buffer method.now) }
-        ensures task { (site : SiteData) → IfOk result (IsTaskOf site) }
+        ensures task { (site : SiteData) → IfOk result (IsTaskOf site (state_of self.now).all) }
     {
         if self.validated || method.as_str() != "anonymous" {
             return Err(SessionStop::NotBuilt);
@@ -137,7 +137,7 @@ impl Session {
         channels: &[(u32, Name)],
     ) -> Result<Task<'static>, SessionStop>
         ensures heard { Hears (state_of self.now).types result (heard_creation (state_of self.now) (state_of self.now).types channels.now) }
-        ensures task { (site : SiteData) → IfOk result (IsTaskOf site) }
+        ensures task { (site : SiteData) → IfOk result (IsTaskOf site (state_of self.now).all) }
     {
         let [(cid, name)] = channels else {
             return Err(SessionStop::NotBuilt);
@@ -163,7 +163,7 @@ impl Session {
         request: &Option<(PvType, PvValue)>,
     ) -> Result<Task<'static>, SessionStop>
         ensures heard { Hears (state_of self.now).types result (heard_get (state_of self.now) (state_of self.now).types req sub (valued_view request.now) (channel_at (state_of self.now) sid)) }
-        ensures task { (site : SiteData) → IsOf site (state_of self.now) → IfOk result (IsTaskOf site) }
+        ensures task { (site : SiteData) → IsOf site (state_of self.now) → IfOk result (IsTaskOf site (state_of self.now).all) }
     {
         let Some(channel) = self.channel_at(sid) else {
             return Err(SessionStop::NotBuilt);
@@ -202,7 +202,7 @@ impl Session {
         ensures heard { Hears (state_of self.new).types result (heard_put (D.seat desk.now).seen.base.site (state_of self.old) (whole_of message.now) (state_of self.old).types req sub (valued_view request.now) (put_part_view part.now) (channel_at (state_of self.old) sid)) }
         ensures state { state_of self.new ≡ knowing (state_of self.old) (state_of self.new).types }
         ensures output { output_of self.new ≡ output_of self.old }
-        ensures task { IfOk result (IsTaskOf (D.seat desk.now).seen.base.site) }
+        ensures task { IfOk result (IsTaskOf (D.seat desk.now).seen.base.site (state_of self.old).all) }
     {
         let Some(channel) = self.channel_at(sid) else {
             return Err(SessionStop::NotBuilt);
@@ -240,7 +240,7 @@ impl Session {
         ensures heard { Hears (state_of self.new).types result (heard_unread (D.seat desk.now).seen.base.site (whole_of message.now) (state_of self.old).types req channel (put_part_view part.now)) }
         ensures state { state_of self.new ≡ knowing (state_of self.old) (state_of self.new).types }
         ensures output { output_of self.new ≡ output_of self.old }
-        ensures task { IfOk result (IsTaskOf (D.seat desk.now).seen.base.site) }
+        ensures task { IfOk result (IsTaskOf (D.seat desk.now).seen.base.site (state_of self.old).all) }
     {
         let PutPart::Unread(place) = part else {
             return Err(SessionStop::NotBuilt);

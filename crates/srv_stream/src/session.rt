@@ -143,6 +143,8 @@ pub(crate) struct Session {
     /// The types that the client has defined.
     pub(crate) types: Registry,
     pub(crate) channel: Option<Channel>,
+    /// The leaves of the channel's type.
+    pub(crate) all: BitSet,
     pub(crate) get: Option<u32>,
     pub(crate) put: Option<u32>,
     /// The payload of a reply that is being written.
@@ -156,7 +158,7 @@ pub(crate) struct Session {
 impl Session {
     ghost use Rattle.pva_frames.specs.LentView.{whole_of};
     ghost use Rattle.srv_stream.specs.Calls.{Handles};
-    ghost use Rattle.srv_stream.specs.Hearings.{task_view, putting, IsOf, IsTaskOf, IsBegun};
+    ghost use Rattle.srv_stream.specs.Hearings.{task_view, putting, IsOf, IsOpen, IsTaskOf, IsBegun};
     ghost use Rattle.srv_stream.specs.Rows.{CanSay, spelled, spelled_all, said, control, greetings};
     ghost use Rattle.srv_stream.specs.Views.{state_of, output_of, show, HandlesControl, AnswersTask, AnswersAnytime, AnswersBeside, AnswersAlone};
     ghost use Rattle.pva_frames.specs.declared.event.Event.TheVariants.{Message, Control};
@@ -165,7 +167,6 @@ impl Session {
     ghost use Rattle.pvd_value.specs.Fits.{fits_of};
     ghost use Rattle.pva_messages.specs.Replies as reply;
     ghost use Rattle.pva_messages.specs.Views.{reply_view};
-    ghost use Rattle.desk_api.specs.Sites.{is_channel};
 
     /// A session that has said nothing yet.
     fn silent(alloc: Global, order: Order) -> Session
@@ -178,6 +179,7 @@ impl Session {
             segment: segment_for(65536),
             types: Registry::new(alloc),
             channel: None,
+            all: BitSet::new(alloc),
             get: None,
             put: None,
             payload: Vec::new(alloc),
@@ -269,21 +271,15 @@ impl Session {
     }
 
     /// Adds the reply to a get that found this value.
-    fn say_value(
-        &mut self,
-        req: u32,
-        ty: &PvType,
-        all: &BitSet,
-        value: &PvValue,
-    ) -> Result<(), NoMemory>
+    fn say_value(&mut self, req: u32, ty: &PvType, value: &PvValue) -> Result<(), NoMemory>
         requires fits { fits_of 16 (view value.now) ty.now ≡ true }
-        requires all { all.now ≡ leaves ty.now }
+        requires all { (state_of self.old).all ≡ leaves ty.now }
         ensures state { state_of self.new ≡ state_of self.old }
         ensures ok { OnOk result (output_of self.new ≡ output_of self.old ++ spelled self.old.order self.old.segment (said (got req ty.now (view value.now)))) }
         ensures err { OnErr result (output_of self.new ≡ output_of self.old) }
     {
         self.payload.clear();
-        write_value(&mut self.payload, self.order, req, ty, all, value)?;
+        write_value(&mut self.payload, self.order, req, ty, &self.all, value)?;
         self.say_payload(GET)
     }
 
@@ -341,7 +337,7 @@ impl Session {
         desk: &mut D,
         moment: Moment,
     ) -> Result<(), NoMemory>
-        requires { IsTaskOf (D.seat desk.old).seen.base.site task.now }
+        requires { IsTaskOf (D.seat desk.old).seen.base.site (state_of self.old).all task.now }
         ensures { AnswersTask (D.seat desk.old) (D.seat desk.new) self.old self.new moment (task_view task.now) result }
     {
         desk.has_legal_history();
@@ -408,6 +404,7 @@ impl Session {
                 status,
             });
         };
+        let all = desk.type_of(channel).unwrap().leaves(alloc)?;
         let status = Status::good(alloc)?;
         self.say(ToClient::Created {
             cid,
@@ -415,6 +412,7 @@ impl Session {
             status,
         })?;
         self.channel = Some(channel);
+        self.all = all;
         Ok(())
     }
 
@@ -461,13 +459,12 @@ impl Session {
         channel: Channel,
         desk: &mut D,
     ) -> Result<(), NoMemory>
-        requires { IsTrue (is_channel (D.seat desk.old).seen.base.site channel) }
+        requires { IsOpen (D.seat desk.old).seen.base.site (state_of self.old).all channel }
         ensures { AnswersAnytime (D.seat desk.old) (D.seat desk.new) self.old self.new (task.get req channel) result }
     {
         desk.has_legal_history();
-        let all = desk.type_of(channel).unwrap().leaves(alloc)?;
         let value = desk.get(alloc, channel)?;
-        self.say_value(req, desk.type_of(channel).unwrap(), &all, &value)
+        self.say_value(req, desk.type_of(channel).unwrap(), &value)
     }
 
     fn put<D: Desk>(

@@ -1,21 +1,21 @@
 use Rattle.std.proofs.Common.{subst}
 use Rattle.srv_stream.specs.Hearings.{IsTaskOf}
-use Rattle.srv_stream.specs.Views.{show}
+use Rattle.srv_stream.specs.Views.{state_of, show}
 use Rattle.srv_stream.specs.declared.task.Task as told
 use Rattle.srv_stream.proofs.Handling.{answers_as}
 use Rattle.srv_stream.proofs.session.Session.answer.Goals as goal
 
 pub begin_get-requires : goal.begin_get-requires
-begin_get-requires g c = subst (λ (z : told.Task). IsTaskOf (g.D.Desk.seat c.args.desk.now).seen.base.site z) c.in-BeginGet.is c.requires
+begin_get-requires g c = subst (λ (z : told.Task). IsTaskOf (g.D.Desk.seat c.args.desk.now).seen.base.site (state_of c.args.self.now).all z) c.in-BeginGet.is c.requires
 
 pub begin_put-requires : goal.begin_put-requires
-begin_put-requires g c = subst (λ (z : told.Task). IsTaskOf (g.D.Desk.seat c.args.desk.now).seen.base.site z) c.in-BeginPut.is c.requires
+begin_put-requires g c = subst (λ (z : told.Task). IsTaskOf (g.D.Desk.seat c.args.desk.now).seen.base.site (state_of c.args.self.now).all z) c.in-BeginPut.is c.requires
 
 pub get-requires : goal.get-requires
-get-requires g c = subst (λ (z : told.Task). IsTaskOf (g.D.Desk.seat c.args.desk.now).seen.base.site z) c.in-Get.is c.requires
+get-requires g c = subst (λ (z : told.Task). IsTaskOf (g.D.Desk.seat c.args.desk.now).seen.base.site (state_of c.args.self.now).all z) c.in-Get.is c.requires
 
 pub put-requires : goal.put-requires
-put-requires g c = subst (λ (z : told.Task). IsTaskOf (g.D.Desk.seat c.args.desk.now).seen.base.site z) c.in-Put.is c.requires
+put-requires g c = subst (λ (z : told.Task). IsTaskOf (g.D.Desk.seat c.args.desk.now).seen.base.site (state_of c.args.self.now).all z) c.in-Put.is c.requires
 
 pub returns-in-PassOver : goal.returns-in-PassOver
 returns-in-PassOver g c =

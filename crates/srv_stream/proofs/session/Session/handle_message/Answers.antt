@@ -1,7 +1,9 @@
-use Rattle.std.proofs.Common.{Ok, Err, sym, subst}
+use Rattle.std.proofs.Common.{Ok, Err, sym, ap, subst}
+use Rattle.std.specs.FinSet.{FinSet}
+use Rattle.std.specs.Ordering.{nat_cmp}
 use Rattle.pva_frames.specs.LentView.{whole_of}
 use Rattle.pva_frames.specs.declared.event.Event.TheVariants.{Message}
-use Rattle.srv_stream.specs.Hearings.{task_view, IsOf}
+use Rattle.srv_stream.specs.Hearings.{task_view, IsOf, IsTaskOf}
 use Rattle.srv_stream.specs.State.{State}
 use Rattle.srv_stream.specs.Views.{state_of, output_of, show}
 use Rattle.srv_stream.specs.declared.task.SessionStop.TheVariants as stops
@@ -26,7 +28,9 @@ returns-in_err-task g c =
     }
 
 pub answer-requires : goal.answer-requires
-answer-requires g c = (c.in_ok-task.ensures {u = tt}).task
+answer-requires g c =
+    let heard = c.in_ok-task.ensures {u = tt} in
+    subst (λ (all : FinSet nat_cmp). IsTaskOf (g.D.Desk.seat c.args.desk.now).seen.base.site all c.in_ok-task.task) (sym (ap (λ (s : State). s.all) heard.state)) heard.task
 
 pub returns-in_err-answer : goal.returns-in_err-answer
 returns-in_err-answer g c =
