@@ -1,26 +1,23 @@
 -- Events of a stream, answered by a session.
-use Rattle.std.proofs.Common.{◌≡◌, ℕ, true, false, List, [], ◌∷◌, ◌++◌, Option, None, Some, Result, Ok, Err, refl, sym, ◌∙◌, ap, subst}
+use Rattle.std.proofs.Common.{◌≡◌, ℕ, List, [], ◌∷◌, ◌++◌, Some, Err, refl, sym, ◌∙◌, ap, subst}
 use Rattle.std.proofs.lemmas.Bool.{false≢true}
-use Rattle.pva_frames.specs.Messages.{Unfinished}
-use Rattle.pva_frames.specs.Assembled.{Assembled, fed}
+use Rattle.pva_frames.specs.Assembled.{Assembled}
 use Rattle.pva_frames.specs.declared.event.Whole.{Whole}
 use Rattle.pva_frames.specs.declared.event.Event.{Event}
 use Rattle.pva_frames.specs.declared.event.Event.TheVariants.{Message}
-use Rattle.pva_frames.specs.declared.fault.FrameFault.{FrameFault}
 use Rattle.pvd_type.specs.declared.memory.NoMemory.{NoMemory}
 use Rattle.desk_api.proofs.Adding.{adds_nothing}
-use Rattle.desk_api.specs.declared.mark.Mark.{Mark}
 use Rattle.desk_api.specs.declared.mark.Seat.{Seat}
 use Rattle.srv_stream.specs.Calls.{Shown, site_of, Handled, GaveUp, Responds, Stopped, Handles}
 use Rattle.srv_stream.specs.State.{State}
-use Rattle.srv_stream.specs.Steps.{Step, IsStep, after_step, bytes_of, PartOf, NextPart}
-use Rattle.srv_stream.specs.Turns.{Hearing, not_built, unreadable, heard}
+use Rattle.srv_stream.specs.Steps.{IsStep, after_step, bytes_of, PartOf, NextPart}
+use Rattle.srv_stream.specs.Tasks.{Hearing, not_built, unreadable, heard}
 use Rattle.srv_stream.specs.Streams.{View, stop_at, stop_of, stop_as, AnsweredEvent, UnansweredEvent, PartOfEvent, AnswersEventErr, AnswersEvent, Passed, FedUpTo, FedPart, FedErr}
-use Rattle.srv_stream.specs.declared.turn.SessionStop.{SessionStop}
-use Rattle.srv_stream.specs.declared.turn.SessionStop.TheVariants as stops
+use Rattle.srv_stream.specs.declared.task.SessionStop.{SessionStop}
+use Rattle.srv_stream.specs.declared.task.SessionStop.TheVariants as stops
 use Rattle.srv_stream.specs.declared.ended.Ended.{Ended}
 use Rattle.srv_stream.specs.declared.ended.Ended.TheVariants as ends
-use Rattle.srv_stream.proofs.Passing.{passed_step, passed_fed, fed_stopped, fed_part}
+use Rattle.srv_stream.proofs.Passing.{passed_step, fed_stopped, fed_part}
 use Rattle.srv_stream.proofs.Rows.{no_next_part}
 use Rattle.srv_stream.proofs.Stopping.{event_stops}
 use Rattle.journal_core.specs.Moments.{Moment}

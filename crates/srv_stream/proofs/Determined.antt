@@ -1,22 +1,26 @@
 -- One site, byte order, list of events and list of marks have one output.
-use Rattle.std.proofs.Common.{◌≡◌, ℕ, Bool, true, false, List, [], ◌∷◌, ◌++◌, Option, None, Some, Result, Ok, Err, refl, sym, ◌∙◌, ap, subst, append_assoc}
+use Rattle.std.proofs.Common.{◌≡◌, ℕ, Bool, true, false, List, [], ◌∷◌, ◌++◌, Option, None, Some, is_some, Result, Ok, Err, refl, sym, ◌∙◌, ap, subst}
 use Rattle.std.specs.Prelude.{codes}
 use Rattle.std.specs.FinSet.{FinSet}
 use Rattle.std.specs.Ordering.{nat_cmp}
 use Rattle.std.proofs.lemmas.Bool.{false≢true}
 use Rattle.std.proofs.lemmas.Option.{none-some}
 use Rattle.pvd_value.specs.Data.{Data}
-use Rattle.pva_wire.specs.declared.order.Order.{Order}
 use Rattle.pva_wire.specs.declared.status.Status.{Status}
+use Rattle.pva_frames.specs.Messages.{Unfinished}
+use Rattle.pva_frames.specs.declared.event.Whole.{Whole}
 use Rattle.pva_frames.specs.declared.event.Event.{Event}
+use Rattle.pva_frames.specs.declared.event.Event.TheVariants.{Message, Control}
+use Rattle.pva_frames.specs.declared.fault.FrameFault.{FrameFault}
 use Rattle.pva_messages.specs.Replies as reply
 use Rattle.rec_kinds.specs.declared.datum.Action.{Action}
 use Rattle.rec_kinds.specs.declared.put.PutRefusal.{PutRefusal}
 use Rattle.rec_kinds.specs.declared.state.RecState.{RecState}
 use Rattle.rec_fields.specs.declared.puts.FieldAnswer.{FieldAnswer}
 use Rattle.rec_fields.specs.declared.puts.FieldAnswer.TheVariants.{Refused}
-use Rattle.desk_api.specs.Calls.{IsGet, Asked, asked_actions, ArePut}
+use Rattle.desk_api.specs.Calls.{Asked, asked_actions, ArePut}
 use Rattle.desk_api.specs.Sites.{footprint_of}
+use Rattle.desk_api.specs.Types.{type_of}
 use Rattle.desk_api.specs.Views.{value_of, laid}
 use Rattle.desk_api.specs.declared.channel.Channel.{Channel}
 use Rattle.desk_api.specs.declared.history.SiteData.{SiteData}
@@ -25,10 +29,12 @@ use Rattle.desk_api.specs.declared.mark.Mark.TheVariants.{Read, Entered, Overwei
 use Rattle.desk_api.specs.declared.put.Done.{Done}
 use Rattle.desk_api.specs.declared.put.PutAnswer.{PutAnswer}
 use Rattle.desk_api.specs.declared.put.PutAnswer.TheVariants as answers
-use Rattle.srv_stream.specs.State.{State, opening}
-use Rattle.srv_stream.specs.Turns.{Turn, pass_over, echo_control, validate, echo, create, begin_get, begin_put, get, put, mistake, Hearing, asks, not_built, unreadable, heard}
-use Rattle.srv_stream.specs.Rows.{Sent, said, Says, good, error, refusal_text, whole_part, GetRow, asked, put_status, PutRow, Row}
-use Rattle.srv_stream.specs.Steps.{Step, knowing, IsAnswer, bytes_of, after_step, AreSteps, events_of, marks_of, out_of}
+use Rattle.srv_stream.specs.State.{State}
+use Rattle.srv_stream.specs.Tasks.{Task, pass_over, echo_control, validate, echo, create, begin_get, begin_put, get, put, mistake, Hearing, asks, not_built, unreadable, heard}
+use Rattle.srv_stream.specs.Rows.{Sent, said, Says, good, got, error, refusal_text, GetRow, asked, put_status, PutRow, Row}
+use Rattle.srv_stream.specs.Steps.{Step, knowing, IsAnswer, bytes_of, IsStep, after_step, AreSteps, state_after, events_of, marks_of, out_of}
+use Rattle.srv_stream.specs.Streams.{stop_at, stop_of, Stands}
+use Rattle.srv_stream.specs.declared.ended.Ended.{Ended}
 
 -- two ways to split a list of marks, and what was sent by the first parts
 record Same (m n k l : List Mark) (x y : List Sent) : Type 0 where
@@ -69,7 +75,7 @@ same_get site req channel m n k l x y p q e =
     ∙ ap (λ (found : List RecState). value_of site channel (laid site.opening (footprint_of site channel) found)) (ap found_of one.0) ∙ sym q.is_get.value_is in record {
       marks = p.is_get.marks_are ∙ ap (λ (z : Mark). z ∷ []) one.0 ∙ sym q.is_get.marks_are;
       later = one.1;
-      sent = p.sent_is ∙ ap (λ (v : Data). said (reply.get req 0 good None (Some (whole_part site channel v))) ∷ []) value ∙ sym q.sent_is;
+      sent = p.sent_is ∙ ap (λ (v : Data). said (got req (type_of site channel) v) ∷ []) value ∙ sym q.sent_is;
     }
 
 abbrev is_entry : Mark → Bool
@@ -128,7 +134,7 @@ same_put site req channel mask value m n k l x y p q e =
       sent = p.sent_is ∙ ap (λ (s : Status). said (reply.put req 0 s None None) ∷ []) same.2 ∙ sym q.sent_is;
     }
 
-same_row : (site : SiteData) (s : State) (turn : Turn) (m n k l : List Mark) (x y : List Sent) → Row site s turn m x → Row site s turn n y → m ++ k ≡ n ++ l → Same m n k l x y
+same_row : (site : SiteData) (s : State) (task : Task) (m n k l : List Mark) (x y : List Sent) → Row site s task m x → Row site s task n y → m ++ k ≡ n ++ l → Same m n k l x y
 same_row site s pass_over m n k l x y p q e = same_says _ m n k l x y p q e
 same_row site s (echo_control number) m n k l x y p q e = same_says _ m n k l x y p q e
 same_row site s (validate buffer) m n k l x y p q e = same_says _ m n k l x y p q e
@@ -141,7 +147,7 @@ same_row site s (put req channel mask value) m n k l x y p q e = same_put site r
 same_row site s (mistake command req) m n k l x y p q e = same_says _ m n k l x y p q e
 
 same_answer : (site : SiteData) (s : State) (hearing : Hearing) (m n k l : List Mark) (x y : List Sent) → IsAnswer site s hearing m x → IsAnswer site s hearing n y → m ++ k ≡ n ++ l → Same m n k l x y
-same_answer site s (asks turn types) m n k l x y p q e = same_row site (knowing s types) turn m n k l x y p q e
+same_answer site s (asks task types) m n k l x y p q e = same_row site (knowing s types) task m n k l x y p q e
 same_answer site s not_built m n k l x y p q e = absurd p
 same_answer site s (unreadable fault) m n k l x y p q e = absurd p
 
@@ -169,3 +175,41 @@ same_out site s (x ∷ xs) (y ∷ ys) a b events marks =
     (λ i. bytes_of s (step i) ++ out_of site (after_step site s (step i)) xs)
     ∙ ap (λ (z : List ℕ). bytes_of s y ++ z)
     (same_out site (after_step site s y) xs ys (subst (λ (z : Step). AreSteps site (after_step site s z) xs) step a.1) b.1 (ap later_events events) same.later)
+
+-- An event that was answered is no trouble.
+
+hearing_answered : (m : Whole) (site : SiteData) (s : State) (hearing : Hearing) (marks : List Mark) (sent : List Sent) → IsAnswer site s hearing marks sent → stop_at m hearing ≡ None
+hearing_answered m site s (asks task types) marks sent p = refl
+hearing_answered m site s not_built marks sent p = absurd p
+hearing_answered m site s (unreadable fault) marks sent p = absurd p
+
+event_answered : (site : SiteData) (s : State) (e : Event) (marks : List Mark) (sent : List Sent) → IsAnswer site s (heard site s e) marks sent → stop_of site s e ≡ None
+event_answered site s (Message m) marks sent p = hearing_answered m site s (heard site s (Message m)) marks sent p
+event_answered site s (Control command number) marks sent p = refl
+
+no_trouble : (site : SiteData) (s : State) (x : Step) (more : List Event) (left : Result Unfinished FrameFault) (trouble : Option Ended) → IsStep site s x → Stands site s (x.event ∷ more) left trouble → ⊥
+no_trouble site s x more left trouble rule stands =
+    false≢true (sym (ap (λ (o : Option Ended). is_some o) (event_answered site s x.event x.marks x.sent rule)) ∙ stands.1)
+
+one_stands : (site : SiteData) (s : State) (remaining : List Event) (left : Result Unfinished FrameFault) (t u : Option Ended) → Stands site s remaining left t → Stands site s remaining left u → t ≡ u
+one_stands site s [] left t u p q = p ∙ sym q
+one_stands site s (e ∷ more) left t u p q = p.0 ∙ sym q.0
+
+-- steps of the same marks, up to the trouble in the same events
+pub same_trouble : (site : SiteData) (s : State) (xs ys : List Step) (remaining later : List Event) (left : Result Unfinished FrameFault) (t u : Option Ended) → AreSteps site s xs → AreSteps site s ys
+    → events_of xs ++ remaining ≡ events_of ys ++ later → marks_of xs ≡ marks_of ys
+    → Stands site (state_after site s xs) remaining left t → Stands site (state_after site s ys) later left u → t ≡ u
+same_trouble site s [] [] remaining later left t u a b events marks p q =
+    one_stands site s later left t u (subst (λ (l : List Event). Stands site s l left t) events p) q
+same_trouble site s [] (y ∷ ys) remaining later left t u a b events marks p q =
+    absurd (no_trouble site s y (events_of ys ++ later) left t b.0 (subst (λ (l : List Event). Stands site s l left t) events p))
+same_trouble site s (x ∷ xs) [] remaining later left t u a b events marks p q =
+    absurd (no_trouble site s x (events_of xs ++ remaining) left u a.0 (subst (λ (l : List Event). Stands site s l left u) (sym events) q))
+same_trouble site s (x ∷ xs) (y ∷ ys) remaining later left t u a b events marks p q =
+    let first : x.event ≡ y.event = ap (event_or x.event) events in
+    let here = subst (λ (e : Event). IsAnswer site s (heard site s e) y.marks y.sent) (sym first) b.0 in
+    let same = same_answer site s (heard site s x.event) x.marks y.marks (marks_of xs) (marks_of ys) x.sent y.sent a.0 here marks in
+    let step : x ≡ y = λ i. record { event = first i; marks = same.marks i; sent = same.sent i } in
+    same_trouble site (after_step site s y) xs ys remaining later left t u
+    (subst (λ (z : Step). AreSteps site (after_step site s z) xs) step a.1) b.1 (ap later_events events) same.later
+    (subst (λ (z : Step). Stands site (state_after site (after_step site s z) xs) remaining left t) step p) q

@@ -1,16 +1,14 @@
 -- A connection has ended.
-use Rattle.std.proofs.Common.{◌≡◌, ℕ, ◌+◌, ◌<◌, ◌≤◌, ◌⊎◌, inl, inr, Bool, true, false, cond, List, [], ◌∷◌, ◌++◌, length, Option, None, Some, is_some, Result, Ok, Err, refl, sym, ◌∙◌, ap, subst, arith}
+use Rattle.std.proofs.Common.{◌≡◌, ℕ, ◌+◌, ◌<◌, ◌≤◌, inl, inr, Bool, true, false, cond, List, [], ◌∷◌, ◌++◌, length, Option, None, Some, is_some, Result, Ok, Err, refl, sym, ◌∙◌, ap, subst, arith}
 use Rattle.std.proofs.lemmas.List.{append-nil}
-use Rattle.std.proofs.lemmas.Option.{none-some, same_Some}
+use Rattle.std.proofs.lemmas.Option.{none-some}
 use Rattle.std.proofs.lemmas.Bool.{false≢true}
 use Rattle.pva_outside.specs.Count.{Rose}
 use Rattle.pva_outside.specs.Wire.{Wire, Failed}
 use Rattle.pva_wire.specs.declared.order.Order.{Order}
 use Rattle.pva_frames.specs.Messages.{Unfinished, events_from, left_from}
 use Rattle.pva_frames.specs.Assembled.{opening as unread, fed, place_of_fault, rest_of, rest_from}
-use Rattle.pva_frames.specs.declared.event.Whole.{Whole as Message}
 use Rattle.pva_frames.specs.declared.event.Event.{Event}
-use Rattle.pva_frames.specs.declared.event.Event.TheVariants as events
 use Rattle.pva_frames.specs.declared.fault.FrameFault.{FrameFault}
 use Rattle.histories.specs.History.{IsPrefixOf}
 use Rattle.desk_api.proofs.Adding.{adds_nothing}
@@ -18,13 +16,12 @@ use Rattle.desk_api.specs.History.{IsLegal}
 use Rattle.desk_api.specs.declared.history.SiteData.{SiteData}
 use Rattle.desk_api.specs.declared.mark.Mark.{Mark}
 use Rattle.desk_api.specs.declared.mark.Seat.{Seat}
-use Rattle.srv_stream.specs.State.{State, opening}
+use Rattle.srv_stream.specs.State.{opening}
 use Rattle.srv_stream.specs.Rows.{greeting}
-use Rattle.srv_stream.specs.Turns.{Hearing, asks, not_built, unreadable, heard}
 use Rattle.srv_stream.specs.Steps.{Step, AreSteps, state_after, events_of, marks_of, out_of}
-use Rattle.srv_stream.specs.Streams.{stop_at, stop_of, refused, Stands, View}
+use Rattle.srv_stream.specs.Streams.{refused, Stands, View}
 use Rattle.srv_stream.specs.Moves.{Moves}
-use Rattle.srv_stream.specs.Served.{Whole, IsProperPrefixOf, AtEnd, AtTrouble, DueRead, AllInTurn, IsSmooth, Completes, HasCause, Served}
+use Rattle.srv_stream.specs.Served.{Whole, IsProperPrefixOf, AtEnd, AtTrouble, AllAnswered, IsSmooth, Completes, HasCause, Served}
 use Rattle.srv_stream.specs.declared.ended.Ended.{Ended}
 use Rattle.srv_stream.specs.declared.ended.Ended.TheVariants as ends
 use Rattle.srv_stream.proofs.Going.{Going, Idling, SawEnd}
@@ -42,7 +39,7 @@ no_refusal (Err fault) ended whole is = none-some (place_of_fault fault) (sym wh
 
 -- nothing stands behind the events that were answered
 unstopped : (site : SiteData) (order : Order) (read : List ℕ) (log : List Mark) (steps : List Step) (remaining : List Event) (ended : Ended)
-    → AreSteps site (opening order) steps → AllInTurn site order (events_from 0 None read) log → events_from 0 None read ≡ events_of steps ++ remaining
+    → AreSteps site (opening order) steps → AllAnswered site order (events_from 0 None read) log → events_from 0 None read ≡ events_of steps ++ remaining
     → IsPrefixOf (marks_of steps) log → rest_from 0 None read ≡ None → Stands site (state_after site (opening order) steps) remaining (left_from 0 None read) (Some ended) → ⊥
 unstopped site order read log steps [] ended rules turns all front whole stands = no_refusal (left_from 0 None read) ended whole stands
 unstopped site order read log steps (e ∷ more) ended rules turns all front whole stands =
@@ -52,7 +49,7 @@ no_trouble : {site : SiteData} {order : Order} {start end : Wire} {turns : ℕ} 
     → IsSmooth site order start end turns read written log → Whole site order read log out (Some ended) → ⊥
 no_trouble {site} {order} {start} {end} {turns} {read} {written} {log} {out} {ended} i w =
     let talk = w.dialogue.talk in
-    unstopped site order read log talk.steps w.remaining ended talk.rules i.in_turn
+    unstopped site order read log talk.steps w.remaining ended talk.rules i.answered
     (w.all ∙ ap (λ (l : List Event). l ++ w.remaining) (sym talk.events_are))
     (record { rest = w.dialogue.endings; whole = sym w.dialogue.marks_are ∙ ap (λ (l : List Mark). l ++ w.dialogue.endings) (sym talk.marks_are) })
     i.whole w.stands

@@ -1,13 +1,12 @@
 -- A connection on its way.
-use Rattle.std.proofs.Common.{◌≡◌, ℕ, ◌+◌, ◌<◌, ◌≤◌, ◌^◌, ◌⊎◌, Bool, true, false, List, [], ◌++◌, length, Option, None, Some, Ok}
+use Rattle.std.proofs.Common.{◌≡◌, ℕ, ◌+◌, ◌<◌, ◌≤◌, ◌^◌, ◌⊎◌, Bool, true, false, List, [], ◌++◌, length, Option, None, Some}
 use Rattle.std.specs.Prelude.{if◌then◌else◌, ⊤}
 use Rattle.pva_outside.specs.Count.{Rose}
 use Rattle.pva_outside.specs.Wire.{Wire}
 use Rattle.pva_wire.specs.declared.order.Order.{Order}
-use Rattle.pva_frames.specs.Assembled.{Assembled, opening as unread, fed, rest_of}
+use Rattle.pva_frames.specs.Assembled.{opening as unread, fed, rest_of}
 use Rattle.desk_api.specs.Calls.{Adds, HaveMoment}
 use Rattle.desk_api.specs.declared.history.SiteData.{SiteData}
-use Rattle.desk_api.specs.declared.mark.Mark.{Mark}
 use Rattle.desk_api.specs.declared.mark.Seat.{Seat}
 use Rattle.srv_stream.specs.State.{opening}
 use Rattle.srv_stream.specs.Rows.{greeting}

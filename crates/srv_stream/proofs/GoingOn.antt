@@ -12,7 +12,6 @@ use Rattle.pva_frames.specs.Messages.{Unfinished}
 use Rattle.pva_frames.specs.Assembled.{Assembled, opening as unread, fed}
 use Rattle.pva_frames.specs.declared.event.Event.{Event}
 use Rattle.pva_frames.specs.declared.fault.FrameFault.{FrameFault}
-use Rattle.histories.specs.History.{IsPrefixOf}
 use Rattle.desk_api.proofs.Adding.{adds_nothing}
 use Rattle.desk_api.specs.Calls.{Adds, HaveMoment}
 use Rattle.desk_api.specs.History.{IsLegal}
@@ -22,11 +21,11 @@ use Rattle.desk_api.specs.declared.mark.Mark.{Mark}
 use Rattle.desk_api.specs.declared.mark.Seat.{Seat}
 use Rattle.srv_stream.specs.State.{State, opening}
 use Rattle.srv_stream.specs.Rows.{greeting}
-use Rattle.srv_stream.specs.Steps.{Step, AreSteps, state_after, events_of, marks_of, out_of, NextPart}
+use Rattle.srv_stream.specs.Steps.{Step, state_after, events_of, marks_of, out_of}
 use Rattle.srv_stream.specs.Hearings.{IsOf}
-use Rattle.srv_stream.specs.Streams.{stop_of, refused, Stands, Follows, View, Passed, FedOn, FedUpTo, FedPart, FedErr}
+use Rattle.srv_stream.specs.Streams.{refused, Stands, Follows, View, Passed, FedOn, FedUpTo, FedPart, FedErr}
 use Rattle.srv_stream.specs.Views.{first_view}
-use Rattle.srv_stream.specs.Served.{Settled, AtNoMemory, Served}
+use Rattle.srv_stream.specs.Served.{Settled, Served}
 use Rattle.srv_stream.specs.declared.ended.Ended.{Ended}
 use Rattle.srv_stream.specs.declared.ended.Ended.TheVariants as ends
 use Rattle.srv_stream.proofs.Going.{Going, Idling, Keeps, SawEnd}

@@ -1,8 +1,6 @@
 -- What reading a message gives is what is heard in it.
-use Rattle.std.proofs.Common.{◌≡◌, ℕ, ◌-◌, ◌==◌, Bool, true, false, List, [], ◌∷◌, drop, length, Option, None, Some, Result, Ok, Err, cond, refl, sym, ◌∙◌, ap, subst, arith}
-use Rattle.std.proofs.lemmas.Bool.{false≢true}
+use Rattle.std.proofs.Common.{◌≡◌, ℕ, ◌-◌, Bool, true, false, List, [], ◌∷◌, drop, length, Option, None, Some, Result, Ok, Err, cond, refl, sym, ◌∙◌, ap, subst}
 use Rattle.std.proofs.Math.Bool.{or-true}
-use Rattle.std.proofs.lemmas.Bool.Decides.{nat_tests}
 use Rattle.std.specs.Prelude.{IsErrAnd, option_map}
 use Rattle.std.specs.FinSet.{FinSet}
 use Rattle.std.specs.Ordering.{nat_cmp}
@@ -35,10 +33,10 @@ use Rattle.desk_api.specs.declared.channel.Channel.{Channel}
 use Rattle.desk_api.specs.declared.history.SiteData.{SiteData}
 use Rattle.srv_stream.specs.State.{State}
 use Rattle.srv_stream.specs.Steps.{knowing}
-use Rattle.srv_stream.specs.Turns.{Hearing, asks, not_built, echo, pass_over, put, unreadable, fault_in, is_of_value, heard_part, heard_unread, heard_message, heard_read, heard_whole, is_heard}
+use Rattle.srv_stream.specs.Tasks.{Hearing, asks, not_built, echo, pass_over, put, unreadable, fault_in, heard_part, heard_unread, heard_message, heard_read, heard_whole, is_heard}
 use Rattle.srv_stream.specs.Hearings.{Hears, stop_by}
-use Rattle.srv_stream.specs.declared.turn.Turn as told
-use Rattle.srv_stream.specs.declared.turn.SessionStop.{SessionStop}
+use Rattle.srv_stream.specs.declared.task.Task as told
+use Rattle.srv_stream.specs.declared.task.SessionStop.{SessionStop}
 
 -- A message that can't be read: what is heard is its fault, unless memory ran out.
 module _ {A : Type 0} (types : Types) (whole : Whole) (hears : Read Source A → Hearing) (faulty : (x : ValueCause × ℕ) → hears (Err x) ≡ unreadable (fault_in whole x)) where
@@ -64,8 +62,8 @@ module _ {A : Type 0} (types : Types) (whole : Whole) (hears : Read Source A →
   hears_fault fault read is f = stopped_by fault.command fault.cause read is f
 
 -- what the error says from which a stop was made
-pub stopped : (types : Types) (stop : SessionStop) (result : Result told.Turn SessionStop) (h : Hearing) → IsErrAnd result (λ (e : SessionStop). e ≡ stop) → Hears types (Err stop) h → Hears types result h
-stopped types stop (Ok turn) h is heard = absurd is
+pub stopped : (types : Types) (stop : SessionStop) (result : Result told.Task SessionStop) (h : Hearing) → IsErrAnd result (λ (e : SessionStop). e ≡ stop) → Hears types (Err stop) h → Hears types result h
+stopped types stop (Ok task) h is heard = absurd is
 stopped types stop (Err e) h is heard = subst (λ (x : SessionStop). Hears types (Err x) h) (sym is) heard
 
 -- what was looked up
@@ -95,7 +93,7 @@ known_message site s whole known types (request.skipped command) = refl
 pub told_same : (site : SiteData) (s : State) (whole : Whole) (known : Types) (r x : ToServer) → r ≡ x → heard_message site s whole known (request_view r) ≡ heard_message site s whole known (request_view x)
 told_same site s whole known r x is = ap (λ (z : ToServer). heard_message site s whole known (request_view z)) is
 
-pub told_as : (site : SiteData) (s : State) (whole : Whole) (types known : Types) (result : Result told.Turn SessionStop) (r x : ToServer) → r ≡ x → Hears types result (heard_message site s whole known (request_view x))
+pub told_as : (site : SiteData) (s : State) (whole : Whole) (types known : Types) (result : Result told.Task SessionStop) (r x : ToServer) → r ≡ x → Hears types result (heard_message site s whole known (request_view x))
     → Hears types result (heard_message site s whole known (request_view r))
 told_as site s whole types known result r x is h = subst (λ (z : ToServer). Hears types result (heard_message site s whole known (request_view z))) (sym is) h
 
@@ -151,7 +149,7 @@ module _ (site : SiteData) (s : State) (whole : Whole) (is : is_heard s whole.co
       subst (λ (h : Hearing). Hears types (Err (stop_by fault)) h) (sym is_read)
       (hears_fault types whole (heard_read site s whole) (λ x. refl) fault request_read same f)
 
-  pub hears_request : (known types : Types) (said : Request) (rest : List ℕ) (result : Result told.Turn SessionStop) → request_read ≡ Ok (said, (rest, known)) → Hears types result (heard_message site (knowing s known) whole known said)
+  pub hears_request : (known types : Types) (said : Request) (rest : List ℕ) (result : Result told.Task SessionStop) → request_read ≡ Ok (said, (rest, known)) → Hears types result (heard_message site (knowing s known) whole known said)
       → Hears types result (heard_whole site s whole)
   hears_request known types said rest result read h =
       subst (λ (x : Hearing). Hears types result x) (sym (is_read ∙ ap (heard_read site s whole) read))
@@ -175,14 +173,8 @@ module _ (site : SiteData) (whole : Whole) (req : ℕ) (channel : Channel) (befo
         ∙ ap (λ (t : Tree). heard_part whole req channel (part_at whole.order t (drop place whole.payload, before))) (sym ty_is)
 
     module _ (mask : FinSet nat_cmp) (value : Data) (rest : List ℕ) (after : Types) (read_is : read ≡ Ok ((mask, value), (rest, after))) where
-      chosen : heard_unread site whole before req channel (put_part_view part) ≡ cond (is_of_value mask) (asks (put req channel mask value) after) not_built
-      chosen = reads ∙ ap (heard_part whole req channel) read_is
-
-      pub unread_put : is_of_value mask ≡ true → heard_unread site whole before req channel (put_part_view part) ≡ asks (put req channel mask value) after
-      unread_put is = chosen ∙ ap (λ (b : Bool). cond b (asks (put req channel mask value) after) not_built) is
-
-      pub unread_other : is_of_value mask ≡ false → heard_unread site whole before req channel (put_part_view part) ≡ not_built
-      unread_other is = chosen ∙ ap (λ (b : Bool). cond b (asks (put req channel mask value) after) not_built) is
+      pub unread_put : heard_unread site whole before req channel (put_part_view part) ≡ asks (put req channel mask value) after
+      unread_put = reads ∙ ap (heard_part whole req channel) read_is
 
     pub unread_fault : (types : Types) (fault : MessageFault) → fault.command ≡ whole.command → IsFaultOf (length whole.payload) fault.cause read
         → Hears types (Err (stop_by fault)) (heard_unread site whole before req channel (put_part_view part))

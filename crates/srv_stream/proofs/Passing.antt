@@ -1,12 +1,11 @@
 -- Bytes of a stream, and then more bytes.
-use Rattle.std.proofs.Common.{◌≡◌, ℕ, Bool, true, List, [], ◌∷◌, ◌++◌, Option, None, Some, is_some, Result, Ok, Err, refl, sym, ◌∙◌, ap, subst, inl, append_assoc}
+use Rattle.std.proofs.Common.{◌≡◌, ℕ, true, List, [], ◌∷◌, ◌++◌, Option, Some, is_some, Result, Ok, Err, refl, sym, ◌∙◌, ap, subst, append_assoc}
 use Rattle.std.proofs.lemmas.List.{append-nil}
 use Rattle.pva_frames.proofs.Joins.{fed-join}
 use Rattle.pva_frames.specs.Messages.{Unfinished, events_from}
 use Rattle.pva_frames.specs.Assembled.{Assembled, fed, fed_on, place_of_fault}
 use Rattle.pva_frames.specs.declared.event.Event.{Event}
 use Rattle.pva_frames.specs.declared.fault.FrameFault.{FrameFault}
-use Rattle.histories.specs.History.{IsPrefixOf}
 use Rattle.desk_api.proofs.Adding.{adds_nothing, adds_more, moments_append}
 use Rattle.desk_api.specs.Calls.{Adds, HaveMoment}
 use Rattle.desk_api.specs.History.{IsLegal}
@@ -16,7 +15,7 @@ use Rattle.desk_api.specs.declared.mark.Mark.{Mark}
 use Rattle.desk_api.specs.declared.mark.Seat.{Seat}
 use Rattle.srv_stream.specs.State.{State}
 use Rattle.srv_stream.specs.Steps.{Step, bytes_of, after_step, IsStep, AreSteps, state_after, events_of, marks_of, out_of, NextPart}
-use Rattle.srv_stream.specs.Streams.{stop_of, refused, Stands, Follows, View, Passed, FedOn, FedUpTo, FedPart, FedErr, is_sound}
+use Rattle.srv_stream.specs.Streams.{stop_of, refused, Stands, View, Passed, FedOn, FedUpTo, FedPart, FedErr, is_sound}
 use Rattle.srv_stream.specs.declared.ended.StreamFault.TheVariants as faults
 use Rattle.srv_stream.specs.declared.ended.Ended.{Ended}
 use Rattle.srv_stream.specs.declared.ended.Ended.TheVariants as ends
@@ -126,7 +125,7 @@ module _ {old mid : Seat} {told : Option Moment} {v u : View} {xs : List ℕ} (a
         ∙ ap (λ (z : List ℕ). v.pending ++ z) (sym (out_append site v.state a.steps (x ∷ [])));
   }
 
-  -- the next event isn't in turn
+  -- the next event has no answer
   pub fed_stopped : {new : Seat} (w : View) (ys : List ℕ) (e : Event) (later : List Event) (ended : Ended) → u.stream.events ≡ e ∷ later → stop_of mid.seen.base.site u.state e ≡ Some ended
       → new ≡ mid → w.pending ≡ u.pending → FedUpTo old new told v w (xs ++ ys) ended
   fed_stopped {new} w ys e later ended events stop seat pending =

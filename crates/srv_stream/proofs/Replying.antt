@@ -1,5 +1,5 @@
 -- What each row's function did is what its row says.
-use Rattle.std.proofs.Common.{◌≡◌, ℕ, ◌≤◌, drop, length, Bool, true, ◌&&◌, inl, inr, List, [], ◌∷◌, ◌++◌, Option, None, Some, Result, Ok, Err, refl, sym, ◌∙◌, ap, subst, append_assoc}
+use Rattle.std.proofs.Common.{◌≡◌, ℕ, ◌≤◌, drop, length, Bool, true, inl, inr, List, [], ◌∷◌, ◌++◌, None, Some, Result, Ok, Err, refl, sym, ◌∙◌, ap, subst, append_assoc}
 use Rattle.std.specs.Prelude.{OnOk, OnErr, IsErr, codes}
 use Rattle.std.specs.FinSet.{FinSet}
 use Rattle.std.specs.Ordering.{nat_cmp}
@@ -7,31 +7,28 @@ use Rattle.std.proofs.lemmas.Bool.{false≢true}
 use Rattle.std.proofs.lemmas.List.{append-nil, drop-append-le}
 use Rattle.pva_wire.specs.declared.status.Status.{Status}
 use Rattle.pva_frames.specs.Spelling.{message_bytes}
-use Rattle.pvd_type.specs.Numbers.{leaves}
 use Rattle.pvd_type.specs.Tree.{Tree}
 use Rattle.pvd_type.specs.declared.memory.NoMemory.{NoMemory}
 use Rattle.pvd_value.specs.Data.{Data}
-use Rattle.pva_messages.specs.Fields.{Field, word, byte, status, description, part}
+use Rattle.pva_messages.specs.Fields.{Field, word, byte, status, description}
 use Rattle.pva_messages.specs.Replies as reply
 use Rattle.pva_messages.specs.Replies.{Reply, type_field}
 use Rattle.pva_messages.specs.Subcommands.{begins}
 use Rattle.pva_messages.specs.Written.{canonical}
-use Rattle.desk_api.proofs.Adding.{adds_nothing}
-use Rattle.desk_api.specs.Calls.{Adds, Calls, IsGet, ArePut, HaveMoment}
+use Rattle.desk_api.specs.Calls.{Calls, IsGet, ArePut, HaveMoment}
 use Rattle.desk_api.specs.History.{IsLegal}
 use Rattle.desk_api.specs.Sites.{channel_named}
 use Rattle.desk_api.specs.Types.{type_of}
 use Rattle.desk_api.specs.declared.channel.Channel.{Channel}
-use Rattle.desk_api.specs.declared.history.SiteData.{SiteData}
 use Rattle.desk_api.specs.declared.mark.Mark.{Mark}
 use Rattle.desk_api.specs.declared.mark.Seat.{Seat}
 use Rattle.desk_api.specs.declared.put.Done.{Done}
 use Rattle.desk_api.specs.declared.put.PutAnswer.{PutAnswer}
 use Rattle.journal_core.specs.Moments.{Moment}
 use Rattle.pva_wire.specs.declared.order.Order.{Order}
-use Rattle.srv_stream.specs.State.{State, opening}
-use Rattle.srv_stream.specs.Turns.{Turn, validate, echo, create, begin_get, begin_put, get, put, mistake}
-use Rattle.srv_stream.specs.Rows.{Sent, said, control, methods, greetings, spelled, spelled_all, good, error, created, failed, whole_part, asked, put_status, opened, after_turn, Row, Part}
+use Rattle.srv_stream.specs.State.{State}
+use Rattle.srv_stream.specs.Tasks.{Task, validate, echo, create, begin_get, begin_put, get, put, mistake}
+use Rattle.srv_stream.specs.Rows.{said, control, methods, greetings, spelled, spelled_all, good, error, created, failed, got, asked, put_status, opened, after_task}
 use Rattle.srv_stream.specs.Calls.{Shown, Takes}
 use Rattle.srv_stream.proofs.Rows.{says_this, said_alone, gave_up, get_moments, put_moments}
 
@@ -44,10 +41,10 @@ on_ok (Ok u) a = a
 on_ok (Err e) a = tt
 
 -- Memory ran out, and nothing was written.
-pub gave_up_at : (seat : Seat) (moment : Moment) (s t : State) (out after : List ℕ) (turn : Turn) (result : Result (Unit {0}) NoMemory) → IsErr result → IsLegal seat.seen → after ≡ out
-    → Takes (shown seat s out) (shown seat t after) moment turn result
-gave_up_at seat moment s t out after turn result failed legal same =
-    subst (λ (o : List ℕ). Takes (shown seat s out) (shown seat t o) moment turn result) (sym same) (gave_up seat moment s t out turn result failed legal)
+pub gave_up_at : (seat : Seat) (moment : Moment) (s t : State) (out after : List ℕ) (task : Task) (result : Result (Unit {0}) NoMemory) → IsErr result → IsLegal seat.seen → after ≡ out
+    → Takes (shown seat s out) (shown seat t after) moment task result
+gave_up_at seat moment s t out after task result failed legal same =
+    subst (λ (o : List ℕ). Takes (shown seat s out) (shown seat t o) moment task result) (sym same) (gave_up seat moment s t out task result failed legal)
 
 -- A channel of this name isn't there.
 module _ (seat : Seat) (moment : Moment) (s t : State) (out after : List ℕ) (cid : ℕ) (name : List ℕ) (legal : IsLegal seat.seen) where
@@ -58,18 +55,18 @@ module _ (seat : Seat) (moment : Moment) (s t : State) (out after : List ℕ) (c
       let reply_is : reply.created cid 0xFFFF_FFFF x ≡ created cid (channel_named seat.seen.base.site name) =
       ap (λ (z : Status). reply.created cid 0xFFFF_FFFF z) is ∙ ap (created cid) (sym none) in
       said_alone seat moment s t out after (create cid name) (said (created cid (channel_named seat.seen.base.site name))) result legal (says_this _) refl
-      (on_ok result (state ∙ ap (opened s) (sym none)))
+      (on_ok result (state ∙ ap (opened seat.seen.base.site s) (sym none)))
       (subst (λ (z : Reply). OnOk result (after ≡ out ++ spelled s.order s.segment (said z))) reply_is ok) err
 
   -- It is there, and is open from then on.
-  pub found : (x : Status) (channel : Channel) → channel_named seat.seen.base.site name ≡ Some channel → x ≡ good → t ≡ opened s (Some channel)
+  pub found : (x : Status) (channel : Channel) → channel_named seat.seen.base.site name ≡ Some channel → x ≡ good → t ≡ opened seat.seen.base.site s (Some channel)
       → after ≡ out ++ spelled s.order s.segment (said (reply.created cid 0 x))
       → Takes (shown seat s out) (shown seat t after) moment (create cid name) (Ok tt)
   found x channel some is state ok =
       let reply_is : reply.created cid 0 x ≡ created cid (channel_named seat.seen.base.site name) =
       ap (λ (z : Status). reply.created cid 0 z) is ∙ ap (created cid) (sym some) in
       said_alone seat moment s t out after (create cid name) (said (created cid (channel_named seat.seen.base.site name))) (Ok tt) legal (says_this _) refl
-      (state ∙ ap (opened s) (sym some))
+      (state ∙ ap (opened seat.seen.base.site s) (sym some))
       (ok ∙ ap (λ (z : Reply). out ++ spelled s.order s.segment (said z)) reply_is) tt
 
 -- A request begins: its reply has the whole type of its channel.
@@ -133,26 +130,24 @@ module _ (here there : Seat) (moment : Moment) (s : State) (out : List ℕ) (req
     output = same;
   }
 
-  pub got : (m t : State) (mid after : List ℕ) (ty : Tree) (payload : List ℕ) (result : Result (Unit {0}) NoMemory) → ty ≡ type_of here.seen.base.site channel
-      → payload ≡ canonical s.order (word req ∷ byte 0 ∷ status good ∷ part (record { ty = ty; mask = leaves ty; value = value }) ∷ [])
-      → m ≡ s → mid ≡ out → t ≡ m → OnOk result (after ≡ mid ++ message_bytes m.order true 10 payload m.segment) → OnErr result (after ≡ mid)
+  pub told : (m t : State) (mid after : List ℕ) (ty : Tree) (result : Result (Unit {0}) NoMemory) → ty ≡ type_of here.seen.base.site channel
+      → m ≡ s → mid ≡ out → t ≡ m → OnOk result (after ≡ mid ++ spelled m.order m.segment (said (got req ty value))) → OnErr result (after ≡ mid)
       → Takes (shown here s out) (shown there t after) moment (get req channel) result
-  got m t mid after ty payload (Ok u) ty_is payload_is same still kept ok err = record {
+  told m t mid after ty (Ok u) ty_is same still kept ok err = record {
     marks = calls.marks;
-    sent = said (reply.get req 0 good None (Some (whole_part here.seen.base.site channel value))) ∷ [];
+    sent = said (got req (type_of here.seen.base.site channel) value) ∷ [];
     row = record { value = value; is_get = calls.named; sent_is = refl };
     adds = calls.adds;
     moments = get_moments moment here.seen.base.site channel value calls.marks calls.named;
     state = kept ∙ same;
     output =
         ok
-        ∙ ap (λ (o : List ℕ). o ++ message_bytes m.order true 10 payload m.segment) still
-        ∙ ap (λ (z : State). out ++ message_bytes z.order true 10 payload z.segment) same
-        ∙ ap (λ (p : List ℕ). out ++ message_bytes s.order true 10 p s.segment) payload_is
-        ∙ ap (λ (y : Tree). out ++ message_bytes s.order true 10 (canonical s.order (word req ∷ byte 0 ∷ status good ∷ part (record { ty = y; mask = leaves y; value = value }) ∷ [])) s.segment) ty_is
-        ∙ ap (λ (z : List ℕ). out ++ z) (sym (append-nil (spelled s.order s.segment (said (reply.get req 0 good None (Some (whole_part here.seen.base.site channel value)))))));
+        ∙ ap (λ (o : List ℕ). o ++ spelled m.order m.segment (said (got req ty value))) still
+        ∙ ap (λ (z : State). out ++ spelled z.order z.segment (said (got req ty value))) same
+        ∙ ap (λ (y : Tree). out ++ spelled s.order s.segment (said (got req y value))) ty_is
+        ∙ ap (λ (z : List ℕ). out ++ z) (sym (append-nil (spelled s.order s.segment (said (got req (type_of here.seen.base.site channel) value)))));
   }
-  got m t mid after ty payload (Err x) ty_is payload_is same still kept ok err = got_unsaid t after (Err x) refl (err ∙ still)
+  told m t mid after ty (Err x) ty_is same still kept ok err = got_unsaid t after (Err x) refl (err ∙ still)
 
 -- What became of a put is told, or memory ran out for that.
 module _ (here there : Seat) (moment : Moment) (s : State) (out : List ℕ) (req : ℕ) (channel : Channel) (mask : FinSet nat_cmp) (value : Data) (answer : Result Done PutAnswer)
@@ -245,7 +240,7 @@ echoed seat moment s out after payload result legal ok err =
 
 -- The client was validated, which announced this buffer.
 pub validated_by : (seat : Seat) (moment : Moment) (s t : State) (out after : List ℕ) (buffer : ℕ) (x : Status) → IsLegal seat.seen
-    → t ≡ after_turn seat.seen.base.site s (validate buffer) [] → x ≡ good → after ≡ out ++ spelled s.order s.segment (said (reply.validated x))
+    → t ≡ after_task seat.seen.base.site s (validate buffer) [] → x ≡ good → after ≡ out ++ spelled s.order s.segment (said (reply.validated x))
     → Takes (shown seat s out) (shown seat t after) moment (validate buffer) (Ok tt)
 validated_by seat moment s t out after buffer x legal state is ok =
     said_alone seat moment s t out after (validate buffer) (said (reply.validated good)) (Ok tt) legal (says_this _) refl state

@@ -1,5 +1,5 @@
 -- Rows and their parts.
-use Rattle.std.proofs.Common.{◌≡◌, ℕ, pos, inl, inr, List, [], ◌∷◌, ◌++◌, Option, None, Some, Result, Ok, Err, refl, sym, ◌∙◌, ap, subst}
+use Rattle.std.proofs.Common.{◌≡◌, ℕ, pos, inl, List, [], ◌∷◌, ◌++◌, Some, Result, Ok, Err, refl, sym, ◌∙◌, ap, subst}
 use Rattle.std.specs.Prelude.{OnOk, OnErr, IsErr}
 use Rattle.std.proofs.lemmas.Bool.{false≢true}
 use Rattle.std.proofs.lemmas.List.{append-nil}
@@ -13,19 +13,19 @@ use Rattle.desk_api.specs.declared.put.Done.{Done}
 use Rattle.desk_api.specs.declared.put.PutAnswer.{PutAnswer}
 use Rattle.desk_api.specs.declared.put.PutAnswer.TheVariants as answers
 use Rattle.srv_stream.specs.State.{State}
-use Rattle.srv_stream.specs.Turns.{Turn, pass_over, echo_control, validate, echo, create, begin_get, begin_put, get, put, mistake, Hearing, asks, not_built, unreadable, heard}
+use Rattle.srv_stream.specs.Tasks.{Task, pass_over, echo_control, validate, echo, create, begin_get, begin_put, get, put, mistake, Hearing, asks, not_built, unreadable, heard}
 use Rattle.desk_api.proofs.Adding.{adds_nothing}
 use Rattle.desk_api.specs.History.{IsLegal}
 use Rattle.desk_api.specs.declared.mark.Seat.{Seat}
 use Rattle.pvd_type.specs.declared.memory.NoMemory.{NoMemory}
 use Rattle.srv_stream.specs.Calls.{Takes}
-use Rattle.srv_stream.specs.Rows.{Sent, spelled, Says, Row, Part, after_turn}
+use Rattle.srv_stream.specs.Rows.{Sent, spelled, Says, Row, Part, after_task}
 use Rattle.srv_stream.specs.Steps.{knowing, PartOf, NextPart}
 use Rattle.journal_core.specs.Moments.{Moment}
 
 -- No mark is a part of every row.
 
-pub no_part : (site : SiteData) (s : State) (turn : Turn) → Part site s turn []
+pub no_part : (site : SiteData) (s : State) (task : Task) → Part site s task []
 no_part site s pass_over = refl
 no_part site s (echo_control number) = refl
 no_part site s (validate buffer) = refl
@@ -38,7 +38,7 @@ no_part site s (put req channel mask value) = (record { seconds = pos 0; nanosec
 no_part site s (mistake command req) = refl
 
 pub no_part_of : (site : SiteData) (s : State) (hearing : Hearing) → PartOf site s hearing []
-no_part_of site s (asks turn types) = no_part site (knowing s types) turn
+no_part_of site s (asks task types) = no_part site (knowing s types) task
 no_part_of site s not_built = refl
 no_part_of site s (unreadable fault) = refl
 
@@ -62,11 +62,11 @@ put_moments a (Err (answers.NoMemory done)) marks p = subst (HaveMoment (Some a.
 pub says_this : (these : List Sent) → Says these [] these
 says_this these = record { marks_are = refl; sent_is = refl }
 
-pub said_alone : (seat : Seat) (moment : Moment) (s t : State) (before after : List ℕ) (turn : Turn) (x : Sent) (result : Result (Unit {0}) NoMemory) → IsLegal seat.seen
-    → Row seat.seen.base.site s turn [] (x ∷ []) → Part seat.seen.base.site s turn [] → OnOk result (t ≡ after_turn seat.seen.base.site s turn [])
+pub said_alone : (seat : Seat) (moment : Moment) (s t : State) (before after : List ℕ) (task : Task) (x : Sent) (result : Result (Unit {0}) NoMemory) → IsLegal seat.seen
+    → Row seat.seen.base.site s task [] (x ∷ []) → Part seat.seen.base.site s task [] → OnOk result (t ≡ after_task seat.seen.base.site s task [])
     → OnOk result (after ≡ before ++ spelled s.order s.segment x) → OnErr result (after ≡ before)
-    → Takes (record { seat = seat; state = s; output = before }) (record { seat = seat; state = t; output = after }) moment turn result
-said_alone seat moment s t before after turn x (Ok u) legal row part state ok err = record {
+    → Takes (record { seat = seat; state = s; output = before }) (record { seat = seat; state = t; output = after }) moment task result
+said_alone seat moment s t before after task x (Ok u) legal row part state ok err = record {
   marks = [];
   sent = x ∷ [];
   row = row;
@@ -75,7 +75,7 @@ said_alone seat moment s t before after turn x (Ok u) legal row part state ok er
   state = state;
   output = ok ∙ ap (λ (z : List ℕ). before ++ z) (sym (append-nil (spelled s.order s.segment x)));
 }
-said_alone seat moment s t before after turn x (Err e) legal row part state ok err = record {
+said_alone seat moment s t before after task x (Err e) legal row part state ok err = record {
   marks = [];
   part_is = part;
   adds = adds_nothing seat legal;
@@ -84,7 +84,7 @@ said_alone seat moment s t before after turn x (Err e) legal row part state ok e
 }
 
 -- memory ran out before anything was asked of the desk or written
-pub gave_up : (seat : Seat) (moment : Moment) (s t : State) (out : List ℕ) (turn : Turn) (result : Result (Unit {0}) NoMemory) → IsErr result → IsLegal seat.seen
-    → Takes (record { seat = seat; state = s; output = out }) (record { seat = seat; state = t; output = out }) moment turn result
-gave_up seat moment s t out turn (Ok u) is_err legal = absurd (false≢true is_err)
-gave_up seat moment s t out turn (Err e) is_err legal = record { marks = []; part_is = no_part seat.seen.base.site s turn; adds = adds_nothing seat legal; moments = tt; output = refl }
+pub gave_up : (seat : Seat) (moment : Moment) (s t : State) (out : List ℕ) (task : Task) (result : Result (Unit {0}) NoMemory) → IsErr result → IsLegal seat.seen
+    → Takes (record { seat = seat; state = s; output = out }) (record { seat = seat; state = t; output = out }) moment task result
+gave_up seat moment s t out task (Ok u) is_err legal = absurd (false≢true is_err)
+gave_up seat moment s t out task (Err e) is_err legal = record { marks = []; part_is = no_part seat.seen.base.site s task; adds = adds_nothing seat legal; moments = tt; output = refl }

@@ -1,5 +1,5 @@
 -- What the session says may be said.
-use Rattle.std.proofs.Common.{◌≡◌, ◌==◌, ℕ, Bool, true, false, cond, List, None, Some, refl, sym, ◌∙◌, ap, subst}
+use Rattle.std.proofs.Common.{◌≡◌, ◌==◌, ℕ, Bool, true, false, cond, List, None, refl, sym, ◌∙◌, ap, subst}
 use Rattle.pva_wire.specs.declared.status.Status.{Status}
 use Rattle.pva_wire.specs.declared.status.StatusKind.{StatusKind}
 use Rattle.pva_wire.specs.declared.status.StatusKind.TheVariants.{Good, Warning, Error, Fatal}

@@ -1,6 +1,5 @@
 -- Steps, and then more steps.
-use Rattle.std.proofs.Common.{◌≡◌, ℕ, List, [], ◌∷◌, ◌++◌, Option, None, Some, refl, sym, ◌∙◌, ap, subst, append_assoc}
-use Rattle.pvd_desc.specs.Types.{Types}
+use Rattle.std.proofs.Common.{◌≡◌, ℕ, List, [], ◌∷◌, ◌++◌, Option, None, Some, refl, sym, ◌∙◌, ap, append_assoc}
 use Rattle.pva_frames.specs.declared.event.Event.{Event}
 use Rattle.desk_api.proofs.Naming.{found_is_channel}
 use Rattle.desk_api.specs.Sites.{channel_named}
@@ -8,8 +7,8 @@ use Rattle.desk_api.specs.declared.channel.Channel.{Channel}
 use Rattle.desk_api.specs.declared.history.SiteData.{SiteData}
 use Rattle.desk_api.specs.declared.mark.Mark.{Mark}
 use Rattle.srv_stream.specs.State.{State}
-use Rattle.srv_stream.specs.Turns.{Turn, pass_over, echo_control, validate, echo, create, begin_get, begin_put, get, put, mistake, Hearing, asks, not_built, unreadable, heard}
-use Rattle.srv_stream.specs.Rows.{Sent, opened, after_turn}
+use Rattle.srv_stream.specs.Tasks.{Task, pass_over, echo_control, validate, echo, create, begin_get, begin_put, get, put, mistake, Hearing, asks, not_built, unreadable, heard}
+use Rattle.srv_stream.specs.Rows.{opened, after_task}
 use Rattle.srv_stream.specs.Steps.{Step, knowing, after_hearing, bytes_of, after_step, AreSteps, state_after, events_of, marks_of, out_of}
 use Rattle.srv_stream.specs.Hearings.{IsOf}
 
@@ -37,24 +36,24 @@ out_append site s (x ∷ xs) ys =
 
 -- A session's channel stays one of the site.
 
-opened_on_site : (site : SiteData) (s : State) (name : List ℕ) (o : Option Channel) → channel_named site name ≡ o → IsOf site s → IsOf site (opened s o)
+opened_on_site : (site : SiteData) (s : State) (name : List ℕ) (o : Option Channel) → channel_named site name ≡ o → IsOf site s → IsOf site (opened site s o)
 opened_on_site site s name None is ok = ok
-opened_on_site site s name (Some channel) is ok = found_is_channel site name channel is
+opened_on_site site s name (Some channel) is ok = record { channel_is = found_is_channel site name channel is; all_are = refl }
 
-pub turn_on_site : (site : SiteData) (s : State) (turn : Turn) (marks : List Mark) → IsOf site s → IsOf site (after_turn site s turn marks)
-turn_on_site site s pass_over marks ok = ok
-turn_on_site site s (echo_control number) marks ok = ok
-turn_on_site site s (validate buffer) marks ok = ok
-turn_on_site site s (echo payload) marks ok = ok
-turn_on_site site s (create cid name) marks ok = opened_on_site site s name (channel_named site name) refl ok
-turn_on_site site s (begin_get req sub channel) marks ok = ok
-turn_on_site site s (begin_put req sub channel) marks ok = ok
-turn_on_site site s (get req channel) marks ok = ok
-turn_on_site site s (put req channel mask value) marks ok = ok
-turn_on_site site s (mistake command req) marks ok = ok
+pub task_on_site : (site : SiteData) (s : State) (task : Task) (marks : List Mark) → IsOf site s → IsOf site (after_task site s task marks)
+task_on_site site s pass_over marks ok = ok
+task_on_site site s (echo_control number) marks ok = ok
+task_on_site site s (validate buffer) marks ok = ok
+task_on_site site s (echo payload) marks ok = ok
+task_on_site site s (create cid name) marks ok = opened_on_site site s name (channel_named site name) refl ok
+task_on_site site s (begin_get req sub channel) marks ok = ok
+task_on_site site s (begin_put req sub channel) marks ok = ok
+task_on_site site s (get req channel) marks ok = ok
+task_on_site site s (put req channel mask value) marks ok = ok
+task_on_site site s (mistake command req) marks ok = ok
 
 hearing_on_site : (site : SiteData) (s : State) (hearing : Hearing) (marks : List Mark) → IsOf site s → IsOf site (after_hearing site s hearing marks)
-hearing_on_site site s (asks turn types) marks ok = turn_on_site site (knowing s types) turn marks ok
+hearing_on_site site s (asks task types) marks ok = task_on_site site (knowing s types) task marks ok
 hearing_on_site site s not_built marks ok = ok
 hearing_on_site site s (unreadable fault) marks ok = ok
 

@@ -1,5 +1,5 @@
 -- What ends a connection before its stream does: a fault of the stream, or a message that isn't served so far.
-use Rattle.std.proofs.Common.{◌≡◌, Bool, true, false, List, [], ◌∷◌, Option, None, Some, Result, Ok, Err, refl, sym, ap}
+use Rattle.std.proofs.Common.{◌≡◌, Bool, true, false, List, [], ◌∷◌, Option, None, Some, Result, Ok, Err, sym, ap}
 use Rattle.std.proofs.lemmas.Option.{none-some}
 use Rattle.pva_frames.specs.Messages.{Unfinished}
 use Rattle.pva_frames.specs.declared.event.Whole.{Whole}
@@ -8,7 +8,7 @@ use Rattle.pva_frames.specs.declared.event.Event.TheVariants.{Message, Control}
 use Rattle.pva_frames.specs.declared.fault.FrameFault.{FrameFault}
 use Rattle.desk_api.specs.declared.history.SiteData.{SiteData}
 use Rattle.srv_stream.specs.State.{State}
-use Rattle.srv_stream.specs.Turns.{Hearing, asks, not_built, unreadable, heard}
+use Rattle.srv_stream.specs.Tasks.{Hearing, asks, not_built, unreadable, heard}
 use Rattle.srv_stream.specs.Streams.{stop_at, stop_of, refused, Stands}
 use Rattle.srv_stream.specs.declared.ended.Ended.{Ended}
 use Rattle.srv_stream.specs.declared.ended.Ended.TheVariants as ends
@@ -19,7 +19,7 @@ is_stop (ends.NotBuilt command place) = true
 is_stop other = false
 
 -- what an option has, or else this
-abbrev ended_in : Ended → Option Ended → Ended
+abbrev pub ended_in : Ended → Option Ended → Ended
 ended_in d None = d
 ended_in d (Some ended) = ended
 
@@ -28,7 +28,7 @@ refusal_stops (Ok left) ended is = absurd (none-some ended (sym is))
 refusal_stops (Err fault) ended is = ap (λ (o : Option Ended). is_stop (ended_in ended o)) is
 
 hearing_stops : (m : Whole) (hearing : Hearing) (ended : Ended) → Some ended ≡ stop_at m hearing → is_stop ended ≡ true
-hearing_stops m (asks turn types) ended is = absurd (none-some ended (sym is))
+hearing_stops m (asks task types) ended is = absurd (none-some ended (sym is))
 hearing_stops m not_built ended is = ap (λ (o : Option Ended). is_stop (ended_in ended o)) is
 hearing_stops m (unreadable fault) ended is = ap (λ (o : Option Ended). is_stop (ended_in ended o)) is
 

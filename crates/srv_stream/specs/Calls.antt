@@ -7,11 +7,11 @@ use Rattle.desk_api.specs.declared.history.SiteData.{SiteData}
 use Rattle.desk_api.specs.declared.mark.Mark.{Mark}
 use Rattle.desk_api.specs.declared.mark.Seat.{Seat}
 use Rattle.srv_stream.specs.State.{State}
-use Rattle.srv_stream.specs.Turns.{Turn, Hearing, asks, not_built, unreadable, heard}
-use Rattle.srv_stream.specs.Rows.{Sent, spelled_all, Row, Part, after_turn}
+use Rattle.srv_stream.specs.Tasks.{Task, Hearing, not_built, unreadable, heard}
+use Rattle.srv_stream.specs.Rows.{Sent, spelled_all, Row, Part, after_task}
 use Rattle.srv_stream.specs.Steps.{IsAnswer, PartOf, after_event}
-use Rattle.srv_stream.specs.declared.turn.SessionStop.{SessionStop}
-use Rattle.srv_stream.specs.declared.turn.SessionStop.TheVariants as stops
+use Rattle.srv_stream.specs.declared.task.SessionStop.{SessionStop}
+use Rattle.srv_stream.specs.declared.task.SessionStop.TheVariants as stops
 use Rattle.journal_core.specs.Moments.{Moment}
 
 -- what a session and its desk show
@@ -23,14 +23,14 @@ pub record Shown : Type 0 where
 abbrev pub site_of : Shown → SiteData
 site_of x = x.seat.seen.base.site
 
--- A turn was answered by its row. An entry that it made has the moment of the call.
-pub record Answered (old new : Shown) (moment : Moment) (turn : Turn) : Type 0 where
+-- A task was answered by its row. An entry that it made has the moment of the call.
+pub record Answered (old new : Shown) (moment : Moment) (task : Task) : Type 0 where
   pub marks : List Mark
   pub sent : List Sent
-  pub row : Row (site_of old) old.state turn marks sent
+  pub row : Row (site_of old) old.state task marks sent
   pub adds : Adds old.seat new.seat marks
   pub moments : HaveMoment (Some moment) marks
-  pub state : new.state ≡ after_turn (site_of old) old.state turn marks
+  pub state : new.state ≡ after_task (site_of old) old.state task marks
   pub output : new.output ≡ old.output ++ spelled_all old.state.order old.state.segment sent
 
 -- Memory ran out in it.
@@ -42,9 +42,9 @@ pub record GaveUp (old new : Shown) (moment : Moment) (part : List Mark → Type
   pub output : new.output ≡ old.output
 
 -- One call of a row's function, by its answer.
-abbrev pub Takes : Shown → Shown → Moment → Turn → Result (Unit {0}) NoMemory → Type 0
-Takes old new moment turn (Ok u) = Answered old new moment turn
-Takes old new moment turn (Err e) = GaveUp old new moment (Part (site_of old) old.state turn)
+abbrev pub Takes : Shown → Shown → Moment → Task → Result (Unit {0}) NoMemory → Type 0
+Takes old new moment task (Ok u) = Answered old new moment task
+Takes old new moment task (Err e) = GaveUp old new moment (Part (site_of old) old.state task)
 
 -- an event was answered
 pub record Handled (old new : Shown) (moment : Moment) (e : Event) : Type 0 where
@@ -56,13 +56,13 @@ pub record Handled (old new : Shown) (moment : Moment) (e : Event) : Type 0 wher
   pub state : new.state ≡ after_event (site_of old) old.state e marks
   pub output : new.output ≡ old.output ++ spelled_all old.state.order old.state.segment sent
 
--- An event that is always in turn was answered, or memory ran out in it.
+-- An event that always has an answer was answered, or memory ran out in it.
 abbrev pub Responds : Shown → Shown → Moment → Event → Result (Unit {0}) NoMemory → Type 0
 Responds old new moment e (Ok u) = Handled old new moment e
 Responds old new moment e (Err no_memory) =
     GaveUp old new moment (PartOf (site_of old) old.state (heard (site_of old) old.state e))
 
--- It isn't in turn, and nothing has changed.
+-- It has no answer, and nothing has changed.
 pub record Stopped (old new : Shown) (e : Event) (hearing : Hearing) : Type 0 where
   pub heard_is : heard (site_of old) old.state e ≡ hearing
   pub seat : new.seat ≡ old.seat

@@ -1,5 +1,5 @@
 pub mod State
-pub mod Turns
+pub mod Tasks
 pub mod Rows
 pub mod Steps
 pub mod Calls

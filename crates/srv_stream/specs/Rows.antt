@@ -1,4 +1,4 @@
--- What a session says to what it is asked: one row for each turn, which names the marks of its desk and the replies
+-- What a session says to what it is asked: one row for each task, which names the marks of its desk and the replies
 -- (pvAccess Protocol Specification, "Application Messages").
 use Rattle.std.specs.Prelude.{◌≡◌, ◌⊎◌, ℕ, true, ◌==◌, List, [], ◌∷◌, ◌++◌, Option, None, Some, Result, Ok, Err, codes, if◌then◌else◌}
 use Rattle.std.specs.FinSet.{FinSet}
@@ -7,6 +7,7 @@ use Rattle.pva_wire.specs.declared.order.Order.{Order}
 use Rattle.pva_wire.specs.declared.status.Status.{Status}
 use Rattle.pva_wire.specs.declared.status.StatusKind.TheVariants.{Good, Error}
 use Rattle.pvd_type.specs.Numbers.{leaves}
+use Rattle.pvd_type.specs.Tree.{Tree}
 use Rattle.pvd_value.specs.Data.{Data}
 use Rattle.pva_frames.specs.Spelling.{message_bytes, control_bytes}
 use Rattle.pva_messages.specs.Fields.{PartData}
@@ -26,7 +27,7 @@ use Rattle.desk_api.specs.declared.put.Done.{Done}
 use Rattle.desk_api.specs.declared.put.PutAnswer.{PutAnswer}
 use Rattle.desk_api.specs.declared.put.PutAnswer.TheVariants as answers
 use Rattle.srv_stream.specs.State.{State, segment_for}
-use Rattle.srv_stream.specs.Turns.{Turn, pass_over, echo_control, validate, echo, create, begin_get, begin_put, get, put, mistake}
+use Rattle.srv_stream.specs.Tasks.{Task, pass_over, echo_control, validate, echo, create, begin_get, begin_put, get, put, mistake}
 use Rattle.journal_core.specs.Moments.{Moment}
 
 -- What is sent: a reply, or a control message.
@@ -102,16 +103,19 @@ BeginGetRow site req sub channel = Says (said (reply.get req sub good (Some (typ
 abbrev pub BeginPutRow : SiteData → ℕ → ℕ → Channel → List Mark → List Sent → Type 0
 BeginPutRow site req sub channel = Says (said (reply.put req sub good (Some (type_of site channel)) None) ∷ [])
 
--- all leaves of a value of the channel
-abbrev pub whole_part : SiteData → Channel → Data → PartData
-whole_part site channel value =
-    record { ty = type_of site channel; mask = leaves (type_of site channel); value = value }
+-- all leaves of a value of this type
+abbrev pub whole_part : Tree → Data → PartData
+whole_part ty value = record { ty = ty; mask = leaves ty; value = value }
+
+-- the reply to a get that found a value of this type
+abbrev pub got : ℕ → Tree → Data → Reply
+got req ty value = reply.get req 0 good None (Some (whole_part ty value))
 
 -- the value that the channel shows of what the mark found
 pub record GetRow (site : SiteData) (req : ℕ) (channel : Channel) (marks : List Mark) (sent : List Sent) : Type 0 where
   pub value : Data
   pub is_get : IsGet site channel value marks
-  pub sent_is : sent ≡ said (reply.get req 0 good None (Some (whole_part site channel value))) ∷ []
+  pub sent_is : sent ≡ said (got req (type_of site channel) value) ∷ []
 
 -- what a put asks of the desk, at some moment
 abbrev pub asked : SiteData → Channel → FinSet nat_cmp → Data → Moment → Asked
@@ -150,8 +154,8 @@ failed command req status = if command == 10 then reply.get req 0 status None No
 abbrev pub MistakeRow : ℕ → ℕ → List Mark → List Sent → Type 0
 MistakeRow command req = Says (said (failed command req (error (codes "wrong phase"))) ∷ [])
 
--- What the session says to this turn.
-abbrev pub Row : SiteData → State → Turn → List Mark → List Sent → Type 0
+-- What the session says to this task.
+abbrev pub Row : SiteData → State → Task → List Mark → List Sent → Type 0
 Row site s pass_over = PassOverRow
 Row site s (echo_control number) = EchoControlRow number
 Row site s (validate buffer) = ValidateRow
@@ -175,7 +179,7 @@ abbrev pub PutPart : SiteData → Channel → FinSet nat_cmp → Data → List M
 PutPart site channel mask value marks =
     (moment : Moment) × ((answer : Result Done PutAnswer) × ArePut (asked site channel mask value moment) answer marks)
 
-abbrev pub Part : SiteData → State → Turn → List Mark → Type 0
+abbrev pub Part : SiteData → State → Task → List Mark → Type 0
 Part site s pass_over = NoPart
 Part site s (echo_control number) = NoPart
 Part site s (validate buffer) = NoPart
@@ -187,20 +191,20 @@ Part site s (get req channel) = GetPart site channel
 Part site s (put req channel mask value) = PutPart site channel mask value
 Part site s (mistake command req) = NoPart
 
--- The state that a turn leaves, with the marks that were made.
+-- The state that a task leaves, with the marks that were made.
 
-abbrev pub opened : State → Option Channel → State
-opened s None = s
-opened s (Some channel) = record s { channel = Some channel }
+abbrev pub opened : SiteData → State → Option Channel → State
+opened site s None = s
+opened site s (Some channel) = record s { channel = Some channel; all = leaves (type_of site channel) }
 
-abbrev pub after_turn : SiteData → State → Turn → List Mark → State
-after_turn site s pass_over marks = s
-after_turn site s (echo_control number) marks = s
-after_turn site s (validate buffer) marks = record s { validated = true; segment = segment_for buffer }
-after_turn site s (echo payload) marks = s
-after_turn site s (create cid name) marks = opened s (channel_named site name)
-after_turn site s (begin_get req sub channel) marks = record s { get = Some req }
-after_turn site s (begin_put req sub channel) marks = record s { put = Some req }
-after_turn site s (get req channel) marks = s
-after_turn site s (put req channel mask value) marks = s
-after_turn site s (mistake command req) marks = s
+abbrev pub after_task : SiteData → State → Task → List Mark → State
+after_task site s pass_over marks = s
+after_task site s (echo_control number) marks = s
+after_task site s (validate buffer) marks = record s { validated = true; segment = segment_for buffer }
+after_task site s (echo payload) marks = s
+after_task site s (create cid name) marks = opened site s (channel_named site name)
+after_task site s (begin_get req sub channel) marks = record s { get = Some req }
+after_task site s (begin_put req sub channel) marks = record s { put = Some req }
+after_task site s (get req channel) marks = s
+after_task site s (put req channel mask value) marks = s
+after_task site s (mistake command req) marks = s

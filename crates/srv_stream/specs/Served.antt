@@ -78,7 +78,7 @@ pub record AtEnd (site : SiteData) (order : Order) (start end : Wire) (read writ
   pub ends : Rose start.ends end.ends
   pub faults : end.faults ≡ start.faults
 
--- a header is refused, or an event isn't in turn: all replies before it were written
+-- a header is refused, or an event has no answer: all replies before it were written
 pub record AtTrouble (site : SiteData) (order : Order) (start end : Wire) (read written : List ℕ) (log : List Mark)
     (ended : Ended) : Type 0 where
   pub whole : Whole site order read log written (Some ended)
@@ -118,7 +118,7 @@ pub record AtSpent (site : SiteData) (order : Order) (start end : Wire) (turns :
   pub bound : end.idles + 1 < 2 ^ 64 → start.idles + calls ≤ end.idles + length read + length written + 1
   pub faults : end.faults ≡ start.faults
 
--- Memory ran out: some events were answered, and marks of the row of the next, where it is in turn, may stand before
+-- Memory ran out: some events were answered, and marks of the row of the next, where it has an answer, may stand before
 -- the endings. These are of the state that those marks leave.
 pub record AtNoMemory (site : SiteData) (order : Order) (start end : Wire) (read written : List ℕ)
     (log : List Mark) : Type 0 where
@@ -150,18 +150,18 @@ HasCause site order start end turns read written log (ends.Spent calls) =
     AtSpent site order start end turns read written log calls
 HasCause site order start end turns read written log ends.NoMemory = AtNoMemory site order start end read written log
 
--- Each event is in turn when the dialogue comes to it, whatever front of the log its marks are.
-abbrev pub AllInTurn : SiteData → Order → List Event → List Mark → Type 0
-AllInTurn site order events log =
+-- Each event has an answer when the dialogue comes to it, whatever front of the log its marks are.
+abbrev pub AllAnswered : SiteData → Order → List Event → List Mark → Type 0
+AllAnswered site order events log =
     (steps : List Step) (e : Event) (more : List Event) → AreSteps site (opening order) steps
     → events ≡ events_of steps ++ e ∷ more → IsPrefixOf (marks_of steps) log
     → stop_of site (state_after site (opening order) steps) e ≡ None
 
--- The link's faults don't rise, all that was read is whole messages that are in turn, and the turns are enough.
+-- The link's faults don't rise, all that was read is whole messages that have answers, and the turns are enough.
 pub record IsSmooth (site : SiteData) (order : Order) (start end : Wire) (turns : ℕ) (read written : List ℕ)
     (log : List Mark) : Type 0 where
   pub faults : Rose start.faults end.faults → ⊥
-  pub in_turn : AllInTurn site order (events_from 0 None read) log
+  pub answered : AllAnswered site order (events_from 0 None read) log
   pub whole : rest_from 0 None read ≡ None
   pub idles : end.idles + 1 < 2 ^ 64
   pub turns_ : end.idles + length read + length written + 2 ≤ start.idles + turns

@@ -2,19 +2,22 @@
 -- "Channel Life-cycle").
 use Rattle.std.specs.Prelude.{ℕ, ◌-◌, Bool, false, Option, None, nat_lt, if◌then◌else◌}
 use Rattle.std.specs.FinMap.{empty}
+use Rattle.std.specs.FinSet.{FinSet, empty as no_leaves}
+use Rattle.std.specs.Ordering.{nat_cmp}
 use Rattle.pva_wire.specs.declared.order.Order.{Order}
 use Rattle.pvd_desc.specs.Types.{Types}
 use Rattle.desk_api.specs.declared.channel.Channel.{Channel}
 
 -- The byte order that it writes in; whether a validation was answered OK; the most payload that a frame to the client
--- has; the types that the client has defined; the channel that has the server's id 0; and the ids of the get and of the
--- put that have begun on it.
+-- has; the types that the client has defined; the channel that has the server's id 0, and the leaves of its type, none
+-- before; and the ids of the get and of the put that have begun on it.
 pub record State : Type 0 where
   pub order : Order
   pub validated : Bool
   pub segment : ℕ
   pub types : Types
   pub channel : Option Channel
+  pub all : FinSet nat_cmp
   pub get : Option ℕ
   pub put : Option ℕ
 
@@ -34,6 +37,7 @@ opening order = record {
   segment = segment_for 65536;
   types = empty;
   channel = None;
+  all = no_leaves;
   get = None;
   put = None;
 }

@@ -5,8 +5,8 @@ use Rattle.pvd_desc.specs.Types.{Types}
 use Rattle.desk_api.specs.declared.history.SiteData.{SiteData}
 use Rattle.desk_api.specs.declared.mark.Mark.{Mark}
 use Rattle.srv_stream.specs.State.{State}
-use Rattle.srv_stream.specs.Turns.{Hearing, asks, not_built, unreadable, heard}
-use Rattle.srv_stream.specs.Rows.{Sent, spelled_all, Row, NoPart, Part, after_turn}
+use Rattle.srv_stream.specs.Tasks.{Hearing, asks, not_built, unreadable, heard}
+use Rattle.srv_stream.specs.Rows.{Sent, spelled_all, Row, NoPart, Part, after_task}
 
 -- One step: an event of the client, the marks that it made, and what the session sent.
 pub record Step : Type 0 where
@@ -18,15 +18,15 @@ pub record Step : Type 0 where
 abbrev pub knowing : State → Types → State
 knowing s types = record s { types = types }
 
--- what the row of a hearing says; an event that isn't in turn has none
+-- what the row of a hearing says; an event that has no answer has none
 abbrev pub IsAnswer : SiteData → State → Hearing → List Mark → List Sent → Type 0
-IsAnswer site s (asks turn types) marks sent = Row site (knowing s types) turn marks sent
+IsAnswer site s (asks task types) marks sent = Row site (knowing s types) task marks sent
 IsAnswer site s not_built marks sent = ⊥
 IsAnswer site s (unreadable fault) marks sent = ⊥
 
--- the state behind it, of its turn and its marks
+-- the state behind it, of its task and its marks
 abbrev pub after_hearing : SiteData → State → Hearing → List Mark → State
-after_hearing site s (asks turn types) marks = after_turn site (knowing s types) turn marks
+after_hearing site s (asks task types) marks = after_task site (knowing s types) task marks
 after_hearing site s not_built marks = s
 after_hearing site s (unreadable fault) marks = s
 
@@ -62,11 +62,11 @@ abbrev pub out_of : SiteData → State → List Step → List ℕ
 out_of site s [] = []
 out_of site s (x ∷ xs) = bytes_of s x ++ out_of site (after_step site s x) xs
 
--- The marks that may stand where memory ran out in the row of the next event. Of an event that isn't in turn there are
+-- The marks that may stand where memory ran out in the row of the next event. Of an event that has no answer there are
 -- none.
 
 abbrev pub PartOf : SiteData → State → Hearing → List Mark → Type 0
-PartOf site s (asks turn types) marks = Part site (knowing s types) turn marks
+PartOf site s (asks task types) marks = Part site (knowing s types) task marks
 PartOf site s not_built marks = NoPart marks
 PartOf site s (unreadable fault) marks = NoPart marks
 

@@ -14,10 +14,10 @@ use Rattle.desk_api.specs.declared.history.SiteData.{SiteData}
 use Rattle.desk_api.specs.declared.mark.Mark.{Mark}
 use Rattle.desk_api.specs.declared.mark.Seat.{Seat}
 use Rattle.srv_stream.specs.State.{State}
-use Rattle.srv_stream.specs.Turns.{Hearing, asks, not_built, unreadable, heard}
+use Rattle.srv_stream.specs.Tasks.{Hearing, asks, not_built, unreadable, heard}
 use Rattle.srv_stream.specs.Steps.{Step, bytes_of, after_step, IsStep, AreSteps, state_after, events_of, marks_of, out_of, PartOf, NextPart}
-use Rattle.srv_stream.specs.declared.turn.SessionStop.{SessionStop}
-use Rattle.srv_stream.specs.declared.turn.SessionStop.TheVariants as stops
+use Rattle.srv_stream.specs.declared.task.SessionStop.{SessionStop}
+use Rattle.srv_stream.specs.declared.task.SessionStop.TheVariants as stops
 use Rattle.srv_stream.specs.declared.ended.StreamFault.TheVariants as faults
 use Rattle.srv_stream.specs.declared.ended.Ended.{Ended}
 use Rattle.srv_stream.specs.declared.ended.Ended.TheVariants as ends
@@ -33,13 +33,13 @@ abbrev pub is_sound : Result Unfinished FrameFault → Bool
 is_sound (Ok left) = is_unfinished left
 is_sound (Err fault) = true
 
--- how a message that isn't in turn ends the connection
+-- how a message that has no answer ends the connection
 abbrev pub stop_at : Whole → Hearing → Option Ended
-stop_at whole (asks turn types) = None
+stop_at whole (asks task types) = None
 stop_at whole not_built = Some (ends.NotBuilt whole.command whole.place)
 stop_at whole (unreadable fault) = Some (ends.Bad (faults.Message fault) whole.place)
 
--- the same of every event; control messages always are in turn
+-- the same of every event; control messages always have an answer
 abbrev pub stop_of : SiteData → State → Event → Option Ended
 stop_of site s (Message whole) = stop_at whole (heard site s (Message whole))
 stop_of site s (Control command number) = None
@@ -49,8 +49,8 @@ abbrev pub refused : Result Unfinished FrameFault → Option Ended
 refused (Ok left) = None
 refused (Err fault) = Some (ends.Bad (faults.Frame fault) (place_of_fault fault))
 
--- What stands behind the events that were answered: nothing, or a header that is refused; or an event that isn't in
--- turn.
+-- What stands behind the events that were answered: nothing, or a header that is refused; or an event that has no
+-- answer.
 abbrev pub Stands : SiteData → State → List Event → Result Unfinished FrameFault → Option Ended → Type 0
 Stands site s [] left trouble = trouble ≡ refused left
 Stands site s (e ∷ more) left trouble = (trouble ≡ stop_of site s e) × (is_some (stop_of site s e) ≡ true)

@@ -8,7 +8,7 @@ use Rattle.desk_api.specs.declared.mark.Seat.{Seat}
 use Rattle.srv_stream.specs.State.{State}
 use Rattle.srv_stream.specs.State as states
 use Rattle.srv_stream.specs.Rows.{greeting}
-use Rattle.srv_stream.specs.Turns.{Turn}
+use Rattle.srv_stream.specs.Tasks.{Task}
 use Rattle.srv_stream.specs.Calls.{Shown, Takes, Responds}
 use Rattle.pva_frames.specs.declared.event.Event.{Event}
 use Rattle.srv_stream.specs.Streams.{View}
@@ -23,6 +23,7 @@ state_of s = record {
   segment = s.segment;
   types = s.types;
   channel = s.channel;
+  all = s.all;
   get = s.get;
   put = s.put;
 }
@@ -36,21 +37,21 @@ abbrev pub show : Seat → Session → Shown
 show seat s = record { seat = seat; state = state_of s; output = output_of s }
 
 -- A row's function was called with the desk at one seat and left it at another; then the sessions, the moment, the
--- turn, and what it answered.
-abbrev pub AnswersTurn : Seat → Seat → Session → Session → Moment → Turn → Result (Unit {0}) NoMemory → Type 0
-AnswersTurn here there old new moment turn result = Takes (show here old) (show there new) moment turn result
+-- task, and what it answered.
+abbrev pub AnswersTask : Seat → Seat → Session → Session → Moment → Task → Result (Unit {0}) NoMemory → Type 0
+AnswersTask here there old new moment task result = Takes (show here old) (show there new) moment task result
 
 -- The same at every moment, of a row that makes no entry.
-abbrev pub AnswersAnytime : Seat → Seat → Session → Session → Turn → Result (Unit {0}) NoMemory → Type 0
-AnswersAnytime here there old new turn result = (moment : Moment) → AnswersTurn here there old new moment turn result
+abbrev pub AnswersAnytime : Seat → Seat → Session → Session → Task → Result (Unit {0}) NoMemory → Type 0
+AnswersAnytime here there old new task result = (moment : Moment) → AnswersTask here there old new moment task result
 
 -- The same beside this desk, which isn't asked for anything that makes a mark, and beside every one.
 
-abbrev pub AnswersBeside : Seat → Session → Session → Turn → Result (Unit {0}) NoMemory → Type 0
-AnswersBeside seat old new turn result = IsLegal seat.seen → AnswersAnytime seat seat old new turn result
+abbrev pub AnswersBeside : Seat → Session → Session → Task → Result (Unit {0}) NoMemory → Type 0
+AnswersBeside seat old new task result = IsLegal seat.seen → AnswersAnytime seat seat old new task result
 
-abbrev pub AnswersAlone : Session → Session → Turn → Result (Unit {0}) NoMemory → Type 0
-AnswersAlone old new turn result = (seat : Seat) → AnswersBeside seat old new turn result
+abbrev pub AnswersAlone : Session → Session → Task → Result (Unit {0}) NoMemory → Type 0
+AnswersAlone old new task result = (seat : Seat) → AnswersBeside seat old new task result
 
 -- a control message was handled, beside every desk's seat and at every moment
 abbrev pub HandlesControl : Session → Session → Event → Result (Unit {0}) NoMemory → Type 0

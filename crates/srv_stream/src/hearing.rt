@@ -1,27 +1,17 @@
 // What a session hears in a message.
 ghost use Rattle.std.specs.Prelude.{◌≡◌};
 ghost use Rattle.pva_messages.specs.Views.{valued_view};
-ghost use Rattle.srv_stream.specs.Turns.{is_id, is_of_all, is_of_value};
+ghost use Rattle.srv_stream.specs.Tasks.{is_id, is_of_all};
 
+use crate::command::{ECHO, GET, PUT, VALIDATION};
 use crate::session::Session;
-use crate::turn::{Putting, SessionStop, Turn};
+use crate::task::{Putting, SessionStop, Task};
 use desk_api::{Channel, Desk};
 use pva_frames::Lent;
 use pva_messages::{PutPart, ToServer, begins, read_request, read_request_part};
-use pvd_type::{BitSet, Name, PvType, Shape};
+use pvd_type::{Name, PvType, Shape};
 use pvd_value::PvValue;
 use std::alloc::Global;
-
-const VALIDATION: u8 = 0x01;
-
-const ECHO: u8 = 0x02;
-
-const GET: u8 = 0x0A;
-
-const PUT: u8 = 0x0B;
-
-/// The number of the leaf `value` (Normative Types 1.0, "NTScalar").
-const VALUE: u32 = 1;
 
 /// Whether a request has begun under this id.
 fn is_id(req: u32, begun: Option<u32>) -> bool
@@ -43,13 +33,6 @@ fn is_of_all(request: &Option<(PvType, PvValue)>) -> bool
     }
 }
 
-/// Whether the leaf `value` alone is marked.
-fn is_of_value(mask: &BitSet) -> bool
-    ensures { result ≡ is_of_value mask.now }
-{
-    mask.first_from(0) == Some(VALUE) && mask.first_from(VALUE + 1).is_none()
-}
-
 impl Session {
     ghost use Rattle.std.specs.Prelude.{IfOk, IsTrue, length};
     ghost use Rattle.pva_frames.specs.LentView.{whole_of};
@@ -57,9 +40,9 @@ impl Session {
     ghost use Rattle.pva_messages.specs.Views.{request_view, put_part_view};
     ghost use Rattle.desk_api.specs.Sites.{is_channel};
     ghost use Rattle.desk_api.specs.declared.history.SiteData.{SiteData};
-    ghost use Rattle.srv_stream.specs.Hearings.{Hears, IsOf, IsTurnOf};
+    ghost use Rattle.srv_stream.specs.Hearings.{Hears, IsOf, IsTaskOf};
     ghost use Rattle.srv_stream.specs.Steps.{knowing};
-    ghost use Rattle.srv_stream.specs.Turns.{is_heard, heard_whole, heard_message, heard_validation, heard_creation, heard_get, heard_put, heard_unread, channel_at};
+    ghost use Rattle.srv_stream.specs.Tasks.{is_heard, heard_whole, heard_message, heard_validation, heard_creation, heard_get, heard_put, heard_unread, channel_at};
     ghost use Rattle.srv_stream.specs.Views.{state_of, output_of};
 
     /// Whether a message of this command is heard. Before a validation was answered all but validations and echoes are
@@ -76,18 +59,18 @@ impl Session {
         alloc: Global,
         message: &Lent<'a>,
         desk: &D,
-    ) -> Result<Turn<'a>, SessionStop>
+    ) -> Result<Task<'a>, SessionStop>
         requires { IsOf (D.seat desk.now).seen.base.site (state_of self.old) }
         ensures heard { Hears (state_of self.new).types result (heard_whole (D.seat desk.now).seen.base.site (state_of self.old) (whole_of message.now)) }
         ensures state { state_of self.new ≡ knowing (state_of self.old) (state_of self.new).types }
         ensures output { output_of self.new ≡ output_of self.old }
-        ensures turn { IfOk result (IsTurnOf (D.seat desk.now).seen.base.site) }
+        ensures task { IfOk result (IsTaskOf (D.seat desk.now).seen.base.site (state_of self.old).all) }
     {
         if message.command == ECHO {
-            return Ok(Turn::Echo(message.payload));
+            return Ok(Task::Echo(message.payload));
         }
         if !self.is_heard(message.command) {
-            return Ok(Turn::PassOver);
+            return Ok(Task::PassOver);
         }
         let request = read_request(
             alloc,
@@ -106,17 +89,17 @@ impl Session {
         message: &Lent<'a>,
         request: &ToServer,
         desk: &D,
-    ) -> Result<Turn<'a>, SessionStop>
+    ) -> Result<Task<'a>, SessionStop>
         requires site { IsOf (D.seat desk.now).seen.base.site (state_of self.old) }
         requires part { PartWithin (request_view request.now) (length message.now.payload.now) }
         ensures heard { Hears (state_of self.new).types result (heard_message (D.seat desk.now).seen.base.site (state_of self.old) (whole_of message.now) (state_of self.old).types (request_view request.now)) }
         ensures state { state_of self.new ≡ knowing (state_of self.old) (state_of self.new).types }
         ensures output { output_of self.new ≡ output_of self.old }
-        ensures turn { IfOk result (IsTurnOf (D.seat desk.now).seen.base.site) }
+        ensures task { IfOk result (IsTaskOf (D.seat desk.now).seen.base.site (state_of self.old).all) }
     {
         match request {
             ToServer::Validation { buffer, method, .. } => self.hear_validation(*buffer, method),
-            ToServer::Echo { .. } => Ok(Turn::Echo(message.payload)),
+            ToServer::Echo { .. } => Ok(Task::Echo(message.payload)),
             ToServer::Create { channels } => self.hear_creation(alloc, channels),
             ToServer::Get {
                 sid,
@@ -131,20 +114,20 @@ impl Session {
                 request,
                 part,
             } => self.hear_put(alloc, message, *sid, *req, *sub, request, part, desk),
-            ToServer::Skipped(_) => Ok(Turn::PassOver),
+            ToServer::Skipped(_) => Ok(Task::PassOver),
             _ => Err(SessionStop::NotBuilt),
         }
     }
 
     /// A validation is answered once, and by the method `anonymous`.
-    fn hear_validation(&self, buffer: u32, method: &Name) -> Result<Turn<'static>, SessionStop>
+    fn hear_validation(&self, buffer: u32, method: &Name) -> Result<Task<'static>, SessionStop>
         ensures heard { Hears (state_of self.now).types result (heard_validation (state_of self.now) (state_of self.now).types buffer method.now) }
-        ensures turn { (site : SiteData) → IfOk result (IsTurnOf site) }
+        ensures task { (site : SiteData) → IfOk result (IsTaskOf site (state_of self.now).all) }
     {
         if self.validated || method.as_str() != "anonymous" {
             return Err(SessionStop::NotBuilt);
         }
-        Ok(Turn::Validate(buffer))
+        Ok(Task::Validate(buffer))
     }
 
     /// One channel is created, and while none is open.
@@ -152,9 +135,9 @@ impl Session {
         &self,
         alloc: Global,
         channels: &[(u32, Name)],
-    ) -> Result<Turn<'static>, SessionStop>
+    ) -> Result<Task<'static>, SessionStop>
         ensures heard { Hears (state_of self.now).types result (heard_creation (state_of self.now) (state_of self.now).types channels.now) }
-        ensures turn { (site : SiteData) → IfOk result (IsTurnOf site) }
+        ensures task { (site : SiteData) → IfOk result (IsTaskOf site (state_of self.now).all) }
     {
         let [(cid, name)] = channels else {
             return Err(SessionStop::NotBuilt);
@@ -162,7 +145,7 @@ impl Session {
         if self.channel.is_some() {
             return Err(SessionStop::NotBuilt);
         }
-        Ok(Turn::Create(*cid, name.clone_in(alloc)?))
+        Ok(Task::Create(*cid, name.clone_in(alloc)?))
     }
 
     /// The channel that has this id of the server. The one channel has the id 0.
@@ -178,9 +161,9 @@ impl Session {
         req: u32,
         sub: u8,
         request: &Option<(PvType, PvValue)>,
-    ) -> Result<Turn<'static>, SessionStop>
+    ) -> Result<Task<'static>, SessionStop>
         ensures heard { Hears (state_of self.now).types result (heard_get (state_of self.now) (state_of self.now).types req sub (valued_view request.now) (channel_at (state_of self.now) sid)) }
-        ensures turn { (site : SiteData) → IsOf site (state_of self.now) → IfOk result (IsTurnOf site) }
+        ensures task { (site : SiteData) → IsOf site (state_of self.now) → IfOk result (IsTaskOf site (state_of self.now).all) }
     {
         let Some(channel) = self.channel_at(sid) else {
             return Err(SessionStop::NotBuilt);
@@ -189,16 +172,16 @@ impl Session {
             if self.get.is_some() || is_id(req, self.put) || !is_of_all(request) {
                 return Err(SessionStop::NotBuilt);
             }
-            return Ok(Turn::BeginGet(req, sub, channel));
+            return Ok(Task::BeginGet(req, sub, channel));
         }
         if sub != 0 {
             return Err(SessionStop::NotBuilt);
         }
         if is_id(req, self.get) {
-            return Ok(Turn::Get(req, channel));
+            return Ok(Task::Get(req, channel));
         }
         if is_id(req, self.put) {
-            return Ok(Turn::Mistake(GET, req));
+            return Ok(Task::Mistake(GET, req));
         }
         Err(SessionStop::NotBuilt)
     }
@@ -213,13 +196,13 @@ impl Session {
         request: &Option<(PvType, PvValue)>,
         part: &PutPart,
         desk: &D,
-    ) -> Result<Turn<'static>, SessionStop>
+    ) -> Result<Task<'static>, SessionStop>
         requires site { IsOf (D.seat desk.now).seen.base.site (state_of self.old) }
         requires part { IsWithin (put_part_view part.now) (length message.now.payload.now) }
         ensures heard { Hears (state_of self.new).types result (heard_put (D.seat desk.now).seen.base.site (state_of self.old) (whole_of message.now) (state_of self.old).types req sub (valued_view request.now) (put_part_view part.now) (channel_at (state_of self.old) sid)) }
         ensures state { state_of self.new ≡ knowing (state_of self.old) (state_of self.new).types }
         ensures output { output_of self.new ≡ output_of self.old }
-        ensures turn { IfOk result (IsTurnOf (D.seat desk.now).seen.base.site) }
+        ensures task { IfOk result (IsTaskOf (D.seat desk.now).seen.base.site (state_of self.old).all) }
     {
         let Some(channel) = self.channel_at(sid) else {
             return Err(SessionStop::NotBuilt);
@@ -228,7 +211,7 @@ impl Session {
             if self.put.is_some() || is_id(req, self.get) || !is_of_all(request) {
                 return Err(SessionStop::NotBuilt);
             }
-            return Ok(Turn::BeginPut(req, sub, channel));
+            return Ok(Task::BeginPut(req, sub, channel));
         }
         if sub != 0 {
             return Err(SessionStop::NotBuilt);
@@ -237,12 +220,12 @@ impl Session {
             return self.hear_part(alloc, message, req, channel, part, desk);
         }
         if is_id(req, self.get) {
-            return Ok(Turn::Mistake(PUT, req));
+            return Ok(Task::Mistake(PUT, req));
         }
         Err(SessionStop::NotBuilt)
     }
 
-    /// Reads the part of a put, which is of the leaf `value` alone.
+    /// Reads the part of a put.
     fn hear_part<D: Desk>(
         &mut self,
         alloc: Global,
@@ -251,13 +234,13 @@ impl Session {
         channel: Channel,
         part: &PutPart,
         desk: &D,
-    ) -> Result<Turn<'static>, SessionStop>
+    ) -> Result<Task<'static>, SessionStop>
         requires channel { IsTrue (is_channel (D.seat desk.now).seen.base.site channel) }
         requires part { IsWithin (put_part_view part.now) (length message.now.payload.now) }
         ensures heard { Hears (state_of self.new).types result (heard_unread (D.seat desk.now).seen.base.site (whole_of message.now) (state_of self.old).types req channel (put_part_view part.now)) }
         ensures state { state_of self.new ≡ knowing (state_of self.old) (state_of self.new).types }
         ensures output { output_of self.new ≡ output_of self.old }
-        ensures turn { IfOk result (IsTurnOf (D.seat desk.now).seen.base.site) }
+        ensures task { IfOk result (IsTaskOf (D.seat desk.now).seen.base.site (state_of self.old).all) }
     {
         let PutPart::Unread(place) = part else {
             return Err(SessionStop::NotBuilt);
@@ -272,10 +255,7 @@ impl Session {
             &mut self.types,
             ty,
         )?;
-        if !is_of_value(&mask) {
-            return Err(SessionStop::NotBuilt);
-        }
-        Ok(Turn::Put(Putting {
+        Ok(Task::Put(Putting {
             req,
             channel,
             mask,

@@ -1,5 +1,5 @@
 // Laws of the definitions, each the contract of a function that does nothing.
-ghost use Rattle.srv_stream.specs.Laws.{OneOutput, AnEndIsTold};
+ghost use Rattle.srv_stream.specs.Laws.{OneOutput, AnEndIsTold, ATroubleIsTold};
 
 /// On one site, in one byte order, a dialogue of the same events and marks has one output.
 pub fn one_output()
@@ -9,4 +9,10 @@ pub fn one_output()
 /// Where the end of the stream was met, the answer tells it, memory ran out, or not all replies were written.
 pub fn an_end_is_told()
     ensures { AnEndIsTold }
+{}
+
+/// Where a header that was read is refused, or a message has no answer, the answer is that trouble, `Bad` or `NotBuilt`;
+/// or memory ran out, or not all replies were written.
+pub fn a_trouble_is_told()
+    ensures { ATroubleIsTold }
 {}

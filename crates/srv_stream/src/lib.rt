@@ -1,6 +1,7 @@
 //! One connection, from the bytes that a client sends to those that the server answers.
 #![tactic(auto)]
 
+mod command;
 mod ended;
 mod hearing;
 mod laws;
@@ -8,12 +9,12 @@ mod payloads;
 mod serve;
 mod serving;
 mod session;
+mod task;
 #[cfg(test)]
 mod tests;
-mod turn;
 
 pub use ended::{Ended, StreamFault};
-pub use laws::{an_end_is_told, one_output};
+pub use laws::{a_trouble_is_told, an_end_is_told, one_output};
 pub use pvd_type::NoMemory;
 pub use serve::serve_connection;
 pub use serving::Serving;

@@ -4,8 +4,9 @@ ghost use Rattle.pvd_type.specs.Numbers.{leaves};
 ghost use Rattle.pvd_value.specs.Fits.{fits_of};
 ghost use Rattle.pvd_value.specs.View.{view};
 ghost use Rattle.pva_messages.specs.Fields as field;
+ghost use Rattle.pva_messages.specs.Replies.{reply_fields};
 ghost use Rattle.pva_messages.specs.Written.{canonical};
-ghost use Rattle.srv_stream.specs.Rows.{good};
+ghost use Rattle.srv_stream.specs.Rows.{good, got};
 
 use pva_wire::{Order, write_u32};
 use pvd_codec::write_part;
@@ -43,7 +44,7 @@ pub(crate) fn write_value(
 ) -> Result<(), NoMemory>
     requires fits { fits_of 16 (view value.now) ty.now ≡ true }
     requires all { all.now ≡ leaves ty.now }
-    ensures { OnOk result (out.new.items ≡ out.old.items ++ canonical order (field.word req ∷ field.byte 0 ∷ field.status good ∷ field.part (record { ty = ty.now; mask = leaves ty.now; value = view value.now }) ∷ [])) }
+    ensures { OnOk result (out.new.items ≡ out.old.items ++ canonical order (reply_fields (got req ty.now (view value.now)))) }
 {
     write_u32(out, order, req)?;
     out.push(0)?;

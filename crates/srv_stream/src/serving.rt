@@ -4,11 +4,11 @@ ghost use Rattle.pva_frames.specs.Assembled.{rest_of};
 ghost use Rattle.pva_frames.specs.declared.event.Event.TheVariants.{Message};
 ghost use Rattle.pva_frames.specs.LentView.{whole_of};
 ghost use Rattle.srv_stream.specs.Streams.{is_sound, stop_as};
-ghost use Rattle.srv_stream.specs.declared.turn.SessionStop.TheVariants as stops;
+ghost use Rattle.srv_stream.specs.declared.task.SessionStop.TheVariants as stops;
 
 use crate::ended::{Ended, StreamFault};
 use crate::session::Session;
-use crate::turn::SessionStop;
+use crate::task::SessionStop;
 use desk_api::{Desk, Moment};
 use pva_frames::{Assembler, Event, Lent, Next};
 use pva_wire::Order;
@@ -68,7 +68,7 @@ impl Serving {
     }
 
     /// None exactly at the boundary of a message; else the place of the unfinished frame, or of its run's first segment. A
-    /// header that is refused counts as unfinished.
+    /// header that is refused counts as unfinished. After an `Err` of `feed` it tells nothing.
     pub fn rest(&self) -> Option<u64>
         ensures { result ≡ rest_of (view_of self.now).stream.left }
     {

@@ -2,13 +2,16 @@
 ghost use Rattle.std.specs.Prelude.{◌≡◌, ◌<◌, ◌≤◌, ◌++◌, drop, length, Some, None, IfOk, OnOk, OnErr, IsTrue, true};
 ghost use Rattle.pvd_value.specs.View.{view};
 ghost use Rattle.srv_stream.specs.State.{buffer_for, segment_for, opening};
-ghost use Rattle.srv_stream.specs.Rows.{error, failed, refusal_text, put_status, methods, greeting, good};
+ghost use Rattle.srv_stream.specs.Rows.{asked, error, failed, refusal_text, put_status, methods, greeting, good, got};
+ghost use Rattle.srv_stream.specs.Hearings.{IsPut};
+ghost use Rattle.desk_api.specs.Calls.{Calls, ArePut};
 ghost use Rattle.pva_messages.specs.Views.{reply_view};
-ghost use Rattle.srv_stream.specs.Turns as turn;
+ghost use Rattle.srv_stream.specs.Tasks as task;
 ghost use Rattle.pva_frames.specs.Spelling.{message_bytes};
 
+use crate::command::{ECHO, GET, PUT};
 use crate::payloads::{write_type, write_value};
-use crate::turn::{Putting, SessionStop, Turn};
+use crate::task::{Putting, SessionStop, Task};
 use desk_api::{Channel, Desk, Done, Moment, PutAnswer, PutRefusal};
 use pva_frames::{Lent, write_control, write_message};
 use pva_messages::{ToClient, write_to_client};
@@ -24,13 +27,6 @@ const SET_BYTE_ORDER: u8 = 2;
 const ECHO_REQUEST: u8 = 3;
 
 const ECHO_RESPONSE: u8 = 4;
-
-// Application commands ("Application Messages").
-const ECHO: u8 = 0x02;
-
-const GET: u8 = 0x0A;
-
-const PUT: u8 = 0x0B;
 
 /// The buffer of a client that announced this size: at least 1,024 bytes and at most 65,536.
 fn buffer_for(size: u32) -> u32
@@ -75,6 +71,19 @@ fn refusal_text(refusal: PutRefusal) -> &'static str
         PutRefusal::Disabled => "puts are disabled",
         PutRefusal::NothingWritable => "nothing writable",
     }
+}
+
+/// Puts what was asked for, at this moment.
+fn put_once<D: Desk>(
+    alloc: Global,
+    wanted: &Putting,
+    desk: &mut D,
+    moment: Moment,
+) -> Result<Done, PutAnswer>
+    requires { IsPut (D.seat desk.old).seen.base.site wanted.now }
+    ensures { Calls (D.seat desk.old) (D.seat desk.new) (ArePut (asked (D.seat desk.old).seen.base.site wanted.now.channel wanted.now.mask (view wanted.now.value) moment) result) }
+{
+    desk.put(alloc, wanted.channel, &wanted.mask, &wanted.value, moment)
 }
 
 /// What a put's client is told. Where memory ran out it is told nothing.
@@ -134,6 +143,8 @@ pub(crate) struct Session {
     /// The types that the client has defined.
     pub(crate) types: Registry,
     pub(crate) channel: Option<Channel>,
+    /// The leaves of the channel's type.
+    pub(crate) all: BitSet,
     pub(crate) get: Option<u32>,
     pub(crate) put: Option<u32>,
     /// The payload of a reply that is being written.
@@ -147,18 +158,15 @@ pub(crate) struct Session {
 impl Session {
     ghost use Rattle.pva_frames.specs.LentView.{whole_of};
     ghost use Rattle.srv_stream.specs.Calls.{Handles};
-    ghost use Rattle.srv_stream.specs.Hearings.{turn_view, putting, IsOf, IsTurnOf, IsBegun, IsPut};
+    ghost use Rattle.srv_stream.specs.Hearings.{task_view, putting, IsOf, IsOpen, IsTaskOf, IsBegun};
     ghost use Rattle.srv_stream.specs.Rows.{CanSay, spelled, spelled_all, said, control, greetings};
-    ghost use Rattle.srv_stream.specs.Views.{state_of, output_of, show, HandlesControl, AnswersTurn, AnswersAnytime, AnswersBeside, AnswersAlone};
+    ghost use Rattle.srv_stream.specs.Views.{state_of, output_of, show, HandlesControl, AnswersTask, AnswersAnytime, AnswersBeside, AnswersAlone};
     ghost use Rattle.pva_frames.specs.declared.event.Event.TheVariants.{Message, Control};
     ghost use Rattle.std.specs.Prelude.{◌∷◌, []};
     ghost use Rattle.pvd_type.specs.Numbers.{leaves};
     ghost use Rattle.pvd_value.specs.Fits.{fits_of};
-    ghost use Rattle.pva_messages.specs.Fields as field;
     ghost use Rattle.pva_messages.specs.Replies as reply;
-    ghost use Rattle.pva_messages.specs.Written.{canonical};
     ghost use Rattle.pva_messages.specs.Views.{reply_view};
-    ghost use Rattle.desk_api.specs.Sites.{is_channel};
 
     /// A session that has said nothing yet.
     fn silent(alloc: Global, order: Order) -> Session
@@ -171,6 +179,7 @@ impl Session {
             segment: segment_for(65536),
             types: Registry::new(alloc),
             channel: None,
+            all: BitSet::new(alloc),
             get: None,
             put: None,
             payload: Vec::new(alloc),
@@ -262,21 +271,15 @@ impl Session {
     }
 
     /// Adds the reply to a get that found this value.
-    fn say_value(
-        &mut self,
-        req: u32,
-        ty: &PvType,
-        all: &BitSet,
-        value: &PvValue,
-    ) -> Result<(), NoMemory>
+    fn say_value(&mut self, req: u32, ty: &PvType, value: &PvValue) -> Result<(), NoMemory>
         requires fits { fits_of 16 (view value.now) ty.now ≡ true }
-        requires all { all.now ≡ leaves ty.now }
+        requires all { (state_of self.old).all ≡ leaves ty.now }
         ensures state { state_of self.new ≡ state_of self.old }
-        ensures ok { OnOk result (output_of self.new ≡ output_of self.old ++ message_bytes self.old.order true 10 (canonical self.old.order (field.word req ∷ field.byte 0 ∷ field.status good ∷ field.part (record { ty = ty.now; mask = leaves ty.now; value = view value.now }) ∷ [])) self.old.segment) }
+        ensures ok { OnOk result (output_of self.new ≡ output_of self.old ++ spelled self.old.order self.old.segment (said (got req ty.now (view value.now)))) }
         ensures err { OnErr result (output_of self.new ≡ output_of self.old) }
     {
         self.payload.clear();
-        write_value(&mut self.payload, self.order, req, ty, all, value)?;
+        write_value(&mut self.payload, self.order, req, ty, &self.all, value)?;
         self.say_payload(GET)
     }
 
@@ -322,49 +325,49 @@ impl Session {
         ensures site { OnOk result (IsOf (D.seat desk.new).seen.base.site (state_of self.new)) }
     {
         desk.has_legal_history();
-        let turn = self.hear(alloc, message, desk)?;
-        Ok(self.answer(alloc, &turn, desk, moment)?)
+        let task = self.hear(alloc, message, desk)?;
+        Ok(self.answer(alloc, &task, desk, moment)?)
     }
 
     /// Answers what is asked.
     fn answer<D: Desk>(
         &mut self,
         alloc: Global,
-        turn: &Turn<'_>,
+        task: &Task<'_>,
         desk: &mut D,
         moment: Moment,
     ) -> Result<(), NoMemory>
-        requires { IsTurnOf (D.seat desk.old).seen.base.site turn.now }
-        ensures { AnswersTurn (D.seat desk.old) (D.seat desk.new) self.old self.new moment (turn_view turn.now) result }
+        requires { IsTaskOf (D.seat desk.old).seen.base.site (state_of self.old).all task.now }
+        ensures { AnswersTask (D.seat desk.old) (D.seat desk.new) self.old self.new moment (task_view task.now) result }
     {
         desk.has_legal_history();
-        match turn {
-            Turn::PassOver => self.pass_over(),
-            Turn::Validate(buffer) => self.validate(alloc, *buffer),
-            Turn::Echo(payload) => self.echo(payload),
-            Turn::Create(cid, name) => self.create(alloc, *cid, name, desk),
-            Turn::BeginGet(req, sub, channel) => self.begin_get(*req, *sub, *channel, desk),
-            Turn::BeginPut(req, sub, channel) => self.begin_put(*req, *sub, *channel, desk),
-            Turn::Get(req, channel) => self.get(alloc, *req, *channel, desk),
-            Turn::Put(asked) => self.put(alloc, asked, desk, moment),
-            Turn::Mistake(command, req) => self.mistake(alloc, *command, *req),
+        match task {
+            Task::PassOver => self.pass_over(),
+            Task::Validate(buffer) => self.validate(alloc, *buffer),
+            Task::Echo(payload) => self.echo(payload),
+            Task::Create(cid, name) => self.create(alloc, *cid, name, desk),
+            Task::BeginGet(req, sub, channel) => self.begin_get(*req, *sub, *channel, desk),
+            Task::BeginPut(req, sub, channel) => self.begin_put(*req, *sub, *channel, desk),
+            Task::Get(req, channel) => self.get(alloc, *req, *channel, desk),
+            Task::Put(asked) => self.put(alloc, asked, desk, moment),
+            Task::Mistake(command, req) => self.mistake(alloc, *command, *req),
         }
     }
 
     fn pass_over(&mut self) -> Result<(), NoMemory>
-        ensures { AnswersAlone self.old self.new turn.pass_over result }
+        ensures { AnswersAlone self.old self.new task.pass_over result }
     {
         Ok(())
     }
 
     fn echo_control(&mut self, number: u32) -> Result<(), NoMemory>
-        ensures { AnswersAlone self.old self.new (turn.echo_control number) result }
+        ensures { AnswersAlone self.old self.new (task.echo_control number) result }
     {
         self.say_control(ECHO_RESPONSE, number)
     }
 
     fn validate(&mut self, alloc: Global, buffer: u32) -> Result<(), NoMemory>
-        ensures { AnswersAlone self.old self.new (turn.validate buffer) result }
+        ensures { AnswersAlone self.old self.new (task.validate buffer) result }
     {
         self.say_validated(alloc)?;
         self.validate_with(buffer);
@@ -372,7 +375,7 @@ impl Session {
     }
 
     fn echo(&mut self, payload: &[u8]) -> Result<(), NoMemory>
-        ensures { AnswersAlone self.old self.new (turn.echo payload.now) result }
+        ensures { AnswersAlone self.old self.new (task.echo payload.now) result }
     {
         write_message(
             &mut self.output,
@@ -391,7 +394,7 @@ impl Session {
         name: &Name,
         desk: &D,
     ) -> Result<(), NoMemory>
-        ensures { AnswersBeside (D.seat desk.now) self.old self.new (turn.create cid name.now) result }
+        ensures { AnswersBeside (D.seat desk.now) self.old self.new (task.create cid name.now) result }
     {
         let Some(channel) = desk.find(name.as_str()) else {
             let status = error(alloc, "channel not found")?;
@@ -401,6 +404,7 @@ impl Session {
                 status,
             });
         };
+        let all = desk.type_of(channel).unwrap().leaves(alloc)?;
         let status = Status::good(alloc)?;
         self.say(ToClient::Created {
             cid,
@@ -408,6 +412,7 @@ impl Session {
             status,
         })?;
         self.channel = Some(channel);
+        self.all = all;
         Ok(())
     }
 
@@ -419,7 +424,7 @@ impl Session {
         desk: &D,
     ) -> Result<(), NoMemory>
         requires { IsBegun (D.seat desk.now).seen.base.site sub channel }
-        ensures { AnswersBeside (D.seat desk.now) self.old self.new (turn.begin_get req sub channel) result }
+        ensures { AnswersBeside (D.seat desk.now) self.old self.new (task.begin_get req sub channel) result }
     {
         let ty = desk.type_of(channel).unwrap();
         self.payload.clear();
@@ -437,7 +442,7 @@ impl Session {
         desk: &D,
     ) -> Result<(), NoMemory>
         requires { IsBegun (D.seat desk.now).seen.base.site sub channel }
-        ensures { AnswersBeside (D.seat desk.now) self.old self.new (turn.begin_put req sub channel) result }
+        ensures { AnswersBeside (D.seat desk.now) self.old self.new (task.begin_put req sub channel) result }
     {
         let ty = desk.type_of(channel).unwrap();
         self.payload.clear();
@@ -454,13 +459,12 @@ impl Session {
         channel: Channel,
         desk: &mut D,
     ) -> Result<(), NoMemory>
-        requires { IsTrue (is_channel (D.seat desk.old).seen.base.site channel) }
-        ensures { AnswersAnytime (D.seat desk.old) (D.seat desk.new) self.old self.new (turn.get req channel) result }
+        requires { IsOpen (D.seat desk.old).seen.base.site (state_of self.old).all channel }
+        ensures { AnswersAnytime (D.seat desk.old) (D.seat desk.new) self.old self.new (task.get req channel) result }
     {
         desk.has_legal_history();
-        let all = desk.type_of(channel).unwrap().leaves(alloc)?;
         let value = desk.get(alloc, channel)?;
-        self.say_value(req, desk.type_of(channel).unwrap(), &all, &value)
+        self.say_value(req, desk.type_of(channel).unwrap(), &value)
     }
 
     fn put<D: Desk>(
@@ -471,9 +475,9 @@ impl Session {
         moment: Moment,
     ) -> Result<(), NoMemory>
         requires { IsPut (D.seat desk.old).seen.base.site asked.now }
-        ensures { AnswersTurn (D.seat desk.old) (D.seat desk.new) self.old self.new moment (putting asked.now) result }
+        ensures { AnswersTask (D.seat desk.old) (D.seat desk.new) self.old self.new moment (putting asked.now) result }
     {
-        let answer = desk.put(alloc, asked.channel, &asked.mask, &asked.value, moment);
+        let answer = put_once(alloc, asked, desk, moment);
         let status = put_status(alloc, answer)?;
         self.say(ToClient::Put {
             req: asked.req,
@@ -486,7 +490,7 @@ impl Session {
 
     /// Says that the request was begun by another command.
     fn mistake(&mut self, alloc: Global, command: u8, req: u32) -> Result<(), NoMemory>
-        ensures { AnswersAlone self.old self.new (turn.mistake command req) result }
+        ensures { AnswersAlone self.old self.new (task.mistake command req) result }
     {
         let status = error(alloc, "wrong phase")?;
         self.say(failed(command, req, status))

@@ -5,7 +5,7 @@ use Rattle.pvd_type.specs.Tree.{Tree}
 use Rattle.pvd_value.specs.View.{view}
 use Rattle.pvd_value.specs.declared.value.PvValue.{PvValue}
 use Rattle.pva_messages.specs.Views.{valued_view}
-use Rattle.srv_stream.specs.Turns.{is_of_all}
+use Rattle.srv_stream.specs.Tasks.{is_of_all}
 use Rattle.srv_stream.proofs.Asking.{shown_all, unshown_all}
 use Rattle.srv_stream.proofs.hearing.is_of_all.Goals as goal
 

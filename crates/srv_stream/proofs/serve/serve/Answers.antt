@@ -1,4 +1,4 @@
-use Rattle.std.proofs.Common.{None, Some, sym, subst, arith}
+use Rattle.std.proofs.Common.{None, sym, subst, arith}
 use Rattle.srv_stream.specs.Streams.{moment_told, View}
 use Rattle.srv_stream.specs.Views.{view_of}
 use Rattle.srv_stream.proofs.Going.{Standing}

@@ -1,4 +1,4 @@
-use Rattle.std.proofs.Common.{ℕ, List, Err, sym, ◌∙◌, ap, subst}
+use Rattle.std.proofs.Common.{ℕ, List, sym, ◌∙◌, ap, subst}
 use Rattle.pva_frames.specs.declared.event.Event.{Event}
 use Rattle.pva_frames.specs.declared.event.Event.TheVariants.{Message, Control}
 use Rattle.srv_stream.specs.Streams.{AnsweredEvent, PartOfEvent, AnswersEvent}

@@ -1,4 +1,4 @@
-use Rattle.std.proofs.Common.{[], Some, refl, ap}
+use Rattle.std.proofs.Common.{[], Some, refl}
 use Rattle.pva_frames.specs.Assembled.{Gave}
 use Rattle.srv_stream.specs.Streams.{View}
 use Rattle.srv_stream.specs.Views.{view_of}

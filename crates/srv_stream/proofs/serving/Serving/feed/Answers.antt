@@ -1,4 +1,4 @@
-use Rattle.std.proofs.Common.{◌≡◌, ◌-◌, ℕ, List, Some, Err, take, drop, length, sym, subst, arith, take-append-drop, length-drop}
+use Rattle.std.proofs.Common.{◌≡◌, ◌-◌, ℕ, List, Some, take, drop, length, sym, subst, arith, take-append-drop, length-drop}
 use Rattle.std.proofs.lemmas.List.{take_all}
 use Rattle.std.proofs.Math.Seq.{take-add}
 use Rattle.srv_stream.specs.Streams.{Passed, Feeds, FedErr, Took}

@@ -1,7 +1,7 @@
 use Rattle.std.proofs.Common.{◌==◌, ◌≡◌, true, false, arith}
 use Rattle.std.proofs.lemmas.Bool.Decides.{nat_tests}
 use Rattle.pva_frames.specs.declared.event.Event.TheVariants.{Control}
-use Rattle.srv_stream.specs.Turns.{pass_over, echo_control}
+use Rattle.srv_stream.specs.Tasks.{pass_over, echo_control}
 use Rattle.srv_stream.specs.Views.{state_of, output_of, show}
 use Rattle.srv_stream.proofs.Handling.{responds, control_heard}
 use Rattle.srv_stream.proofs.session.Session.handle_control.Goals as goal

@@ -1,22 +1,24 @@
-use Rattle.std.proofs.Common.{Ok, Err, sym, subst}
+use Rattle.std.proofs.Common.{Ok, Err, sym, ap, subst}
+use Rattle.std.specs.FinSet.{FinSet}
+use Rattle.std.specs.Ordering.{nat_cmp}
 use Rattle.pva_frames.specs.LentView.{whole_of}
 use Rattle.pva_frames.specs.declared.event.Event.TheVariants.{Message}
-use Rattle.srv_stream.specs.Hearings.{turn_view, IsOf}
+use Rattle.srv_stream.specs.Hearings.{task_view, IsOf, IsTaskOf}
 use Rattle.srv_stream.specs.State.{State}
 use Rattle.srv_stream.specs.Views.{state_of, output_of, show}
-use Rattle.srv_stream.specs.declared.turn.SessionStop.TheVariants as stops
+use Rattle.srv_stream.specs.declared.task.SessionStop.TheVariants as stops
 use Rattle.srv_stream.proofs.Handling.{answered, not_heard, as_stop, no_claim, takes_on_site}
 use Rattle.srv_stream.proofs.session.Session.handle_message.Goals as goal
 
 pub hear-requires : goal.hear-requires
 hear-requires g c = c.requires
 
-pub returns-in_err-turn : goal.returns-in_err-turn
-returns-in_err-turn g c =
+pub returns-in_err-task : goal.returns-in_err-task
+returns-in_err-task g c =
     let seat = g.D.Desk.seat c.args.desk.now in
     let e = Message (whole_of c.args.message.now) in
-    let stop = c.in_err-turn.field-0.0 in
-    let heard = c.in_err-turn.ensures {u = tt} in
+    let stop = c.in_err-task.field-0.0 in
+    let heard = c.in_err-task.ensures {u = tt} in
     record {
       handles =
           as_stop (show seat c.args.self.now) (show seat c.hear.new.self) c.args.moment e stop c.from_residual.result c.from_residual.ensures.1
@@ -26,7 +28,9 @@ returns-in_err-turn g c =
     }
 
 pub answer-requires : goal.answer-requires
-answer-requires g c = (c.in_ok-turn.ensures {u = tt}).turn
+answer-requires g c =
+    let heard = c.in_ok-task.ensures {u = tt} in
+    subst (λ (all : FinSet nat_cmp). IsTaskOf (g.D.Desk.seat c.args.desk.now).seen.base.site all c.in_ok-task.task) (sym (ap (λ (s : State). s.all) heard.state)) heard.task
 
 pub returns-in_err-answer : goal.returns-in_err-answer
 returns-in_err-answer g c =
@@ -35,12 +39,12 @@ returns-in_err-answer g c =
     let mid = c.hear.new.self in
     let new = show (g.D.Desk.seat c.answer.new.desk) c.answer.new.self in
     let e = Message (whole_of c.args.message.now) in
-    let heard = c.in_ok-turn.ensures {u = tt} in
+    let heard = c.in_ok-task.ensures {u = tt} in
     let failed = c.from_residual-in_err-answer in
     record {
       handles =
           as_stop (show seat c.args.self.now) new c.args.moment e stops.NoMemory failed.result failed.ensures.1
-          (answered seat s (output_of c.args.self.now) new c.args.moment e (state_of mid).types (turn_view c.in_ok-turn.turn) (state_of mid) (output_of mid) (Err c.in_err-answer.field-0.0)
+          (answered seat s (output_of c.args.self.now) new c.args.moment e (state_of mid).types (task_view c.in_ok-task.task) (state_of mid) (output_of mid) (Err c.in_err-answer.field-0.0)
           heard.heard heard.state heard.output (c.in_err-answer.ensures {u = tt}));
       site = no_claim (g.D.Desk.seat c.answer.new.desk).seen.base.site (state_of c.answer.new.self) failed.result failed.ensures.0;
     }
@@ -51,12 +55,12 @@ returns g c =
     let s = state_of c.args.self.now in
     let mid = c.hear.new.self in
     let new = show (g.D.Desk.seat c.answer.new.desk) c.answer.new.self in
-    let heard = c.in_ok-turn.ensures {u = tt} in
+    let heard = c.in_ok-task.ensures {u = tt} in
     record {
       handles =
-          answered seat s (output_of c.args.self.now) new c.args.moment (Message (whole_of c.args.message.now)) (state_of mid).types (turn_view c.in_ok-turn.turn) (state_of mid) (output_of mid)
+          answered seat s (output_of c.args.self.now) new c.args.moment (Message (whole_of c.args.message.now)) (state_of mid).types (task_view c.in_ok-task.task) (state_of mid) (output_of mid)
           (Ok c.in_ok-answer.field-0) heard.heard heard.state heard.output (c.in_ok-answer.ensures {u = tt});
       site =
-          takes_on_site (show seat mid) new c.args.moment (turn_view c.in_ok-turn.turn) (Ok c.in_ok-answer.field-0) (c.in_ok-answer.ensures {u = tt})
+          takes_on_site (show seat mid) new c.args.moment (task_view c.in_ok-task.task) (Ok c.in_ok-answer.field-0) (c.in_ok-answer.ensures {u = tt})
           (subst (λ (z : State). IsOf seat.seen.base.site z) (sym heard.state) c.requires);
     }

@@ -2,7 +2,7 @@ use Rattle.std.proofs.Common.{refl, sym, ◌∙◌}
 use Rattle.pva_frames.specs.LentView.{whole_of}
 use Rattle.pva_messages.specs.Views.{request_view}
 use Rattle.srv_stream.specs.Hearings.{stop_by}
-use Rattle.srv_stream.specs.Turns.{heard_whole}
+use Rattle.srv_stream.specs.Tasks.{heard_whole}
 use Rattle.srv_stream.specs.Views.{state_of}
 use Rattle.srv_stream.proofs.Heard.{stopped, heard_echo, heard_early, hears_unreadable, hears_request}
 use Rattle.srv_stream.proofs.session.Session.hear.Goals as goal
@@ -13,7 +13,7 @@ returns-then-message-eq-ECHO g c =
       heard = heard_echo (g.D.Desk.seat c.args.desk.now).seen.base.site (state_of c.args.self.now) (whole_of c.args.message.now) c.if-message-eq-ECHO.true;
       state = refl;
       output = refl;
-      turn = tt;
+      task = tt;
     }
 
 pub returns-then-not-is_heard : goal.returns-then-not-is_heard
@@ -22,7 +22,7 @@ returns-then-not-is_heard g c =
       heard = heard_early (g.D.Desk.seat c.args.desk.now).seen.base.site (state_of c.args.self.now) (whole_of c.args.message.now) (sym c.is_heard.ensures ∙ c.if-not-is_heard.true);
       state = refl;
       output = refl;
-      turn = tt;
+      task = tt;
     }
 
 pub returns-in_err-request-clause-heard : goal.returns-in_err-request-clause-heard
@@ -47,5 +47,5 @@ returns g c =
           c.read_request.new.registry (state_of c.hear_request.new.self).types (request_view c.in_ok-request.request) exact.0 c.hear_request.result exact.1 c.hear_request.ensures.heard;
       state = c.hear_request.ensures.state;
       output = c.hear_request.ensures.output;
-      turn = c.hear_request.ensures.turn;
+      task = c.hear_request.ensures.task;
     }

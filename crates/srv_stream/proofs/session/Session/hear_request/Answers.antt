@@ -4,7 +4,7 @@ use Rattle.pva_messages.specs.Faults.{PartWithin}
 use Rattle.pva_messages.specs.Views.{request_view}
 use Rattle.pva_messages.specs.declared.to_server.ToServer.{ToServer}
 use Rattle.srv_stream.specs.Hearings.{Hears}
-use Rattle.srv_stream.specs.Turns.{heard_creation}
+use Rattle.srv_stream.specs.Tasks.{heard_creation}
 use Rattle.srv_stream.specs.Views.{state_of}
 use Rattle.srv_stream.proofs.Heard.{told_as, told_same, told_unserved}
 use Rattle.srv_stream.proofs.session.Session.hear_request.Goals as goal
@@ -23,7 +23,7 @@ returns-in-Validation g c =
       heard = told_as (g.D.Desk.seat c.args.desk.now).seen.base.site s (whole_of c.args.message.now) s.types s.types c.hear_validation.result c.args.request.now _ c.in-Validation.is c.hear_validation.ensures.heard;
       state = refl;
       output = refl;
-      turn = c.hear_validation.ensures.turn (g.D.Desk.seat c.args.desk.now).seen.base.site;
+      task = c.hear_validation.ensures.task (g.D.Desk.seat c.args.desk.now).seen.base.site;
     }
 
 pub returns-in-Echo : goal.returns-in-Echo
@@ -33,7 +33,7 @@ returns-in-Echo g c =
       heard = told_same (g.D.Desk.seat c.args.desk.now).seen.base.site s (whole_of c.args.message.now) s.types c.args.request.now _ c.in-Echo.is;
       state = refl;
       output = refl;
-      turn = tt;
+      task = tt;
     }
 
 pub returns-in-Create : goal.returns-in-Create
@@ -43,7 +43,7 @@ returns-in-Create g c =
       heard = told_as (g.D.Desk.seat c.args.desk.now).seen.base.site s (whole_of c.args.message.now) s.types s.types c.hear_creation.result c.args.request.now _ c.in-Create.is (subst (λ (l : List (ℕ × List ℕ)). Hears s.types c.hear_creation.result (heard_creation s s.types l)) c.deref.ensures.value c.hear_creation.ensures.heard);
       state = refl;
       output = refl;
-      turn = c.hear_creation.ensures.turn (g.D.Desk.seat c.args.desk.now).seen.base.site;
+      task = c.hear_creation.ensures.task (g.D.Desk.seat c.args.desk.now).seen.base.site;
     }
 
 pub returns-in-Get : goal.returns-in-Get
@@ -53,7 +53,7 @@ returns-in-Get g c =
       heard = told_as (g.D.Desk.seat c.args.desk.now).seen.base.site s (whole_of c.args.message.now) s.types s.types c.hear_get.result c.args.request.now _ c.in-Get.is c.hear_get.ensures.heard;
       state = refl;
       output = refl;
-      turn = c.hear_get.ensures.turn (g.D.Desk.seat c.args.desk.now).seen.base.site c.requires.site;
+      task = c.hear_get.ensures.task (g.D.Desk.seat c.args.desk.now).seen.base.site c.requires.site;
     }
 
 pub returns-in-Put : goal.returns-in-Put
@@ -63,7 +63,7 @@ returns-in-Put g c =
       heard = told_as (g.D.Desk.seat c.args.desk.now).seen.base.site s (whole_of c.args.message.now) (state_of c.hear_put.new.self).types s.types c.hear_put.result c.args.request.now _ c.in-Put.is c.hear_put.ensures.heard;
       state = c.hear_put.ensures.state;
       output = c.hear_put.ensures.output;
-      turn = c.hear_put.ensures.turn;
+      task = c.hear_put.ensures.task;
     }
 
 pub returns-in-Skipped : goal.returns-in-Skipped
@@ -73,7 +73,7 @@ returns-in-Skipped g c =
       heard = told_same (g.D.Desk.seat c.args.desk.now).seen.base.site s (whole_of c.args.message.now) s.types c.args.request.now _ c.in-Skipped.is;
       state = refl;
       output = refl;
-      turn = tt;
+      task = tt;
     }
 
 pub returns-in_default : goal.returns-in_default
@@ -84,5 +84,5 @@ returns-in_default g c =
       heard = told_unserved (g.D.Desk.seat c.args.desk.now).seen.base.site s (whole_of c.args.message.now) s.types c.args.request.now it.not-Validation it.not-Echo it.not-Create it.not-Get it.not-Put it.not-Skipped;
       state = refl;
       output = refl;
-      turn = tt;
+      task = tt;
     }

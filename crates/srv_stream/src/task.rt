@@ -16,7 +16,7 @@ pub(crate) struct Putting {
 
 /// What an event asks, with all that it names looked up: one variant for each row of the replies.
 #[derive(Drop)]
-pub(crate) enum Turn<'a> {
+pub(crate) enum Task<'a> {
     /// Nothing.
     PassOver,
     /// A validation by the method `anonymous`, of a client with a buffer of this size.
@@ -49,7 +49,7 @@ pub(crate) enum SessionStop {
 
 impl From<NoMemory> for SessionStop {
     ghost use Rattle.std.specs.Prelude.{◌≡◌};
-    ghost use Rattle.srv_stream.specs.declared.turn.SessionStop.TheVariants as stops;
+    ghost use Rattle.srv_stream.specs.declared.task.SessionStop.TheVariants as stops;
 
     ghost from_gives = { λ _ e. e ≡ stops.NoMemory };
 

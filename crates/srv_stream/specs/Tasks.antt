@@ -1,7 +1,7 @@
 -- What an event asks of a session, with all that it names looked up (pvAccess Protocol Specification, "Message Header"
 -- and "Application Messages").
-use Rattle.std.specs.Prelude.{ℕ, ◌-◌, Bool, false, true, not, ◌&&◌, ◌||◌, ◌==◌, List, [], ◌∷◌, length, drop, Option, None, Some, is_none, Result, Ok, Err, bytes_eq, codes, if◌then◌else◌}
-use Rattle.std.specs.FinSet.{FinSet, empty, insert, contains, is_subset}
+use Rattle.std.specs.Prelude.{ℕ, ◌-◌, Bool, false, true, not, ◌&&◌, ◌||◌, ◌==◌, List, [], ◌∷◌, length, drop, Option, None, Some, is_none, Ok, Err, bytes_eq, codes, if◌then◌else◌}
+use Rattle.std.specs.FinSet.{FinSet}
 use Rattle.std.specs.Ordering.{nat_cmp}
 use Rattle.pvd_type.specs.Tree.{node, struct, no_fields}
 use Rattle.pvd_value.specs.Data.{Data}
@@ -23,31 +23,31 @@ use Rattle.desk_api.specs.declared.channel.Channel.{Channel}
 use Rattle.desk_api.specs.declared.history.SiteData.{SiteData}
 use Rattle.srv_stream.specs.State.{State}
 
-pub data Turn : Type 0 where
+pub data Task : Type 0 where
   -- nothing is asked
-  pass_over : Turn
+  pass_over : Task
   -- a control message: the echo of this datum
-  echo_control : ℕ → Turn
+  echo_control : ℕ → Task
   -- a validation by the method `anonymous`, and the size of the client's buffer
-  validate : ℕ → Turn
+  validate : ℕ → Task
   -- the echo of this payload
-  echo : List ℕ → Turn
+  echo : List ℕ → Task
   -- the client's id of a channel, and its name
-  create : ℕ → List ℕ → Turn
+  create : ℕ → List ℕ → Task
   -- the id of a request that begins, its subcommand, and its channel
-  begin_get : ℕ → ℕ → Channel → Turn
-  begin_put : ℕ → ℕ → Channel → Turn
+  begin_get : ℕ → ℕ → Channel → Task
+  begin_put : ℕ → ℕ → Channel → Task
   -- the id of a request that has begun, and its channel
-  get : ℕ → Channel → Turn
+  get : ℕ → Channel → Task
   -- the same, with the leaves that are put and a value that has them
-  put : ℕ → Channel → FinSet nat_cmp → Data → Turn
+  put : ℕ → Channel → FinSet nat_cmp → Data → Task
   -- a command, and the id of a request that began with another one
-  mistake : ℕ → ℕ → Turn
+  mistake : ℕ → ℕ → Task
 
--- What a session hears in an event: a turn, and the client's types behind it; a message that isn't served so far; or a
+-- What a session hears in an event: a task, and the client's types behind it; a message that isn't served so far; or a
 -- message that can't be read.
 pub data Hearing : Type 0 where
-  asks : Turn → Types → Hearing
+  asks : Task → Types → Hearing
   not_built : Hearing
   unreadable : MessageFault → Hearing
 
@@ -98,13 +98,8 @@ heard_get s types req sub v (Some channel) =
 abbrev pub fault_in : Whole → ValueCause × ℕ → MessageFault
 fault_in whole (cause, left) = record { command = whole.command; cause = fault_at cause (length whole.payload - left) }
 
--- Whether leaf 1 alone is marked, which is the leaf `value` (Normative Types 1.0, "NTScalar").
-abbrev pub is_of_value : FinSet nat_cmp → Bool
-is_of_value mask = contains mask 1 && is_subset mask (insert empty 1)
-
 abbrev pub heard_part : Whole → ℕ → Channel → Read Source (FinSet nat_cmp × Data) → Hearing
-heard_part whole req channel (Ok (part, (rest, types))) =
-    if is_of_value part.0 then asks (put req channel part.0 part.1) types else not_built
+heard_part whole req channel (Ok (part, (rest, types))) = asks (put req channel part.0 part.1) types
 heard_part whole req channel (Err fault) = unreadable (fault_in whole fault)
 
 -- the part that a put brings, behind which the client's types are these
