@@ -1,4 +1,4 @@
-use crate::parts::{member, structure};
+use crate::parts::{member, structure, two};
 use crate::{NtKind, kind_of, nt_enum, nt_scalar, nt_scalar_array, nt_table, nt_uri};
 use pvd_type::{Extent, Name, NoMemory, PvType, Scalar, Shape, TypeFault};
 use std::alloc::Global;
@@ -100,5 +100,84 @@ fn other_ids_and_other_members_are_no_normative_type(rt: HostRuntime) -> Result<
     }
     let leaf = kind_of_shape(rt.alloc(), Shape::Plain(Scalar::I32))?;
     assert_eq!(rt; leaf, None);
+    Ok(())
+}
+
+/// A structure of this id with two members.
+fn with_two(
+    alloc: Global,
+    id: &str,
+    first: (&str, Shape),
+    second: (&str, Shape),
+) -> Result<Shape, NoMemory> {
+    let first = member(alloc, first.0, first.1)?;
+    let second = member(alloc, second.0, second.1)?;
+    structure(alloc, id, two(alloc, first, second)?)
+}
+
+/// An NTTable of these labels, with one column in a structure of this id.
+fn table_of(alloc: Global, labels: Shape, id: &str, column: Shape) -> Result<Shape, NoMemory> {
+    let columns = with_member(alloc, id, "name", column)?;
+    with_two(alloc, "epics:nt/NTTable:1.0", ("labels", labels), ("value", columns))
+}
+
+/// An NTEnum whose value is a structure of this id, with this index and these choices.
+fn enum_of(alloc: Global, id: &str, index: Shape, choices: Shape) -> Result<Shape, NoMemory> {
+    let value = with_two(alloc, id, ("index", index), ("choices", choices))?;
+    with_member(alloc, "epics:nt/NTEnum:1.0", "value", value)
+}
+
+#[test]
+fn tables_have_columns_without_an_id(rt: HostRuntime) -> Result<(), Fail> {
+    let (variable, bounded, fixed) = (
+        Some(Extent::Variable),
+        Some(Extent::Bounded(4)),
+        Some(Extent::Fixed(4)),
+    );
+    let table = [
+        (Scalar::Text, variable, "", variable, Some(NtKind::NtTable)),
+        (Scalar::Text, bounded, "", fixed, Some(NtKind::NtTable)),
+        (Scalar::Text, variable, "columns_t", variable, None),
+        (Scalar::Text, variable, "", None, None),
+        (Scalar::Text, None, "", variable, None),
+        (Scalar::I32, variable, "", variable, None),
+    ];
+    for (labels, extent, id, column, want) in table {
+        let column = shape_of(Scalar::F64, column);
+        let shape = table_of(rt.alloc(), shape_of(labels, extent), id, column)?;
+        assert_eq!(rt; kind_of_shape(rt.alloc(), shape)?, want);
+    }
+    Ok(())
+}
+
+#[test]
+fn enums_have_an_index_and_choices(rt: HostRuntime) -> Result<(), Fail> {
+    let (variable, bounded) = (Some(Extent::Variable), Some(Extent::Bounded(16)));
+    let table = [
+        ("enum_t", Scalar::I32, variable, Some(NtKind::NtEnum)),
+        ("enum_t", Scalar::I32, bounded, Some(NtKind::NtEnum)),
+        ("enum_t", Scalar::I32, None, None),
+        ("enum_t", Scalar::I64, variable, None),
+        ("", Scalar::I32, variable, None),
+    ];
+    for (id, index, extent, want) in table {
+        let choices = shape_of(Scalar::Text, extent);
+        let shape = enum_of(rt.alloc(), id, Shape::Plain(index), choices)?;
+        assert_eq!(rt; kind_of_shape(rt.alloc(), shape)?, want);
+    }
+    Ok(())
+}
+
+#[test]
+fn texts_with_a_bound_are_texts(rt: HostRuntime) -> Result<(), Fail> {
+    let (scalar, uri) = ("epics:nt/NTScalar:1.0", "epics:nt/NTURI:1.0");
+    let shape = with_member(rt.alloc(), scalar, "value", Shape::BoundText(40))?;
+    assert_eq!(rt; kind_of_shape(rt.alloc(), shape)?, Some(NtKind::NtScalar));
+    let (scheme, path) = (Shape::BoundText(8), Shape::Plain(Scalar::Text));
+    let shape = with_two(rt.alloc(), uri, ("scheme", scheme), ("path", path))?;
+    assert_eq!(rt; kind_of_shape(rt.alloc(), shape)?, Some(NtKind::NtUri));
+    let (scheme, path) = (Shape::Plain(Scalar::Text), Shape::Plain(Scalar::I32));
+    let shape = with_two(rt.alloc(), uri, ("scheme", scheme), ("path", path))?;
+    assert_eq!(rt; kind_of_shape(rt.alloc(), shape)?, None);
     Ok(())
 }
