@@ -29,7 +29,7 @@ text_least o xs text (inr (size, is, valid, parts)) =
 number_size : (o : Order) (n x : ℕ) (xs : List ℕ) → SpellsNumber o n xs x → length xs ≡ n
 number_size o n x xs h = ap length h.1 ∙ number_len o n x
 
-channels_least : (o : Order) (cs : List (ℕ × List ℕ)) (xs : List ℕ) → SpellsEach (SpellsChannel o) xs cs → 5 * length cs ≤ length xs
+pub channels_least : (o : Order) (cs : List (ℕ × List ℕ)) (xs : List ℕ) → SpellsEach (SpellsChannel o) xs cs → 5 * length cs ≤ length xs
 channels_least o [] xs h = omega arith
 channels_least o (x ∷ cs) xs (head, tail, (number, name, first, second, both), others, parts) =
     omega (
@@ -90,7 +90,7 @@ numbers_size o [] = omega arith
 numbers_size o (n ∷ ns) =
     omega (arith, length-append (number_bytes o 4 n) (flat_map (number_bytes o 4) ns), number_len o 4 n, numbers_size o ns)
 
-payload_size : (o : Order) (setup : Setup) (sequence : ℕ) (found : List ℕ) → length setup.guid ≡ 12
+pub payload_size : (o : Order) (setup : Setup) (sequence : ℕ) (found : List ℕ) → length setup.guid ≡ 12
     → length (canonical o (response_fields (response_of setup sequence found))) ≡ 41 + 4 * length found
 payload_size o setup sequence found twelve =
     let told = flag (not (is_empty found)) in

@@ -13,3 +13,6 @@ pub mod Within
 pub mod Taking
 pub mod Lengths
 pub mod Spelled
+pub mod Written
+pub mod Heard
+pub mod Finds

@@ -28,7 +28,7 @@ is_whole command size header =
     not (is_control header) && is_single (segment_of header) && (header.command == command)
     && (8 + header.number == size)
 
--- The datagram is one whole application message of this command, and nothing stands behind it.
+-- The datagram is one whole application message of this command, and nothing follows it.
 abbrev pub is_message : ℕ → List ℕ → Bool
 is_message command datagram = has_header datagram && is_whole command (length datagram) (header_in datagram)
 

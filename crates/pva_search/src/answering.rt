@@ -111,9 +111,10 @@ fn response_of(
     datagram_of(alloc, order, true, RESPONSE, payload.as_slice())
 }
 
-/// What a server answers a datagram with, and where that goes.
+/// What a server answers a datagram with, and where that goes (pvAccess Protocol Specification,
+/// "searchRequest" and "searchResponse").
 ///
-/// None where there is no answer: the datagram isn't one search and nothing behind it; its address is
+/// None where there is no answer: the datagram isn't one search with nothing after it; its address is
 /// neither zero nor one of IPv4; it names protocols, and TCP isn't among them; or no name is known, and
 /// it wants no response then. Else the response, in the byte order of the search, lists the numbers of
 /// the names that are known, in the order of the search. It goes to the address that the search gives,
@@ -146,6 +147,7 @@ pub fn answer<F: Fn(&str) -> bool>(
     let found = match known_among(alloc, search.order, search.count, search.channels, known) {
         Ok(found) => found,
         Err(Stop::Memory) => return Err(NoMemory),
+        // never met: all channels were read before
         Err(Stop::Fault(_, _)) => return Ok(None),
     };
     if !is_wanted(search.head.flags, found.as_slice()) {

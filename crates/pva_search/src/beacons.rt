@@ -17,7 +17,8 @@ fn write_beacon(
     sequence: u8,
     changes: u16,
 ) -> Result<(), NoMemory>
-    ensures { OnOk result (out.new.items ≡ out.old.items ++ canonical setup.now.order (beacon_fields setup.now sequence changes)) }
+    ensures { OnOk result (out.new.items
+        ≡ out.old.items ++ canonical setup.now.order (beacon_fields setup.now sequence changes)) }
 {
     out.extend_from_slice(&setup.guid)?;
     put_byte(out, 0)?;

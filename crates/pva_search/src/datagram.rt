@@ -32,7 +32,7 @@ fn is_whole(header: &Header, command: u8, size: usize) -> bool
 }
 
 /// The order and the payload of a datagram that is one whole message of this command; None for every
-/// other. Bytes behind the message make it another.
+/// other. Bytes after the message make it another.
 pub(crate) fn message_in(command: u8, datagram: &[u8]) -> Option<(Order, &[u8])>
     ensures { option_map (λ x. (x.0, x.1.now)) result ≡ message_in command datagram.now }
 {

@@ -45,9 +45,21 @@ impl Model for Finder {
 
     ghost Value = { Finding };
 
-    ghost view = { λ f. record { names = f.names.items; servers = f.servers.items; next = f.next; sequence = f.sequence; rounds = f.rounds } };
+    ghost view = { λ f. record {
+      names = f.names.items;
+      servers = f.servers.items;
+      next = f.next;
+      sequence = f.sequence;
+      rounds = f.rounds;
+    } };
 
-    ghost invariant = { λ f. IsFinding (record { names = f.names.items; servers = f.servers.items; next = f.next; sequence = f.sequence; rounds = f.rounds }) };
+    ghost invariant = { λ f. IsFinding (record {
+      names = f.names.items;
+      servers = f.servers.items;
+      next = f.next;
+      sequence = f.sequence;
+      rounds = f.rounds;
+    }) };
 }
 
 /// The names that a datagram asks for.

@@ -19,7 +19,7 @@ mod writing;
 pub use answering::answer;
 pub use beacons::beacon;
 pub use finder::Finder;
-pub use laws::{response_is_spelled, search_is_spelled};
+pub use laws::{every_search_finds, response_is_spelled, search_is_spelled};
 pub use pva_outside::Peer;
 pub use pva_wire::{Name, NoMemory, Order};
 pub use setup::Setup;

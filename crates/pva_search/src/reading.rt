@@ -96,7 +96,8 @@ pub(crate) fn channel_at(order: Order, bytes: &[u8]) -> Result<(u32, &str, &[u8]
 
 /// Reads over so many channels, and tells what follows them.
 pub(crate) fn pass_channels(order: Order, count: u16, bytes: &[u8]) -> Result<&[u8], Stop>
-    ensures value { Gives (λ x. (tt {0}, x.now)) result (mapped (λ _. tt {0}) (each_at (channel_at order) count bytes.now)) }
+    ensures value { Gives (λ x. (tt {0}, x.now)) result
+        (mapped (λ _. tt {0}) (each_at (channel_at order) count bytes.now)) }
     ensures memory { TakesNone result }
 {
     let mut rest = bytes;

@@ -106,7 +106,8 @@ pub(crate) fn known_among<F: Fn(&str) -> bool>(
     known: &F,
 ) -> Result<Vec<u32>, Stop>
     requires { F.IsAlwaysCallable known.now }
-    ensures value { (test : List ℕ → Bool) → Tells F.Fn known.now test → IsKnown (λ v. v.items) test order count channels.now result }
+    ensures value { (test : List ℕ → Bool) → Tells F.Fn known.now test
+        → IsKnown (λ v. v.items) test order count channels.now result }
     ensures few { IfOk result (λ v. length v.items ≤ count) }
 {
     let mut found = Vec::new(alloc);

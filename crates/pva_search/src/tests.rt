@@ -1,3 +1,5 @@
+ghost use Rattle.std.specs.Prelude.{◌≡◌, ◌≤◌, ℕ, [], length, get_or, IfOk};
+
 use crate::{Finder, Name, NoMemory, Order, Peer, Setup, answer, beacon};
 use std::alloc::{AllocError, Global};
 use std::test::Fail;
@@ -237,7 +239,9 @@ fn a_beacon_tells_the_server_in_the_order_of_its_setup(rt: HostRuntime) -> Resul
 }
 
 /// A finder of X and Y.
-fn finder(alloc: Global, rounds: u32) -> Result<Finder, NoMemory> {
+fn finder(alloc: Global, rounds: u32) -> Result<Finder, NoMemory>
+    requires { 1 ≤ rounds }
+{
     let names = vec![in alloc; Name::of(alloc, "X")?, Name::of(alloc, "Y")?]?;
     Finder::new(alloc, names, rounds)
 }
@@ -320,11 +324,15 @@ const LONG: &str = "012345678901234567890123456789012345678901234567890123456789
     01234567890123456789012345678901234567890123456789012345678901234567890123456789012345678901234\
     56789012345678901234567890123456789";
 
-/// So many names of 200 bytes.
-fn long_names(alloc: Global) -> Result<Vec<Name>, NoMemory> {
+/// A text of at most 200 bytes, as 64 names.
+fn long_names(alloc: Global, text: &str) -> Result<Vec<Name>, NoMemory>
+    requires { length text.now ≤ 200 }
+    ensures many { IfOk result (λ v. length v.items ≡ 64) }
+    ensures short { IfOk result (λ v. (i : ℕ) → length (get_or v.items i []) ≤ 200) }
+{
     let mut names = Vec::new(alloc);
-    for _ in 0..64 {
-        names.push(Name::of(alloc, LONG)?)?;
+    for _ in 0..64u32 {
+        names.push(Name::of(alloc, text)?)?;
     }
     Ok(names)
 }
@@ -335,24 +343,25 @@ fn many_long_names_are_cut_into_datagrams_of_at_most_1400_bytes(
 ) -> Result<(), Fail> {
     let alloc = rt.alloc();
     assert_eq!(rt; LONG.len(), 200);
-    let mut finder = Finder::new(alloc, long_names(alloc)?, 1)?;
+    let mut finder = Finder::new(alloc, long_names(alloc, LONG)?, 1)?;
     for sequence in 0..10u8 {
         let datagram = finder.ask(alloc, 0)?;
-        assert!(rt; is_part(&datagram, sequence, 6 * sequence, 6));
+        assert!(rt; is_part(&datagram, 1_271, sequence, 6, 6 * sequence));
     }
     let last = finder.ask(alloc, 0)?;
-    assert!(rt; is_part(&last, 10, 60, 4));
+    assert!(rt; is_part(&last, 861, 10, 4, 60));
     assert!(rt; finder.ask(alloc, 0)?.is_none());
     Ok(())
 }
 
-/// Whether a datagram has this sequence, and so many long names from a number on.
-fn is_part(datagram: &Option<Vec<u8>>, sequence: u8, first: u8, count: usize) -> bool {
+/// Whether a datagram has so many bytes, this sequence, and so many names from a number on.
+fn is_part(datagram: &Option<Vec<u8>>, size: usize, sequence: u8, count: u8, first: u8) -> bool {
     match datagram {
         Some(bytes) => {
-            bytes.len() == 41 + 205 * count
+            bytes.len() > 41
+                && bytes.len() == size
                 && bytes[8] == sequence
-                && bytes[39] as usize == count
+                && bytes[39] == count
                 && bytes[41] == first
         }
         None => false,
