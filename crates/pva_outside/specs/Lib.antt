@@ -1,4 +1,9 @@
 pub mod Count
+pub mod Files
+pub mod Makers
+pub mod MemoryFiles
+pub mod MemoryPorts
+pub mod SystemFiles
 pub mod Wire
 pub mod Moment
 pub mod PlainLink

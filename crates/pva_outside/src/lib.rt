@@ -9,26 +9,34 @@
 
 mod clock;
 mod count;
+mod file_ports;
+mod files;
 mod link;
 mod memory;
 mod peer;
 mod plain;
 mod port;
+mod ports;
 mod refusal;
 mod sink;
 mod streams;
 mod system_clock;
+mod system_files;
 #[cfg(test)]
 mod tests;
 mod world;
 
 pub use clock::{Clock, FixedClock};
+pub use file_ports::FilePorts;
+pub use files::{FileStep, Files, MemoryFile, MemoryFiles};
 pub use link::{Link, ReadStep, WriteStep};
 pub use memory::{MemoryLink, Turn};
 pub use peer::Peer;
 pub use plain::PlainLink;
 pub use port::{DriveStep, MemoryPort, Port, WriterPort};
+pub use ports::{MemoryPorts, PortMaker, PortStep};
 pub use sink::{MemorySink, Sink, SinkStep, StreamSink};
 pub use streams::StreamLink;
 pub use system_clock::SystemClock;
+pub use system_files::SystemFiles;
 pub use world::{Kinds, World};

@@ -1,15 +1,16 @@
 ghost use Rattle.std.specs.Prelude.{◌≡◌, ◌≤◌, IsTrue};
 
 use crate::{
-    Clock, DriveStep, FixedClock, Kinds, Link, MemoryLink, MemoryPort, MemorySink, PlainLink, Port,
-    ReadStep, Sink, SinkStep, StreamLink, StreamSink, SystemClock, Turn, World, WriteStep,
-    WriterPort,
+    Clock, DriveStep, FilePorts, FileStep, Files, FixedClock, Kinds, Link, MemoryFile, MemoryFiles,
+    MemoryLink, MemoryPort, MemoryPorts, MemorySink, PlainLink, Port, PortMaker, PortStep,
+    ReadStep, Sink, SinkStep, StreamLink, StreamSink, SystemClock, SystemFiles, Turn, World,
+    WriteStep, WriterPort,
 };
 use std::alloc::Global;
 use std::io::{ErrorKind, Read, Write};
 use std::test::Fail;
 use std::time::Duration;
-use std::{io, rt};
+use std::{fs, io, rt};
 
 #[test]
 fn a_plain_link_gives_its_input_in_order_and_then_its_end(rt: HostRuntime) -> Result<(), Fail> {
@@ -221,6 +222,10 @@ struct InMemory;
 impl Kinds for InMemory {
     type Link = PlainLink;
 
+    type Files = MemoryFiles;
+
+    type Ports = MemoryPorts;
+
     type Sink = MemorySink;
 
     type Clock = FixedClock;
@@ -231,6 +236,10 @@ struct OfTheSystem;
 
 impl Kinds for OfTheSystem {
     type Link = StreamLink<rt::Stdin, rt::Stdout>;
+
+    type Files = SystemFiles<HostRuntime>;
+
+    type Ports = FilePorts<HostRuntime>;
 
     type Sink = StreamSink<rt::Stdout>;
 
@@ -252,6 +261,8 @@ fn pass_one<W: Kinds>(world: &mut World<W>) -> bool
 fn a_world_is_made_of_either_kinds(rt: HostRuntime) -> Result<(), Fail> {
     let mut world: World<InMemory> = World {
         link: PlainLink::new(rt.alloc(), vec![in rt.alloc(); 65]?),
+        files: MemoryFiles::new(rt.alloc(), Vec::new(rt.alloc()), Vec::new(rt.alloc())),
+        ports: MemoryPorts::new(rt.alloc(), Vec::new(rt.alloc()), Vec::new(rt.alloc())),
         sink: MemorySink::new(rt.alloc(), Vec::new(rt.alloc())),
         clock: FixedClock::new(0, 5),
     };
@@ -260,6 +271,8 @@ fn a_world_is_made_of_either_kinds(rt: HostRuntime) -> Result<(), Fail> {
 
     let mut world: World<OfTheSystem> = World {
         link: StreamLink::new(rt.stdin(), rt.stdout()),
+        files: SystemFiles::new(rt),
+        ports: FilePorts::new(rt),
         sink: StreamSink::new(rt.stdout()),
         clock: SystemClock::new(rt),
     };
@@ -289,5 +302,103 @@ fn a_writer_port_takes_texts(rt: HostRuntime) -> Result<(), Fail> {
     let mut port = WriterPort::new(Vec::new(rt.alloc()));
     assert_eq!(rt; port.drive(b"7"), DriveStep::Drove);
     assert_eq!(rt; port.drive(b""), DriveStep::Drove);
+    Ok(())
+}
+
+// How many bytes the file of this name has, where it was read.
+fn length_of<F: Files>(files: &mut F, alloc: Global, name: &str) -> Option<usize> {
+    match files.read(alloc, name) {
+        FileStep::Got(bytes) => Some(bytes.len()),
+        FileStep::Failed | FileStep::NoMemory => None,
+    }
+}
+
+// What the first drive of a port for this path came to, where one was made.
+fn first_drive<M: PortMaker>(ports: &mut M, alloc: Global, path: &str) -> Option<DriveStep>
+where
+    M::Port: Drop,
+{
+    match ports.make(alloc, path) {
+        PortStep::Made(mut port) => Some(port.drive(b"7")),
+        PortStep::Failed | PortStep::NoMemory => None,
+    }
+}
+
+fn file(alloc: Global, name: &str, bytes: &[u8]) -> Result<MemoryFile, Fail> {
+    Ok(MemoryFile {
+        name: String::from_str(alloc, name)?,
+        bytes: Vec::from_slice(alloc, bytes)?,
+    })
+}
+
+#[test]
+fn files_in_memory_are_read_by_name_but_at_the_calls_that_are_to_fail(
+    rt: HostRuntime,
+) -> Result<(), Fail> {
+    let alloc = rt.alloc();
+    let held = vec![in alloc; file(alloc, "a.db", b"abc")?, file(alloc, "b.db", b"")?]?;
+    let mut files = MemoryFiles::new(alloc, held, vec![in alloc; 3]?);
+    for (name, length) in [
+        ("a.db", Some(3)),
+        ("c.db", None),
+        ("a.db", None),
+        ("b.db", Some(0)),
+    ] {
+        assert_eq!(rt; length_of(&mut files, alloc, name), length);
+    }
+    assert_eq!(rt; files.asked().len(), 4);
+    assert_eq!(rt; files.asked()[1].as_str(), "c.db");
+    Ok(())
+}
+
+#[test]
+fn ports_in_memory_are_made_but_at_the_calls_that_are_to_fail(rt: HostRuntime) -> Result<(), Fail> {
+    let alloc = rt.alloc();
+    let mut ports = MemoryPorts::new(alloc, vec![in alloc; 2]?, Vec::new(alloc));
+    assert_eq!(rt; first_drive(&mut ports, alloc, "a"), Some(DriveStep::Drove));
+    assert_eq!(rt; first_drive(&mut ports, alloc, "b"), None);
+    assert_eq!(rt; ports.asked().len(), 2);
+    assert_eq!(rt; ports.asked()[1].as_str(), "b");
+    let mut ports = MemoryPorts::new(alloc, Vec::new(alloc), vec![in alloc; 1]?);
+    assert_eq!(rt;
+        first_drive(&mut ports, alloc, "a"),
+        Some(DriveStep::Failed)
+    );
+    Ok(())
+}
+
+#[test]
+fn a_port_over_a_file_appends_a_line_to_it(rt: HostRuntime) -> Result<(), Fail> {
+    let alloc = rt.alloc();
+    fs::write(&rt, "pva_outside_lines", "1\n")?;
+    let mut ports = FilePorts::new(rt);
+    assert_eq!(rt;
+        first_drive(&mut ports, alloc, "pva_outside_lines"),
+        Some(DriveStep::Drove)
+    );
+    assert_eq!(rt;
+        first_drive(&mut ports, alloc, "pva_outside_none/lines"),
+        None
+    );
+    let read = fs::read(&rt, "pva_outside_lines")?;
+    assert_eq!(rt; read.as_slice(), b"1\n7\n".as_slice());
+    fs::remove_file(&rt, "pva_outside_lines")?;
+    Ok(())
+}
+
+#[test]
+fn files_of_the_system_have_a_longest_length(rt: HostRuntime) -> Result<(), Fail> {
+    let alloc = rt.alloc();
+    let mut files = SystemFiles::new(rt);
+    let bytes = vec![in alloc; 7u8; 1_048_577]?;
+    fs::write(&rt, "pva_outside_bytes", &bytes[1..])?;
+    assert_eq!(rt;
+        length_of(&mut files, alloc, "pva_outside_bytes"),
+        Some(1_048_576)
+    );
+    fs::write(&rt, "pva_outside_bytes", bytes.as_slice())?;
+    assert_eq!(rt; length_of(&mut files, alloc, "pva_outside_bytes"), None);
+    fs::remove_file(&rt, "pva_outside_bytes")?;
+    assert_eq!(rt; length_of(&mut files, alloc, "pva_outside_bytes"), None);
     Ok(())
 }
