@@ -1,5 +1,5 @@
 -- What a put does to the ports.
-use Rattle.std.proofs.Common.{◌≡◌, ℕ, ◌+◌, Bool, ◌||◌, true, List, [], ◌∷◌, length, take, Option, Some, Result, Ok, Err, IfOk, OnErr, inl, inr, refl, sym, ◌∙◌, ap, subst}
+use Rattle.std.proofs.Common.{◌≡◌, ℕ, Bool, ◌||◌, true, List, [], ◌∷◌, length, take, Some, Result, Ok, Err, IfOk, OnErr, inl, inr, refl, sym, ◌∙◌, ap, subst}
 use Rattle.std.specs.List.{slice_get}
 use Rattle.std.specs.Prelude.{is_some}
 use Rattle.rec_kinds.specs.Configs.{Config}
@@ -11,7 +11,7 @@ use Rattle.rec_kinds.specs.declared.state.RecState.{RecState}
 use Rattle.rec_fields.specs.declared.puts.FieldAnswer.{FieldAnswer}
 use Rattle.rec_fields.specs.declared.puts.FieldAnswer.TheVariants.{Refused, NoMemory}
 use Rattle.journal_core.specs.Moments.{Moment}
-use Rattle.journal_core.specs.Legality.{AreValid, AreProcessed, IsLegalEntry}
+use Rattle.journal_core.specs.Legality.{AreValid, AreProcessed}
 use Rattle.journal_core.specs.declared.entry.Entry.{Entry}
 use Rattle.desk_api.specs.History.{entries, state_at}
 use Rattle.desk_api.specs.Marks.{AllHold}
@@ -22,8 +22,8 @@ use Rattle.desk_api.specs.declared.mark.Seat.{Seat}
 use Rattle.desk_api.specs.declared.put.Done.{Done}
 use Rattle.desk_api.specs.declared.put.PutAnswer.{PutAnswer}
 use Rattle.desk_api.specs.declared.put.PutAnswer.TheVariants as answers
-use Rattle.desk_core.specs.Ports.{Ports, IsDrivenAt, IsTriedAt, AreDriven, AreDrivenBy, AreDrivenInPart, DrivesPorts, actions_or_none, ports_there}
-use Rattle.desk_core.specs.Standing.{AreEntered, IsEntered, IsDraft, answer_of, entry_of}
+use Rattle.desk_core.specs.Ports.{Ports, IsDrivenAt, IsTriedAt, AreDriven, AreDrivenInPart, DrivesPorts, actions_or_none, ports_there}
+use Rattle.desk_core.specs.Standing.{AreEntered, IsDraft, answer_of}
 use Rattle.desk_core.specs.declared.draft.Draft.{Draft}
 use Rattle.desk_core.proofs.Cells.{legal_one}
 use Rattle.desk_core.proofs.Ported.{stay_at, stay_tried}

@@ -1,5 +1,5 @@
 -- How puts drive the ports of their records (EPICS record reference, "DTYP", "OUT").
-use Rattle.std.specs.Prelude.{◌≡◌, ℕ, Bool, true, false, List, [], ◌∷◌, length, map, set, take, is_some, Option, None, Some, Result, Ok, Err, slice_get, ⊤, ◌⊎◌}
+use Rattle.std.specs.Prelude.{◌≡◌, ℕ, Bool, true, false, List, [], ◌∷◌, length, map, set, take, is_some, Option, None, Some, Result, Ok, Err, slice_get, ◌⊎◌}
 use Rattle.pva_outside.specs.Ports.{PortView, IsDriven}
 use Rattle.pva_outside.specs.declared.port.DriveStep.{DriveStep}
 use Rattle.pva_outside.specs.declared.port.DriveStep.TheVariants.{Drove, Failed}
@@ -52,7 +52,8 @@ pub record IsDrivenAt (old new : Ports) (rec : ℕ) (drove : Bool) (text : List 
 abbrev pub AreDriven : Ports → Ports → List Bool → List (ℕ × RecState) → Type 0
 AreDriven old new [] [] = new ≡ old
 AreDriven old new (drove ∷ drives) (write ∷ writes) =
-    ((next : Ports) × IsDrivenAt old next write.0 drove (text_of_datum write.1.datum) × AreDriven next new drives writes)
+    ((next : Ports) × IsDrivenAt old next write.0 drove (text_of_datum write.1.datum)
+    × AreDriven next new drives writes)
 AreDriven old new _ _ = ⊥
 
 -- The entry that a put added drove the ports: each of its actions once.
@@ -66,12 +67,14 @@ abbrev pub actions_or_none : Result (List (ℕ × Action)) FieldAnswer → List 
 actions_or_none (Ok actions) = actions
 actions_or_none (Err answer) = []
 
--- A put that added no entry drove the ports by its first actions, each once, or by none of them.
+-- A put that added no entry drove the ports by its first actions, each once, or by none: with what these would have
+-- written.
 pub record AreDrivenInPart (s : Seat) (old new : Ports) (asked : Asked) : Type 0 where
   pub drives : List Bool
   pub writes : List (ℕ × RecState)
   pub driven : AreDriven old new drives writes
-  pub first : AreProcessed asked.site.configs (state_at s.seen (now s)) asked.moment (take (length writes) (actions_or_none (asked_actions asked))) drives writes
+  pub first : AreProcessed asked.site.configs (state_at s.seen (now s)) asked.moment
+      (take (length writes) (actions_or_none (asked_actions asked))) drives writes
 
 -- What a put did to the ports, by its answer. A put that is refused drives none.
 abbrev pub DrivesPorts : Seat → Seat → Ports → Ports → Asked → Result Done PutAnswer → Type 0

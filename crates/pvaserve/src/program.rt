@@ -1,16 +1,15 @@
 // The program, over the world that it is given.
-ghost use Rattle.std.specs.Prelude.{◌≡◌, ◌∷◌, [], false, IfOk, IsTrue, map};
+ghost use Rattle.std.specs.Prelude.{◌≡◌, IsTrue, map};
 ghost use Rattle.desk_api.specs.Sites.{is_record_name};
-ghost use Rattle.desk_core.specs.Ports.{ports_there};
 ghost use Rattle.pvaserve.specs.Running.{Runs, Serves, base_of};
 ghost use Rattle.pvaserve.specs.Words.{source_of};
 ghost use Rattle.srv_stream.specs.Faults.{EndsAtFirstFault, FirstFault};
 ghost use Rattle.pvaserve.specs.Running as running;
 
 use crate::words::{Source, read_words};
-use desk_api::{NoMemory, Site};
+use desk_api::Site;
 use desk_core::SoloDesk;
-use pva_outside::{Clock, Kinds, Link, MemoryPort, World};
+use pva_outside::{Clock, Kinds, Link, World};
 use pva_wire::Order;
 use srv_stream::{Ended, serve_connection};
 use std::alloc::Global;
@@ -52,13 +51,6 @@ fn status_of(ended: Ended) -> u8
     status as u8
 }
 
-/// The ports of one record that has none.
-fn no_port(alloc: Global) -> Result<Vec<Option<MemoryPort>>, NoMemory>
-    ensures { IfOk result (λ ports. ports_there ports.items ≡ false ∷ []) }
-{
-    Ok(vec![in alloc; None]?)
-}
-
 /// Serves the link from a desk of the source's one record.
 fn serve_source<L: Link, C: Clock>(
     alloc: Global,
@@ -73,10 +65,7 @@ fn serve_source<L: Link, C: Clock>(
     let Ok(site) = Site::single(alloc, source.name, source.value) else {
         return Ended::NoMemory;
     };
-    let Ok(ports) = no_port(alloc) else {
-        return Ended::NoMemory;
-    };
-    let Ok(mut desk) = SoloDesk::new(alloc, site, ports, LIMIT) else {
+    let Ok(mut desk) = SoloDesk::new(alloc, site, LIMIT) else {
         return Ended::NoMemory;
     };
     serve_connection(alloc, &mut desk, link, clock, Order::Little, TURNS)

@@ -143,8 +143,7 @@ fn one_put_is_one_entry_and_a_second_is_above_the_limit(rt: HostRuntime) -> Resu
         &[JOURNAL_FULL, SEVEN],
     ]
     .concat(alloc)?;
-    let ports: Vec<Option<MemoryPort>> = vec![in alloc; None]?;
-    let mut desk = SoloDesk::new(alloc, Site::single(alloc, "X", 42)?, ports, 200)?;
+    let mut desk = SoloDesk::new(alloc, Site::single(alloc, "X", 42)?, 200)?;
     let mut link = PlainLink::new(alloc, joined(alloc, &input)?);
     let clock = FixedClock::new(100, 5);
     let ended = serve_connection(alloc, &mut desk, &mut link, &clock, Order::Little, 1 << 62);

@@ -7,7 +7,7 @@ use desk_api::{Desk, Moment, Site};
 use desk_core::SoloDesk;
 use pva_frames::FrameFault;
 use pva_messages::MessageFault;
-use pva_outside::{Clock, FixedClock, MemoryLink, PlainLink, Turn};
+use pva_outside::{Clock, FixedClock, MemoryLink, MemoryPort, PlainLink, Turn};
 use pva_wire::{Order, WireFault};
 use pvd_codec::ValueFault;
 use std::alloc::Global;

@@ -1,8 +1,6 @@
 use Rattle.std.proofs.Common.{◌≡◌, ℕ, Bool, true, refl, List, [], ◌∷◌, length, Option, None, Some, sym, ◌∙◌, ap, arith}
 use Rattle.std.specs.Prelude.{is_some, option_map, slice_get}
 use Rattle.rec_kinds.specs.Configs.{Config}
-use Rattle.rec_kinds.specs.declared.state.RecState.{RecState}
-use Rattle.journal_core.specs.Legality.{AreValid}
 use Rattle.desk_core.specs.Ports.{ports_wanted}
 use Rattle.desk_core.proofs.Cells.{valid_count}
 use Rattle.desk_core.proofs.tests.has_one_port.Goals as goal

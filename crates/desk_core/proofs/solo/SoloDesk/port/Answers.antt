@@ -1,4 +1,4 @@
-use Rattle.std.proofs.Common.{ℕ, ◌<◌, length, subst}
+use Rattle.std.proofs.Common.{◌<◌, length, subst}
 use Rattle.desk_api.specs.declared.history.Base.{Base}
 use Rattle.desk_core.proofs.solo.SoloDesk.port.Goals as goal
 
