@@ -123,11 +123,11 @@ fn show(rt: &HostRuntime, what: &str, texts: Result<Vec<RecText>, NoMemory>) -> 
 fn main(rt: HostRuntime) -> io::Result<()> {
     let alloc = rt.alloc();
     show(&rt, "many groups", records(alloc, 1024, 4, ""))?;
-    show(&rt, "members that trigger all", records(alloc, 52, 64, "*"))?;
+    show(&rt, "members that trigger all", records(alloc, 60, 64, "*"))?;
     let Ok(few) = names(alloc, 64) else {
         return rt.println("no memory");
     };
-    show(&rt, "members that trigger 64 by name", records(alloc, 10, 64, few.as_str()))?;
+    show(&rt, "members that trigger 64 by name", records(alloc, 12, 64, few.as_str()))?;
     show(&rt, "too many members", records(alloc, 1, 64, "*"))
 }
 RT

@@ -18,8 +18,12 @@ fn records(alloc: Global, given: &[(&str, &str)]) -> Result<Vec<RecText>, NoMemo
 fn record(alloc: Global, name: &str, json: &str) -> Result<RecText, NoMemory> {
     let mut infos = Vec::new(alloc);
     if !json.is_empty() {
-        infos.push(info(alloc, json)?)?;
+        infos.push(info(alloc, "Q:group", json)?)?;
     }
+    record_with(alloc, name, infos)
+}
+
+fn record_with(alloc: Global, name: &str, infos: Vec<Info>) -> Result<RecText, NoMemory> {
     Ok(RecText {
         kind: Kind::Longout,
         name: Name::of(alloc, name)?,
@@ -29,9 +33,9 @@ fn record(alloc: Global, name: &str, json: &str) -> Result<RecText, NoMemory> {
     })
 }
 
-fn info(alloc: Global, json: &str) -> Result<Info, NoMemory> {
+fn info(alloc: Global, name: &str, json: &str) -> Result<Info, NoMemory> {
     Ok(Info {
-        name: Name::of(alloc, "Q:group")?,
+        name: Name::of(alloc, name)?,
         text: Name::of(alloc, json)?,
         json: true,
         line: 1,
@@ -385,15 +389,43 @@ fn groups_and_members_are_counted(rt: HostRuntime) -> Result<(), Fail> {
 }
 
 #[test]
-fn deep_json_is_refused(rt: HostRuntime) -> Result<(), Fail> {
+fn each_info_about_groups_of_a_record_counts(rt: HostRuntime) -> Result<(), Fail> {
     let alloc = rt.alloc();
-    let mut deep = String::from_str(alloc, "{\"G\":")?;
-    for _ in 0..100_000u32 {
-        deep.push_str("[")?;
+    let mut infos = Vec::new(alloc);
+    infos.push(info(alloc, "Q:group", r#"{"H": {}, "G": {"+id": "a"}}"#)?)?;
+    infos.push(info(alloc, "other", "{")?)?;
+    infos.push(info(alloc, "Q:group", r#"{"G": {"+id": "b"}, "E": {}}"#)?)?;
+    let mut texts = Vec::new(alloc);
+    texts.push(record_with(alloc, "A", infos)?)?;
+    let words = defined_by(alloc, &texts)?;
+    assert_eq!(rt; words.as_str(), "G 'b' atomic:;H '' atomic:;E '' atomic:;");
+    Ok(())
+}
+
+/// A group whose member has a key with so many lists inside one another.
+fn nested(alloc: Global, levels: u32) -> Result<String, NoMemory> {
+    let mut json = String::from_str(alloc, r#"{"G": {"m": {"+channel":"VAL", "x":"#)?;
+    for _ in 0..levels {
+        json.push_str("[")?;
     }
-    assert_eq!(rt;
-        defined(alloc, &[("A", deep.as_str())])?.as_str(),
-        "BadJson A"
-    );
+    for _ in 0..levels {
+        json.push_str("]")?;
+    }
+    json.push_str("}}}")?;
+    Ok(json)
+}
+
+#[test]
+fn json_of_more_than_128_levels_is_refused(rt: HostRuntime) -> Result<(), Fail> {
+    let alloc = rt.alloc();
+    let rows = [
+        (125, "G '' atomic: m=scalar@0>0;"),
+        (126, "BadJson A"),
+        (100_000, "BadJson A"),
+    ];
+    for (levels, words) in rows {
+        let json = nested(alloc, levels)?;
+        assert_eq!(rt; defined(alloc, &[("A", json.as_str())])?.as_str(), words);
+    }
     Ok(())
 }
