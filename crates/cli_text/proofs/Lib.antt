@@ -6,3 +6,4 @@ pub mod PutRows
 pub mod PutSteps
 pub mod PutShapes
 pub mod ReadBack
+pub mod PutLeaves

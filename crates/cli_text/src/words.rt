@@ -1,6 +1,7 @@
-ghost use Rattle.std.specs.Prelude.{◌≡◌, ◌<◌, true, length, codes, option_map, IfOk, IfSome};
+ghost use Rattle.std.specs.Prelude.{◌≡◌, ◌<◌, ℕ, true, length, codes, option_map, IfOk, IfSome};
+ghost use Rattle.std.specs.FinSet as set;
 ghost use Rattle.pvd_type.specs.View.{shape_view};
-ghost use Rattle.pvd_type.specs.Numbers.{is_leaf, numbered};
+ghost use Rattle.pvd_type.specs.Numbers.{is_leaf, leaves, numbered};
 ghost use Rattle.pvd_value.specs.View.{view};
 ghost use Rattle.pvd_value.specs.Fits.{fits_of};
 ghost use Rattle.cli_text.specs.Faults.{Makes};
@@ -283,6 +284,7 @@ pub fn put_words(
     requires some { 0 < length words.now }
     ensures put { spec.Puts (λ p. (p.0, view p.1)) result (spec.put_of ty.now (view current.now) words.now) }
     ensures fits { IfOk result (λ p. fits_of 16 (view p.1) ty.now ≡ true) }
+    ensures leaves { IfOk result (λ p. (k : ℕ) → set.contains p.0 k ≡ true → set.contains (leaves ty.now) k ≡ true) }
 {
     let Some(way) = way_of(ty, words[0].as_str()) else {
         return Err(PutText::NoField(0));
