@@ -1,2 +1,5 @@
 pub mod Texts
 pub mod Lines
+pub mod Faults
+pub mod Words
+pub mod Put
