@@ -21,14 +21,14 @@ make_input() {
     { opening "$1"; for _ in $(seq "$2"); do cat "$thousand"; done; } > "$work/input"
 }
 
-# The best of three runs of a command over the input, in nanoseconds.
+# The least processor time of three runs of a command over the input, in nanoseconds. Other work on the machine disturbs it less
+# than the time that passes.
 best() {
-    local least=0 start end
+    local least=0 spent
+    local TIMEFORMAT='%U %S'
     for _ in 1 2 3; do
-        start=$(date +%s%N)
-        "$@" < "$work/input" > "$work/output"
-        end=$(date +%s%N)
-        if [ "$least" -eq 0 ] || [ $((end - start)) -lt "$least" ]; then least=$((end - start)); fi
+        spent=$({ time "$@" < "$work/input" > "$work/output"; } 2>&1 | awk '{ printf "%.0f", ($1 + $2) * 1e9 }')
+        if [ "$least" -eq 0 ] || [ "$spent" -lt "$least" ]; then least=$spent; fi
     done
     echo "$least"
 }
