@@ -239,7 +239,7 @@ const FINE: &str = r#"{"G": {"m": {"+channel":"VAL"}}}"#;
 #[test]
 fn each_fault_comes_in_its_place(rt: HostRuntime) -> Result<(), Fail> {
     let alloc = rt.alloc();
-    let rows: [(&[(&str, &str)], &str); 30] = [
+    let rows: [(&[(&str, &str)], &str); 31] = [
         (&[("A", "1")], "BadJson A"),
         (&[("A", r#"{"G": []}"#)], "BadJson A"),
         (&[("A", r#"{"F": {"+x":1}, "G": 2}"#)], "BadJson A"),
