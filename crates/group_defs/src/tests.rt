@@ -239,7 +239,7 @@ const FINE: &str = r#"{"G": {"m": {"+channel":"VAL"}}}"#;
 #[test]
 fn each_fault_comes_in_its_place(rt: HostRuntime) -> Result<(), Fail> {
     let alloc = rt.alloc();
-    let rows: [(&[(&str, &str)], &str); 30] = [
+    let rows: [(&[(&str, &str)], &str); 31] = [
         (&[("A", "1")], "BadJson A"),
         (&[("A", r#"{"G": []}"#)], "BadJson A"),
         (&[("A", r#"{"F": {"+x":1}, "G": 2}"#)], "BadJson A"),
@@ -348,6 +348,17 @@ fn each_fault_comes_in_its_place(rt: HostRuntime) -> Result<(), Fail> {
             )],
             "NameTaken A",
         ),
+        // all texts are read before the triggers of any group are looked up
+        (
+            &[
+                (
+                    "A",
+                    r#"{"G": {"m": {"+channel":"VAL", "+trigger":"n"}}}"#,
+                ),
+                ("B", r#"{"F": {"+x": 1}}"#),
+            ],
+            "UnknownKey B",
+        ),
         (&[("A", r#"{"A.DESC": {}}"#)], "NameTaken A.DESC"),
         (&[("A", r#"{"A.VAL": {}}"#)], "NameTaken A.VAL"),
         (&[("A", r#"{"A.SCAN": {}}"#)], "A.SCAN '' atomic:;"),
@@ -383,8 +394,13 @@ fn groups_and_members_are_counted(rt: HostRuntime) -> Result<(), Fail> {
         defined(alloc, &[("A", one.as_str())])?.as_str(),
         "TooMany 257"
     );
-    let taken = [("A", one.as_str()), ("G.X", "")];
-    assert_eq!(rt; defined(alloc, &taken)?.as_str(), "TooMany 257");
+    let taken = [("A", one.as_str()), ("G", "")];
+    assert_eq!(rt; defined(alloc, &taken)?.as_str(), "NameTaken G");
+    let most = object(alloc, 1024, "{}")?;
+    assert!(rt; !defined(alloc, &[("A", most.as_str())])?.starts_with("TooMany"));
+    let members = object(alloc, 256, "{\"+channel\":\"VAL\"}")?;
+    let full = format!(in alloc; "{{\"G\":{}}}", members.as_str())?;
+    assert!(rt; !defined(alloc, &[("A", full.as_str())])?.starts_with("TooMany"));
     Ok(())
 }
 

@@ -11,9 +11,13 @@ use Rattle.pva_search.specs.Messages.{Search, Response, response_bytes, tcp, zer
 use Rattle.pva_search.specs.Reading.{search_in}
 use Rattle.pva_search.specs.declared.setup.Setup.{Setup}
 
--- zero, which stands for the sender's address
+-- the IPv4 address 0.0.0.0, as IPv6 maps it
+abbrev pub no_ipv4_address : List ℕ
+no_ipv4_address = 0 ∷ 0 ∷ 0 ∷ 0 ∷ 0 ∷ 0 ∷ 0 ∷ 0 ∷ 0 ∷ 0 ∷ 255 ∷ 255 ∷ 0 ∷ 0 ∷ 0 ∷ 0 ∷ []
+
+-- zero, of IPv6 or of IPv4, which stands for the sender's address
 abbrev pub is_zero : List ℕ → Bool
-is_zero address = bytes_eq address zero_address
+is_zero address = bytes_eq address zero_address || bytes_eq address no_ipv4_address
 
 -- an IPv4 address, as IPv6 maps it: ten bytes of zero, and two of 255 (RFC 4291, section 2.5.5.2)
 abbrev pub is_mapped : List ℕ → Bool

@@ -18,11 +18,14 @@ pub(crate) const RESPONSE: u8 = 4;
 /// The first bytes of an IPv4 address, as IPv6 maps it.
 const MAPPED: [u8; 12] = [0, 0, 0, 0, 0, 0, 0, 0, 0, 0, 255, 255];
 
-/// Whether an address is zero, which stands for the sender's.
+/// The IPv4 address 0.0.0.0, as IPv6 maps it: what EPICS clients write that give no address.
+const NO_IPV4_ADDRESS: [u8; 16] = [0, 0, 0, 0, 0, 0, 0, 0, 0, 0, 255, 255, 0, 0, 0, 0];
+
+/// Whether an address is zero, of IPv6 or of IPv4, which stands for the sender's.
 pub(crate) fn is_zero(address: &[u8; 16]) -> bool
     ensures { result ≡ is_zero address.now }
 {
-    *address == [0; 16]
+    *address == [0; 16] || *address == NO_IPV4_ADDRESS
 }
 
 /// Whether a response can be sent to an address: to the sender's, or to one of IPv4.

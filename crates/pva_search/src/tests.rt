@@ -85,6 +85,12 @@ fn a_known_name_is_answered_at_the_port_that_the_search_gives(rt: HostRuntime) -
     let alloc = rt.alloc();
     let reply = answer(alloc, &SEARCH, FROM, &SETUP, &is_x)?;
     assert!(rt; is_reply(reply, &RESPONSE, BACK));
+    // 0.0.0.0 is no address either
+    let mut search = SEARCH;
+    search[26] = 255;
+    search[27] = 255;
+    let reply = answer(alloc, &search, FROM, &SETUP, &is_x)?;
+    assert!(rt; is_reply(reply, &RESPONSE, BACK));
     Ok(())
 }
 
@@ -274,6 +280,8 @@ fn a_name_is_asked_once_in_each_round_until_it_is_found(rt: HostRuntime) -> Resu
     assert!(rt; finder.ask(alloc, 5_076)?.is_none());
     let mut told = RESPONSE;
     told[49] = 0;
+    told[34] = 255;
+    told[35] = 255;
     assert!(rt; finder.hear(&told, FROM));
     assert!(rt;
         finder.found(0)
