@@ -62,7 +62,7 @@ client_words() {
     0a-08) echo "request $(number_at 12 4) begins a get on channel $(number_at 8 4)" ;;
     0a-00) echo "request $(number_at 12 4): get" ;;
     0b-08) echo "request $(number_at 12 4) begins a put on channel $(number_at 8 4)" ;;
-    0b-00) echo "request $(number_at 12 4): put $(int_at 19)" ;;
+    0b-00) echo "request $(number_at 12 4): put $(int_at 19)$([ "${frame[18]:-}" = 02 ] || echo " into another field")" ;;
     *) echo "another message" ;;
     esac
 }
@@ -70,6 +70,12 @@ client_words() {
 # What the reply to a put says of it.
 put_outcome() {
     if [ "${frame[13]:-}" = ff ]; then echo "is done"; else echo "failed: $(text_at 14)"; fi
+}
+
+# The alarm of a reply to a get, whose severity stands at this place: nothing where there is none.
+alarm_at() {
+    local severities=("no alarm" MINOR MAJOR INVALID)
+    [ "$(number_at "$1" 4)" -eq 0 ] || echo ", with the alarm ${severities[$(number_at "$1" 4)]} $(text_at $(($1 + 8)))"
 }
 
 # What a frame of the server says.
@@ -80,7 +86,7 @@ server_words() {
     0-09-*) echo "validated" ;;
     0-07-*) echo "channel $(number_at 8 4) is created, under the server's id $(number_at 12 4)" ;;
     0-0a-08 | 0-0b-08) echo "request $(number_at 8 4) has begun: the channel's type is $(text_at 15)" ;;
-    0-0a-00) echo "request $(number_at 8 4): the value is $(int_at 17), of second $(number_at 30 8)" ;;
+    0-0a-00) echo "request $(number_at 8 4): the value is $(int_at 17), of second $(number_at $((30 + 0x${frame[29]:-0})) 8)$(alarm_at 21)" ;;
     0-0b-00) echo "request $(number_at 8 4): the put $(put_outcome)" ;;
     *) echo "another message" ;;
     esac

@@ -1,3 +1,9 @@
 mod Numbers
 mod Sources
 mod Making
+mod Command
+mod Pairs
+mod Rows
+mod Opened
+mod Told
+mod Completing

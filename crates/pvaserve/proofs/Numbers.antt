@@ -4,11 +4,11 @@ use Rattle.std.specs.Int.{w32}
 use Rattle.std.specs.Int.RustNames.{FitsSigned}
 use Rattle.std.specs.Result.{result_ok}
 use Rattle.std.specs.Fmt.{decimal, signed_decimal}
-use Rattle.std.specs.Str.Parse.{AllDigits, digits_value, ParsesSigned}
+use Rattle.std.specs.Str.Parse.{AllDigits, digits_value, ParsesSigned, ParsesUnsigned}
 use Rattle.std.proofs.lemmas.Bool.{and_parts, and_from, or_cases, or_left, or_right, eqb-true, leb-true, le-leb}
-use Rattle.std.proofs.lemmas.Fmt.{decimal_digit, decimal_nonempty, decimal-digits_value, decimal_is_IsNumeral, first_decimal, parse-signed_decimal}
-use Rattle.std.proofs.lemmas.Str.Parse.{IsNumeralModel, numerals_by_value, tells_digits, digit_at, parse_signed_minus, parse_signed_plain}
-use Rattle.pvaserve.specs.Words.{IsNumber, is_digit_at, is_plain}
+use Rattle.std.proofs.lemmas.Fmt.{decimal_digit, decimal_nonempty, decimal-digits_value, decimal_is_IsNumeral, first_decimal, parse-decimal, parse-signed_decimal}
+use Rattle.std.proofs.lemmas.Str.Parse.{IsNumeralModel, numerals_by_value, tells_digits, digit_at, parse_plain, parse_signed_minus, parse_signed_plain}
+use Rattle.pvaserve.specs.Words.{IsNumber, is_digit_at, is_plain, is_plain_count}
 
 own : IsNumeralModel (AllDigits 10) (digits_value 10)
 own = numerals_by_value _ tells_digits
@@ -90,3 +90,31 @@ begins_plain text z is = ap is_plain is.written ∙ plain_signed z is.fits
 pub reads : (E : Type 0) (text : List ℕ) (r : Result ℤ E) → ParsesSigned w32 10 text r → is_plain text ≡ true → MatchOption (result_ok r) ((z : ℤ) → ¬ (IsNumber text z)) (IsNumber text)
 reads E text (Ok z) read plain = was_read E text z read plain
 reads E text (Err e) read plain = λ z is. let same : Err e ≡ Ok z = is_read E text (Err e) z read is in cc
+
+-- Numbers without a sign.
+
+count_lead : (text : List ℕ) → is_plain_count text ≡ true → (get_or text 0 0 ≢ 43) × (get_or text 0 0 ≡ 48 → length text ≡ 1)
+count_lead text plain =
+    elim (or_cases (is_digit_at 0 text) (eqb (get_or text 0 0) 48 && eqb (length text) 1) plain) [
+      | inl first ↦ let b = digit_bounds 0 text first in ((λ e. omega (arith, b.0, e)), (λ e. absurd (omega (arith, b.0, e))))
+      | inr alone ↦
+          let parts = and_parts (eqb (get_or text 0 0) 48) (eqb (length text) 1) alone in
+          let is : get_or text 0 0 ≡ 48 = eqb-true (get_or text 0 0) 48 parts.0 in
+          ((λ e. omega (arith, is, e)), (λ _. eqb-true (length text) 1 parts.1))
+    ]
+
+count_read : (E : Type 0) (text : List ℕ) (n : ℕ) → ParsesUnsigned {E = E} 64 10 text (Ok n) → is_plain_count text ≡ true → text ≡ decimal n
+count_read E text n read plain =
+    let lead = count_lead text plain in
+    let found = parse_plain own {E = E} 64 text (Ok n) read lead.0 in
+    sym (ap decimal found.1 ∙ decimal-digits_value own text found.0.0 found.0.1 lead.1 found.0.2)
+
+pub begins_count : (text : List ℕ) (n : ℕ) → n < 2 ^ 64 → text ≡ decimal n → is_plain_count text ≡ true
+begins_count text zero small is = ap is_plain_count (is ∙ decimal_digit 0 (omega arith))
+begins_count text (suc n) small is =
+    let made : List ℕ = decimal (suc n) in
+    ap is_plain_count is ∙ or_left (is_digit_at 0 made) (eqb (get_or made 0 0) 48 && eqb (length made) 1) (first_digit (suc n) (omega arith) small)
+
+pub counts : (E : Type 0) (text : List ℕ) (r : Result ℕ E) → ParsesUnsigned 64 10 text r → is_plain_count text ≡ true → MatchOption (result_ok r) ((n : ℕ) → n < 2 ^ 64 → text ≢ decimal n) (λ n. text ≡ decimal n)
+counts E text (Ok n) read plain = count_read E text n read plain
+counts E text (Err e) read plain = λ n small is. let same : Err e ≡ Ok n = parse-decimal 64 n text (Err e) small small is read in cc

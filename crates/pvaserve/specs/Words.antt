@@ -1,9 +1,65 @@
 -- What the words of the command line mean.
-use Rattle.std.specs.Prelude.{◌≡◌, ℕ, ℤ, Bool, true, ◌&&◌, ◌||◌, ◌==◌, nat_le, List, [], ◌∷◌, ◌++◌, length, get_or, Contains, FitsSigned, codes}
+use Rattle.std.specs.Prelude.{◌≡◌, ℕ, ℤ, ◌-◌, ◌≤◌, ◌^◌, Bool, true, false, not, ◌&&◌, ◌||◌, ◌==◌, nat_le, List, [], ◌∷◌, ◌++◌, length, get_or, map}
+use Rattle.std.specs.Prelude.{Option, None, Some, Result, Ok, Err, Contains, FitsSigned, codes, if◌then◌else◌, ⊤, bytes_eq}
 use Rattle.std.specs.Int.{w32}
-use Rattle.std.specs.Fmt.{signed_decimal}
+use Rattle.std.specs.Fmt.{decimal, signed_decimal}
+use Rattle.std.specs.List.{list_all, slice_split}
+use Rattle.std.specs.Option.{option_map_or}
+use Rattle.clap.specs.Words.{App, Kinds, Row, Rule, Text, fault_of, first_of, matches_of, new_app, new_rule, with_rule}
+use Rattle.clap.specs.declared.builder.action.ArgAction.TheVariants.{SetTrue}
+use Rattle.db_text.specs.Macros.{Macros}
+use Rattle.pva_wire.specs.declared.order.Order.{Order}
+use Rattle.pva_wire.specs.declared.order.Order.TheVariants.{Little, Big}
 use Rattle.desk_api.specs.Sites.{is_record_name}
-use Rattle.pvaserve.specs.declared.words.Source.{Source as SourceRead}
+use Rattle.pvaserve.specs.declared.source.Source.{Source as SourceRead}
+use Rattle.pvaserve.specs.declared.source.Source.TheVariants as sources
+use Rattle.pvaserve.specs.declared.words.Asked.{Asked as AskedRead}
+use Rattle.pvaserve.specs.declared.words.Task.{Task}
+use Rattle.pvaserve.specs.declared.words.Task.TheVariants.{Inetd, Check}
+use Rattle.pvaserve.specs.declared.words.WordsStop.{WordsStop}
+use Rattle.pvaserve.specs.declared.words.WordsStop.TheVariants.{Refused, NoMemory}
+
+-- The command, as `clap` takes it: three flags, three options, and one argument.
+
+abbrev pub option_rule : Text → Rule
+option_rule name = record (new_rule name) { long = Some name }
+
+abbrev pub flag_rule : Text → Rule
+flag_rule name = record (option_rule name) { action = Some SetTrue }
+
+-- no name of a program stands before the words
+abbrev pub unnamed : App → App
+unnamed a = record a { top = record a.top { no_binary_name = true } }
+
+abbrev pub bare_app : App
+bare_app = unnamed (new_app (codes "pvaserve"))
+
+abbrev pub server_app : App
+server_app =
+    let a = with_rule bare_app (flag_rule (codes "inetd")) in
+    let b = with_rule a (flag_rule (codes "check")) in
+    let c = with_rule b (option_rule (codes "macros")) in
+    let d = with_rule c (flag_rule (codes "big")) in
+    let e = with_rule d (option_rule (codes "journal")) in
+    let f = with_rule e (option_rule (codes "turns")) in
+    with_rule f (new_rule (codes "source"))
+
+-- what the command finds wrong with the words
+unfoldable pub word_faults : List Text → Kinds
+word_faults words = fault_of server_app words
+
+-- what the words give to the command's options and to its argument
+unfoldable pub word_rows : List Text → List Row
+word_rows words = matches_of server_app words
+
+-- The values of options.
+
+-- the text that an option was given
+abbrev pub given : List Row → Text → Option Text
+given rows name = first_of name rows
+
+abbrev pub is_set : List Row → Text → Bool
+is_set rows name = option_map_or (λ text. bytes_eq text (codes "true")) (given rows name) false
 
 -- The text is how a number of 32 signed bits is written: in decimal digits without a zero in front, with a minus where it is negative.
 pub record IsNumber (text : List ℕ) (value : ℤ) : Type 0 where
@@ -18,24 +74,144 @@ is_digit_at i text = nat_le 49 (get_or text i 0) && nat_le (get_or text i 0) 57
 abbrev pub is_plain : List ℕ → Bool
 is_plain text = (is_digit_at 0 text || ((get_or text 0 0 == 45) && is_digit_at 1 text)) || ((get_or text 0 0 == 48) && (length text == 1))
 
--- what is served: one longout, with the value that it opens with
-pub record Source : Type 0 where
-  pub name : List ℕ
-  pub value : ℤ
+-- the same of a number without a sign
+abbrev pub is_plain_count : List ℕ → Bool
+is_plain_count text = is_digit_at 0 text || ((get_or text 0 0 == 48) && (length text == 1))
+
+-- where the records come from: one longout, with the value that it opens with, or the file of this name
+pub data Source : Type 0 where
+  single : List ℕ → ℤ → Source
+  file : List ℕ → Source
 
 abbrev pub source_of : SourceRead → Source
-source_of s = record { name = s.name.now; value = s.value }
+source_of (sources.Record name value) = single name.now value
+source_of (sources.File name) = file name.now
+
+-- The record of a source may have its name.
+abbrev pub IsNamed : Source → Type 0
+IsNamed (single name value) = is_record_name name ≡ true
+IsNamed (file name) = ⊤
 
 -- The text is NAME=VALUE. The name may name a record and has no = in it, and the value is a number.
-pub record IsSource (text : List ℕ) (source : Source) : Type 0 where
+pub record IsSingle (text name : List ℕ) (value : ℤ) : Type 0 where
   pub number : List ℕ
-  pub text_is : text ≡ source.name ++ 61 ∷ number
-  pub name_is : is_record_name source.name ≡ true
-  pub first : ¬ (Contains source.name 61)
-  pub number_is : IsNumber number source.value
+  pub text_is : text ≡ name ++ 61 ∷ number
+  pub name_is : is_record_name name ≡ true
+  pub first : ¬ (Contains name 61)
+  pub number_is : IsNumber number value
 
--- the two words --inetd NAME=VALUE
-pub record IsWords (words : List (List ℕ)) (source : Source) : Type 0 where
+-- A text without a = names a file.
+abbrev pub IsSource : List ℕ → Source → Type 0
+IsSource text (single name value) = IsSingle text name value
+IsSource text (file name) = (text ≡ name) × ¬ (Contains text 61)
+
+-- a letter, a digit or an underscore
+abbrev pub is_name_byte : ℕ → Bool
+is_name_byte b =
+    (nat_le 48 b && nat_le b 57) || ((nat_le 65 b && nat_le b 90) || ((b == 95) || (nat_le 97 b && nat_le b 122)))
+
+abbrev pub is_macro_name : List ℕ → Bool
+is_macro_name text = not (length text == 0) && list_all is_name_byte text
+
+-- The text is NAME=TEXT: a macro's name, which has no = in it, and a value without a line feed.
+pub record IsPair (text : List ℕ) (pair : List ℕ × List ℕ) : Type 0 where
+  pub text_is : text ≡ pair.0 ++ 61 ∷ pair.1
+  pub name_is : is_macro_name pair.0 ≡ true
+  pub one_line : ¬ (Contains pair.1 10)
+
+abbrev pub ArePairs : List (List ℕ) → Macros → Type 0
+ArePairs [] [] = ⊤
+ArePairs (text ∷ texts) (pair ∷ pairs) = IsPair text pair × ArePairs texts pairs
+ArePairs _ _ = ⊥
+
+-- the pieces of a text between its commas; an empty text has none
+abbrev pub pieces : List ℕ → List (List ℕ)
+pieces [] = []
+pieces (b ∷ text) = slice_split (λ c. c == 44) (b ∷ text)
+
+-- The text is these macros, divided by commas.
+abbrev pub AreMacros : List ℕ → Macros → Type 0
+AreMacros text macros = ArePairs (pieces text) macros
+
+-- What an option says that takes a number from the least to the most: in decimal digits without a sign or a zero in
+-- front. Where it isn't given another number stands.
+pub record IsCount (text : List ℕ) (least most count : ℕ) : Type 0 where
+  pub written : text ≡ decimal count
+  pub least_is : least ≤ count
+  pub most_is : count ≤ most
+
+abbrev pub IsCountOr : Option Text → ℕ → ℕ → ℕ → ℕ → Type 0
+IsCountOr None least most otherwise count = count ≡ otherwise
+IsCountOr (Some text) least most otherwise count = IsCount text least most count
+
+abbrev pub order_by : Bool → Order
+order_by big = if big then Big else Little
+
+-- the task of which the flag was given, where no other was
+abbrev pub task_by : Bool → Bool → Option Task
+task_by true false = Some Inetd
+task_by false true = Some Check
+task_by _ _ = None
+
+abbrev pub task_in : List Row → Option Task
+task_in rows = task_by (is_set rows (codes "inetd")) (is_set rows (codes "check"))
+
+-- what the words ask for
+pub record Asked : Type 0 where
+  pub task : Task
+  pub source : Source
+  pub macros : Macros
+  pub order : Order
+  pub journal : ℕ
+  pub turns : ℕ
+
+-- the macros of those asked, as they are seen
+abbrev pub asked_of : AskedRead → Asked
+asked_of a = record {
+  task = a.task;
+  source = source_of a.source;
+  macros = a.macros.items;
+  order = a.order;
+  journal = a.journal;
+  turns = a.turns;
+}
+
+-- The argument names this source.
+pub record IsSourceIn (rows : List Row) (source : Source) : Type 0 where
   pub text : List ℕ
-  pub words_are : words ≡ codes "--inetd" ∷ text ∷ []
-  pub text_is : IsSource text source
+  pub text_is : given rows (codes "source") ≡ Some text
+  pub source_is : IsSource text source
+
+-- the macros of the option for them; without it there are none
+abbrev pub AreMacrosOr : Option Text → Macros → Type 0
+AreMacrosOr None macros = macros ≡ []
+AreMacrosOr (Some text) macros = AreMacros text macros
+
+abbrev pub AreMacrosIn : List Row → Macros → Type 0
+AreMacrosIn rows macros = AreMacrosOr (given rows (codes "macros")) macros
+
+-- What is given asks for this.
+pub record Asks (rows : List Row) (asked : Asked) : Type 0 where
+  pub task_is : task_in rows ≡ Some asked.task
+  pub source_is : IsSourceIn rows asked.source
+  pub macros_are : AreMacrosIn rows asked.macros
+  pub order_is : asked.order ≡ order_by (is_set rows (codes "big"))
+  pub journal_is : IsCountOr (given rows (codes "journal")) 0 (2 ^ 64 - 1) 268_435_456 asked.journal
+  pub turns_is : IsCountOr (given rows (codes "turns")) 1 (2 ^ 62) (2 ^ 62) asked.turns
+
+-- The command takes the words, and they ask for this.
+pub record AreTaken (words : List Text) (asked : Asked) : Type 0 where
+  pub faultless : word_faults words ≡ []
+  pub asks : Asks (word_rows words) asked
+
+-- what the words come to; want of memory is free
+abbrev pub AreRead : List Text → Result AskedRead WordsStop → Type 0
+AreRead words (Ok asked) = AreTaken words (asked_of asked)
+AreRead words (Err Refused) = (asked : Asked) → ¬ (AreTaken words asked)
+AreRead words (Err NoMemory) = ⊤
+
+-- the same of what is given
+abbrev pub RowsAreRead : List Row → Result AskedRead WordsStop → Type 0
+RowsAreRead rows (Ok asked) = Asks rows (asked_of asked)
+RowsAreRead rows (Err Refused) = (asked : Asked) → ¬ (Asks rows asked)
+RowsAreRead rows (Err NoMemory) = ⊤

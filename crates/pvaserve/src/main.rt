@@ -1,13 +1,20 @@
-//! A pvAccess server. So far it serves one record over standard input and output.
+//! A pvAccess server. It serves the records of a database text over standard input and output, or checks the text.
 #![tactic(auto)]
 
+mod loading;
+mod macros;
+mod ports;
 mod program;
+mod source;
+mod telling;
 #[cfg(test)]
 mod tests;
 mod words;
 
 use crate::program::{Status, run};
-use pva_outside::{Kinds, Link, StreamLink, StreamSink, SystemClock, World};
+use pva_outside::{
+    FilePorts, Kinds, Link, StreamLink, StreamSink, SystemClock, SystemFiles, World,
+};
 use std::alloc::{AllocError, Global};
 use std::io::ErrorKind;
 use std::process::ExitCode;
@@ -15,14 +22,39 @@ use std::{env, io, rt};
 
 /// What `--help` shows.
 const HELP: &str = "\
-Serves a record to a pvAccess client (EPICS 7) over standard input and output.
+Serves the records of an EPICS database to pvAccess clients (EPICS 7), or checks a database.
 
-Usage: pvaserve --inetd NAME=VALUE
+Usage: pvaserve --inetd SOURCE [OPTIONS]
+       pvaserve --check SOURCE [--macros A=1,B=2]
 
-NAME=VALUE    one longout: its name, and its value in decimal digits, with a '-' where it is negative
---inetd       serves one connection, from its greeting to its end
--h, --help    shows this text
--V, --version shows the version
+--inetd         serves one connection over standard input and output, from its greeting to its end
+--check         prints how many records SOURCE has, or the line where it is wrong, and why
+SOURCE          the file of a database text, or NAME=VALUE: one longout and the decimal value that it opens with
+--macros LIST   what $(A) and $(B) stand for in the text, as A=1,B=2; of two values of one name the last counts
+--big           answers in big endian
+--journal BYTES what all puts of the connection may weigh together (268435456 unless it is given); one of a number weighs 136
+--turns N       how many reads and writes the connection may take, from 1 to 4611686018427387904, which is the default
+-h, --help      shows this text
+-V, --version   shows the version
+
+An example. The file slide.db has the text
+
+    record(longout, \"$(P):Pos\") {
+      field(DESC, \"Position of the slide\") field(VAL, \"1200\")
+      field(HIHI, \"5000\") field(HHSV, \"MAJOR\")
+    }
+
+Check it, then serve it to a client that inetd or systemd connects:
+
+    pvaserve --check slide.db --macros P=BL:M1        (prints: 1 records, 0 groups)
+    pvaserve --inetd slide.db --macros P=BL:M1
+
+The channels are then BL:M1:Pos, which is BL:M1:Pos.VAL too, and BL:M1:Pos.DESC. A put of 6000 gives BL:M1:Pos
+the alarm HIHI. A record with field(DTYP, \"File\") and field(OUT, \"@file PATH\") appends each value to PATH.
+
+Status: 0 done; 2 words that aren't taken; 3 a file can't be read, or a port's can't be opened; 4 the text is wrong;
+5 the client's stream is wrong, or asks for what isn't served yet; 6 the connection or a print failed; 7 no memory;
+8 the turns were spent.
 ";
 
 /// What `--version` shows.
@@ -33,6 +65,10 @@ struct System;
 
 impl Kinds for System {
     type Link = StreamLink<rt::Stdin, rt::Stdout>;
+
+    type Files = SystemFiles<HostRuntime>;
+
+    type Ports = FilePorts<HostRuntime>;
 
     type Sink = StreamSink<rt::Stdout>;
 
@@ -67,6 +103,8 @@ fn run_with(rt: HostRuntime, arguments: &[String]) -> Result<u8, AllocError> {
     }
     let mut world: World<System> = World {
         link: StreamLink::new(rt.stdin(), rt.stdout()),
+        files: SystemFiles::new(rt),
+        ports: FilePorts::new(rt),
         sink: StreamSink::new(rt.stdout()),
         clock: SystemClock::new(rt),
     };

@@ -1,32 +1,36 @@
 // The program, over the world that it is given.
-ghost use Rattle.std.specs.Prelude.{◌≡◌, IsTrue, map};
-ghost use Rattle.desk_api.specs.Sites.{is_record_name};
-ghost use Rattle.pvaserve.specs.Running.{Runs, Serves, base_of};
-ghost use Rattle.pvaserve.specs.Words.{source_of};
-ghost use Rattle.srv_stream.specs.Faults.{EndsAtFirstFault, FirstFault};
+ghost use Rattle.std.specs.Prelude.{◌≡◌, ◌⊎◌, length, map};
+ghost use Rattle.pva_outside.specs.Count.{Rose};
+ghost use Rattle.desk_core.specs.Ports.{ports_there, ports_wanted};
+ghost use Rattle.pvaserve.specs.Running.{Checking, Runs, Serves, Serving, SiteServes, Tells};
+ghost use Rattle.pvaserve.specs.Completeness.{Completes};
 ghost use Rattle.pvaserve.specs.Running as running;
+ghost use Rattle.pvaserve.specs.Telling.{counts_line, fault_line};
+ghost use Rattle.pvaserve.specs.Words as words;
+ghost use Rattle.srv_stream.specs.Faults.{EndsAtFirstFault, FirstFault};
 
-use crate::words::{Source, read_words};
-use desk_api::Site;
+use crate::loading::{SourceStop, read_site};
+use crate::ports::{PortsStop, make_ports};
+use crate::telling::{Printed, line_of_fault, line_of_site, print};
+use crate::words::{Asked, Task, WordsStop, read_words};
+use desk_api::{Site, SiteFault};
 use desk_core::SoloDesk;
-use pva_outside::{Clock, Kinds, Link, World};
-use pva_wire::Order;
+use pva_outside::{Clock, Kinds, Link, Port, PortMaker, Sink, World};
 use srv_stream::{Ended, serve_connection};
 use std::alloc::Global;
-
-/// How many calls of the link one connection may take.
-const TURNS: u64 = 1 << 62;
-
-/// What the entries of the history may weigh together.
-const LIMIT: u64 = 268_435_456;
 
 /// What the exit status tells.
 #[derive(Clone, Copy, Debug, PartialEq, Eq)]
 pub enum Status {
-    /// All is done: the client ended its stream at the boundary of a message, and all was answered.
+    /// All is done: the client ended its stream at the boundary of a message, and all was answered; or the source that was
+    /// checked has no fault.
     Done = 0,
-    /// The words aren't `--inetd NAME=VALUE`.
+    /// The words aren't taken.
     Words = 2,
+    /// A file can't be read, or a port can't be made.
+    Files = 3,
+    /// The database text is at fault.
+    Site = 4,
     /// The client's stream is at fault, ended inside a message, or asks for what isn't served yet.
     Stream = 5,
     /// The link failed, or a write to standard output did.
@@ -51,40 +55,160 @@ fn status_of(ended: Ended) -> u8
     status as u8
 }
 
-/// Serves the link from a desk of the source's one record.
-fn serve_source<L: Link, C: Clock>(
+/// The status that tells why a site's ports can't be had.
+fn status_of_unmade(stop: PortsStop) -> u8
+    ensures { result ≡ running.status_of_unmade stop }
+{
+    match stop {
+        PortsStop::Unmade => Status::Files as u8,
+        PortsStop::NoMemory => Status::NoMemory as u8,
+    }
+}
+
+/// Serves the link from a desk of this site with these ports.
+fn serve_with<P: Port + Drop, L: Link, C: Clock>(
     alloc: Global,
-    source: Source<'_>,
+    asked: &Asked<'_>,
+    site: Site,
+    ports: Vec<Option<P>>,
     link: &mut L,
     clock: &C,
 ) -> Ended
-    requires { IsTrue (is_record_name source.name.now) }
-    ensures serves { Serves (base_of (source_of source.entry)) (L.wire link.old) (L.wire link.new) (C.moment clock.now) result }
+    requires { ports_there ports.items ≡ ports_wanted site.configs }
+    ensures serves { Serves (record { site = site; limit = asked.now.journal }) asked.now.order asked.now.turns (L.wire link.old) (L.wire link.new) (C.moment clock.now) result }
     ensures fault { EndsAtFirstFault L.wire link.old link.new result }
 {
-    let Ok(site) = Site::single(alloc, source.name, source.value) else {
+    let Ok(mut desk) = SoloDesk::new(alloc, site, ports, asked.journal) else {
         return Ended::NoMemory;
     };
-    let Ok(mut desk) = SoloDesk::new(alloc, site, LIMIT) else {
-        return Ended::NoMemory;
+    serve_connection(alloc, &mut desk, link, clock, asked.order, asked.turns)
+}
+
+/// Makes the ports of this site, and serves the link from its desk.
+fn serve_site<M: PortMaker, L: Link, C: Clock>(
+    alloc: Global,
+    asked: &Asked<'_>,
+    site: Site,
+    maker: &mut M,
+    link: &mut L,
+    clock: &C,
+) -> u8
+    ensures serves { SiteServes (words.asked_of asked.now) site (C.moment clock.now) (M.maker maker.old) (M.maker maker.new) (L.wire link.old) (L.wire link.new) result }
+    ensures fault { result ≡ 6 → FirstFault L.wire link.old link.new }
+{
+    let ports = match make_ports(alloc, &site, maker) {
+        Ok(ports) => ports,
+        Err(stop) => return status_of_unmade(stop),
     };
-    serve_connection(alloc, &mut desk, link, clock, Order::Little, TURNS)
+    status_of(serve_with(alloc, asked, site, ports, link, clock))
+}
+
+/// The status that tells what became of a line, where this one tells that it was printed whole.
+fn status_by(whole: u8, printed: Printed) -> u8
+    ensures { result ≡ running.status_by whole printed }
+{
+    match printed {
+        Printed::Whole => whole,
+        Printed::Failed => Status::Outside as u8,
+        Printed::NoMemory => Status::NoMemory as u8,
+    }
+}
+
+/// Prints what a site has.
+fn tell_site<S: Sink>(alloc: Global, site: &Site, sink: &mut S) -> u8
+    ensures { Tells (counts_line (length site.now.names)) 0 (S.written sink.old) (S.written sink.new) (S.faults sink.old) (S.faults sink.new) result }
+{
+    let Ok(line) = line_of_site(alloc, site) else {
+        return Status::NoMemory as u8;
+    };
+    status_by(Status::Done as u8, print(sink, line.as_str()))
+}
+
+/// Prints where a text is wrong.
+fn tell_fault<S: Sink>(alloc: Global, fault: &SiteFault, sink: &mut S) -> u8
+    ensures { Tells (fault_line fault.now) 4 (S.written sink.old) (S.written sink.new) (S.faults sink.old) (S.faults sink.new) result }
+{
+    let Ok(line) = line_of_fault(alloc, fault) else {
+        return Status::NoMemory as u8;
+    };
+    status_by(Status::Site as u8, print(sink, line.as_str()))
+}
+
+/// Prints what a source has, or where it is wrong.
+fn check<S: Sink>(alloc: Global, found: &Result<Site, SourceStop>, sink: &mut S) -> u8
+    ensures { Checking found.now (S.written sink.old) (S.written sink.new) (S.faults sink.old) (S.faults sink.new) result }
+{
+    match found {
+        Ok(site) => tell_site(alloc, site, sink),
+        Err(SourceStop::Fault(fault)) => tell_fault(alloc, fault, sink),
+        Err(SourceStop::Unread) => Status::Files as u8,
+        Err(SourceStop::NoMemory) => Status::NoMemory as u8,
+    }
+}
+
+/// Serves the link from a desk of what a source gave.
+fn serve<M: PortMaker, L: Link, C: Clock>(
+    alloc: Global,
+    asked: &Asked<'_>,
+    found: Result<Site, SourceStop>,
+    maker: &mut M,
+    link: &mut L,
+    clock: &C,
+) -> u8
+    ensures serves { Serving (words.asked_of asked.now) found (C.moment clock.now) (M.maker maker.old) (M.maker maker.new) (L.wire link.old) (L.wire link.new) result }
+    ensures fault { result ≡ 6 → FirstFault L.wire link.old link.new }
+{
+    match found {
+        Ok(site) => serve_site(alloc, asked, site, maker, link, clock),
+        Err(stop) => status_of_stop(&stop),
+    }
+}
+
+/// The status that tells why a source gives no site to serve.
+fn status_of_stop(stop: &SourceStop) -> u8
+    ensures { result ≡ running.status_of_stop stop.now }
+{
+    match stop {
+        SourceStop::Unread => Status::Files as u8,
+        SourceStop::Fault(_) => Status::Site as u8,
+        SourceStop::NoMemory => Status::NoMemory as u8,
+    }
 }
 
 /// Runs the program with these words, without its own name among them, and answers its exit status.
 ///
-/// `--inetd NAME=VALUE` serves one longout of that name and value over the world's link: NAME ends at the first `=` and is
-/// a name that a record may have, and VALUE is a decimal number of 32 signed bits, without a zero in front. With all other
-/// words the status is 2, and nothing is done. Nothing is printed. Status 6 comes at the link's first fault.
+/// `--inetd SOURCE` serves one connection over the world's link, from a desk of the records of SOURCE with their ports, and
+/// prints nothing. `--check SOURCE` prints what SOURCE has, or where it is wrong, and makes no port. SOURCE is `NAME=VALUE`,
+/// one longout, or the name of a file with a database text. The first fault is told by the status alone: of the words, of
+/// SOURCE's file, of its text, of the ports in the order of the records, of the serving.
+#[tactic(auto, using(crate::proofs::Making::named_by, crate::proofs::Making::runs_check, crate::proofs::Making::runs_inetd, crate::proofs::Making::checking_rose))]
 pub fn run<W: Kinds>(alloc: Global, words: &[&str], world: &mut World<W>) -> u8
     ensures runs { Runs (map (λ w. w.now) words.now) (W.Clock.moment world.old.clock)
-        (record { wire = W.Link.wire world.old.link; printed = W.Sink.written world.old.sink; print_faults = W.Sink.faults world.old.sink })
-        (record { wire = W.Link.wire world.new.link; printed = W.Sink.written world.new.sink; print_faults = W.Sink.faults world.new.sink })
+        (record { wire = W.Link.wire world.old.link; files = W.Files.files world.old.files; ports = W.Ports.maker world.old.ports; printed = W.Sink.written world.old.sink; print_faults = W.Sink.faults world.old.sink })
+        (record { wire = W.Link.wire world.new.link; files = W.Files.files world.new.files; ports = W.Ports.maker world.new.ports; printed = W.Sink.written world.new.sink; print_faults = W.Sink.faults world.new.sink })
         result }
-    ensures fault { result ≡ 6 → FirstFault W.Link.wire world.old.link world.new.link }
+    ensures fault { result ≡ 6 → FirstFault W.Link.wire world.old.link world.new.link ⊎ Rose (W.Sink.faults world.old.sink) (W.Sink.faults world.new.sink) }
 {
-    let Some(source) = read_words(words) else {
-        return Status::Words as u8;
+    let asked = match read_words(alloc, words) {
+        Ok(asked) => asked,
+        Err(WordsStop::Refused) => return Status::Words as u8,
+        Err(WordsStop::NoMemory) => return Status::NoMemory as u8,
     };
-    status_of(serve_source(alloc, source, &mut world.link, &world.clock))
+    let found = read_site(alloc, asked.source, &asked.macros, &mut world.files);
+    match asked.task {
+        Task::Check => check(alloc, &found, &mut world.sink),
+        Task::Inetd => serve(
+            alloc,
+            &asked,
+            found,
+            &mut world.ports,
+            &mut world.link,
+            &world.clock,
+        ),
+    }
 }
+
+/// A law: a run that meets no fault ends with status 0, or 7 where memory runs out.
+pub fn faultless_runs_are_done()
+    ensures { Completes }
+{}

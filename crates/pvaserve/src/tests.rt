@@ -1,9 +1,8 @@
 use crate::program::run;
-use desk_api::Site;
-use desk_core::SoloDesk;
-use pva_outside::{FixedClock, Kinds, MemoryLink, MemorySink, PlainLink, Turn, World};
-use pva_wire::Order;
-use srv_stream::{Ended, serve_connection};
+use pva_outside::{
+    FixedClock, Kinds, MemoryFile, MemoryFiles, MemoryLink, MemoryPorts, MemorySink, PlainLink,
+    Turn, World,
+};
 use std::alloc::{AllocError, Global};
 use std::test::Fail;
 
@@ -59,6 +58,9 @@ const SEVEN: &[u8] =
 const JOURNAL_FULL: &[u8] =
     b"\xCA\x02\x40\x0B\x14\x00\x00\x00\x02\x00\x00\x00\x00\x02\x0Cjournal full\x00";
 
+/// The answer to a put that is done.
+const DONE: &[u8] = b"\xCA\x02\x40\x0B\x06\x00\x00\x00\x02\x00\x00\x00\x00\xFF";
+
 fn joined(alloc: Global, parts: &[&[u8]]) -> Result<Vec<u8>, AllocError> {
     let mut bytes = Vec::new(alloc);
     for part in parts {
@@ -73,17 +75,13 @@ struct Ready;
 impl Kinds for Ready {
     type Link = PlainLink;
 
+    type Files = MemoryFiles;
+
+    type Ports = MemoryPorts;
+
     type Sink = MemorySink;
 
     type Clock = FixedClock;
-}
-
-fn ready_world(alloc: Global, input: Vec<u8>) -> World<Ready> {
-    World {
-        link: PlainLink::new(alloc, input),
-        sink: MemorySink::new(alloc, Vec::new(alloc)),
-        clock: FixedClock::new(100, 5),
-    }
 }
 
 /// The outside in memory, with a link that follows a script.
@@ -92,17 +90,100 @@ struct Scripted;
 impl Kinds for Scripted {
     type Link = MemoryLink;
 
+    type Files = MemoryFiles;
+
+    type Ports = MemoryPorts;
+
     type Sink = MemorySink;
 
     type Clock = FixedClock;
 }
 
+/// The files of a world with this text in `a.db`.
+fn files_with(alloc: Global, text: &[u8]) -> Result<MemoryFiles, AllocError> {
+    let mut files = Vec::with_capacity(alloc, 1)?;
+    files.push(MemoryFile {
+        name: String::from_str(alloc, "a.db")?,
+        bytes: Vec::from_slice(alloc, text)?,
+    })?;
+    Ok(MemoryFiles::new(alloc, files, Vec::new(alloc)))
+}
+
+/// A world of this input and these files, of which makes of ports, drives and prints fail at these calls.
+fn world_with(
+    alloc: Global,
+    input: Vec<u8>,
+    files: MemoryFiles,
+    makes: Vec<u64>,
+    drives: Vec<u64>,
+    prints: Vec<u64>,
+) -> World<Ready> {
+    World {
+        link: PlainLink::new(alloc, input),
+        files,
+        ports: MemoryPorts::new(alloc, makes, drives),
+        sink: MemorySink::new(alloc, prints),
+        clock: FixedClock::new(100, 5),
+    }
+}
+
+/// A world of this input, without files.
+fn ready_world(alloc: Global, input: Vec<u8>) -> World<Ready> {
+    let files = MemoryFiles::new(alloc, Vec::new(alloc), Vec::new(alloc));
+    world_with(
+        alloc,
+        input,
+        files,
+        Vec::new(alloc),
+        Vec::new(alloc),
+        Vec::new(alloc),
+    )
+}
+
 fn scripted_world(alloc: Global, input: Vec<u8>, script: Vec<Turn>) -> World<Scripted> {
     World {
         link: MemoryLink::new(alloc, input, script),
+        files: MemoryFiles::new(alloc, Vec::new(alloc), Vec::new(alloc)),
+        ports: MemoryPorts::new(alloc, Vec::new(alloc), Vec::new(alloc)),
         sink: MemorySink::new(alloc, Vec::new(alloc)),
         clock: FixedClock::new(100, 5),
     }
+}
+
+/// What a run came to: its status, what was printed and what was written to the link, and how many ports were asked for.
+#[derive(Drop)]
+struct Outcome {
+    status: u8,
+    printed: Vec<u8>,
+    written: Vec<u8>,
+    ports: usize,
+}
+
+/// What a run of these words comes to, with this text in `a.db`.
+fn outcome_of(
+    alloc: Global,
+    words: &[&str],
+    text: &[u8],
+    input: &[&[u8]],
+    makes: &[u64],
+    drives: &[u64],
+    prints: &[u64],
+) -> Result<Outcome, AllocError> {
+    let mut world = world_with(
+        alloc,
+        joined(alloc, input)?,
+        files_with(alloc, text)?,
+        Vec::from_slice(alloc, makes)?,
+        Vec::from_slice(alloc, drives)?,
+        Vec::from_slice(alloc, prints)?,
+    );
+    let status = run(alloc, words, &mut world);
+    Ok(Outcome {
+        status,
+        printed: Vec::from_slice(alloc, world.sink.written())?,
+        written: Vec::from_slice(alloc, world.link.written())?,
+        ports: world.ports.asked().len(),
+    })
 }
 
 #[test]
@@ -143,12 +224,10 @@ fn one_put_is_one_entry_and_a_second_is_above_the_limit(rt: HostRuntime) -> Resu
         &[JOURNAL_FULL, SEVEN],
     ]
     .concat(alloc)?;
-    let mut desk = SoloDesk::new(alloc, Site::single(alloc, "X", 42)?, 200)?;
-    let mut link = PlainLink::new(alloc, joined(alloc, &input)?);
-    let clock = FixedClock::new(100, 5);
-    let ended = serve_connection(alloc, &mut desk, &mut link, &clock, Order::Little, 1 << 62);
-    assert_eq!(rt; ended, Ended::Closed);
-    assert_eq!(rt; link.written(), joined(alloc, &output)?.as_slice());
+    let mut world = ready_world(alloc, joined(alloc, &input)?);
+    let words = ["--inetd", "X=42", "--journal", "200"];
+    assert_eq!(rt; run(alloc, &words, &mut world), 0);
+    assert_eq!(rt; world.link.written(), joined(alloc, &output)?.as_slice());
     Ok(())
 }
 
@@ -160,7 +239,7 @@ fn sources_that_are_served_and_others(rt: HostRuntime) -> Result<(), Fail> {
         ("X=0", 0),
         ("BL:M1:Pos-2=2147483647", 0),
         ("X=-2147483648", 0),
-        ("X", 2),
+        ("X", 3),
         ("X=", 2),
         ("=4", 2),
         ("X=-", 2),
@@ -174,6 +253,7 @@ fn sources_that_are_served_and_others(rt: HostRuntime) -> Result<(), Fail> {
         ("X=-2147483649", 2),
         ("A.B=1", 2),
         ("A=B=1", 2),
+        ("", 3),
         ("--listen", 2),
     ] {
         let mut world = ready_world(alloc, Vec::new(alloc));
@@ -197,10 +277,20 @@ fn words_that_are_not_taken(rt: HostRuntime) {
         &["--inetd"],
         &["X=42"],
         &["--help"],
-        &["X=42", "--inetd"],
         &["--listen", "X=42"],
         &["--inetd=true", "X=42"],
-        &["--inetd", "X=42", "--big"],
+        &["--inetd", "--check", "X=42"],
+        &["--inetd", "X=42", "Y=42"],
+        &["--inetd", "X=42", "--version"],
+        &["--inetd", "X=42", "--turns", "0"],
+        &["--inetd", "X=42", "--turns", "4611686018427387905"],
+        &["--inetd", "X=42", "--journal", "007"],
+        &["--inetd", "X=42", "--journal", "18446744073709551616"],
+        &["--inetd", "X=42", "--macros", "A"],
+        &["--inetd", "X=42", "--macros", "A=1,"],
+        &["--inetd", "X=42", "--macros", "A-B=1"],
+        &["--inetd", "X=42", "--macros", "A=\n"],
+        &["--inetd", "X=42", "--big", "--big"],
     ] {
         let mut world = ready_world(alloc, Vec::new(alloc));
         assert_eq!(rt; run(alloc, words, &mut world), 2, "{words:?}");
@@ -263,5 +353,193 @@ fn pieces_of_one_byte_between_idle_calls_are_answered_the_same(
         world.link.written(),
         joined(alloc, &FIRST_SERVER)?.as_slice()
     );
+    Ok(())
+}
+
+/// A text that is checked: whether it is a site, and what is printed.
+const CHECKED: [(&[u8], u8, &[u8]); 7] = [
+    (
+        b"record(longin, \"A\") { field(VAL, \"0x10\") }",
+        0,
+        b"1 records, 0 groups\n",
+    ),
+    (
+        b"record(longin, \"A\") { field(VAL, \"1x\") }",
+        4,
+        b"line 1: BadNumber\n",
+    ),
+    (b"\n\nrecord(longin, \"\xFF\") {}", 4, b"line 3: BadToken\n"),
+    (b"", 4, b"line 0: Count\n"),
+    (
+        b"\nrecord(longin, \"$(P)$(Q)\") {}",
+        4,
+        b"line 2: UnknownMacro\n",
+    ),
+    (b"record(longin, \"$(P)\") {}", 0, b"1 records, 0 groups\n"),
+    (
+        b"record(longout, \"A\") { field(DTYP, \"File\") field(OUT, \"@file a\") } record(bo, B) {}",
+        0,
+        b"2 records, 0 groups\n",
+    ),
+];
+
+#[test]
+fn a_text_is_checked_and_no_port_is_made(rt: HostRuntime) -> Result<(), Fail> {
+    let alloc = rt.alloc();
+    for (text, status, printed) in CHECKED {
+        let words = ["--check", "a.db", "--macros", "P=X.Y,P=B"];
+        let outcome = outcome_of(alloc, &words, text, &[], &[1], &[], &[])?;
+        assert_eq!(rt; outcome.status, status);
+        assert_eq!(rt; outcome.printed.as_slice(), printed);
+        assert_eq!(rt; outcome.written.as_slice(), b"".as_slice());
+        assert_eq!(rt; outcome.ports, 0);
+    }
+    Ok(())
+}
+
+#[test]
+fn faults_are_found_in_the_order_of_words_files_text_ports_and_serving(
+    rt: HostRuntime,
+) -> Result<(), Fail> {
+    let alloc = rt.alloc();
+    let ported: &[u8] =
+        b"record(bo, A) {} record(longout, B) { field(DTYP, File) field(OUT, \"@file p\") } record(longout, C) { field(DTYP, File) field(OUT, \"@file q\") }";
+    for (words, text, status, ports) in [
+        (&["--inetd", "a.db", "--turns", "x"][..], &b"?"[..], 2, 0),
+        (&["--inetd", "b.db"], ported, 3, 0),
+        (&["--check", "b.db"], ported, 3, 0),
+        (&["--inetd", "a.db"], b"?", 4, 0),
+        (&["--inetd", "a.db"], ported, 3, 2),
+        (&["--inetd", "X=1", "--turns", "1"], ported, 8, 0),
+        (&["--check", "a.db"], ported, 6, 0),
+    ] {
+        let outcome = outcome_of(alloc, words, text, &[], &[2], &[], &[1])?;
+        assert_eq!(rt; outcome.status, status);
+        assert_eq!(rt; outcome.ports, ports);
+        let greeted = if status == 8 { GREETING } else { b"" };
+        assert_eq!(rt; outcome.written.as_slice(), greeted);
+        assert!(rt; outcome.printed.is_empty());
+    }
+    Ok(())
+}
+
+#[test]
+fn a_site_of_four_thousand_records(rt: HostRuntime) -> Result<(), Fail> {
+    let alloc = rt.alloc();
+    let mut text = String::new(alloc);
+    for number in 0..4000u32 {
+        text.push_str(format!(in alloc; "record(bo, R{number}) {{}}")?.as_str())?;
+    }
+    let words = ["--check", "a.db"];
+    let outcome = outcome_of(alloc, &words, text.as_bytes(), &[], &[], &[], &[])?;
+    assert_eq!(rt; outcome.status, 0);
+    assert_eq!(rt;
+        outcome.printed.as_slice(),
+        b"4000 records, 0 groups\n".as_slice()
+    );
+    Ok(())
+}
+
+/// What begins a put on channel 0.
+const BEGIN: &[u8] =
+    b"\xCA\x02\x00\x0B\x0C\x00\x00\x00\x00\x00\x00\x00\x02\x00\x00\x00\x08\x80\x00\x00";
+
+/// A database text of X, a put, and its answer.
+const ANSWERED: [(&[u8], &[u8], &[u8]); 6] = [
+    (
+        b"record(mbbo, X) { field(ZRST, a) field(ONST, b) field(TWST, c) }",
+        b"\xCA\x02\x00\x0B\x0F\x00\x00\x00\x00\x00\x00\x00\x02\x00\x00\x00\x00\x01\x04\x03\x00\x00\x00",
+        b"\xCA\x02\x40\x0B\x21\x00\x00\x00\x02\x00\x00\x00\x00\x02\x19index outside the choices\x00",
+    ),
+    (
+        b"record(stringout, X) {}",
+        b"\xCA\x02\x00\x0B\x33\x00\x00\x00\x00\x00\x00\x00\x02\x00\x00\x00\x00\x01\x02\x27123456789012345678901234567890123456789",
+        DONE,
+    ),
+    (
+        b"record(stringout, X) {}",
+        b"\xCA\x02\x00\x0B\x34\x00\x00\x00\x00\x00\x00\x00\x02\x00\x00\x00\x00\x01\x02\x281234567890123456789012345678901234567890",
+        b"\xCA\x02\x40\x0B\x15\x00\x00\x00\x02\x00\x00\x00\x00\x02\x0Dtext too long\x00",
+    ),
+    (
+        b"record(waveform, X) { field(FTVL, LONG) field(NELM, \"1\") }",
+        b"\xCA\x02\x00\x0B\x10\x00\x00\x00\x00\x00\x00\x00\x02\x00\x00\x00\x00\x01\x02\x01\x09\x00\x00\x00",
+        DONE,
+    ),
+    (
+        b"record(waveform, X) { field(FTVL, LONG) field(NELM, \"1\") }",
+        b"\xCA\x02\x00\x0B\x14\x00\x00\x00\x00\x00\x00\x00\x02\x00\x00\x00\x00\x01\x02\x02\x09\x00\x00\x00\x08\x00\x00\x00",
+        b"\xCA\x02\x40\x0B\x19\x00\x00\x00\x02\x00\x00\x00\x00\x02\x11too many elements\x00",
+    ),
+    (
+        b"record(longout, X) { field(DISP, \"1\") }",
+        b"\xCA\x02\x00\x0B\x0F\x00\x00\x00\x00\x00\x00\x00\x02\x00\x00\x00\x00\x01\x02\x07\x00\x00\x00",
+        b"\xCA\x02\x40\x0B\x19\x00\x00\x00\x02\x00\x00\x00\x00\x02\x11puts are disabled\x00",
+    ),
+];
+
+#[test]
+fn puts_that_records_take_and_refuse(rt: HostRuntime) -> Result<(), Fail> {
+    let alloc = rt.alloc();
+    let [validation, channel, ..] = FIRST_CLIENT;
+    for (text, put, answer) in ANSWERED {
+        let input = [validation, channel, BEGIN, put];
+        let outcome = outcome_of(alloc, &["--inetd", "a.db"], text, &input, &[], &[], &[])?;
+        assert_eq!(rt; outcome.status, 0);
+        assert!(rt; outcome.written.as_slice().ends_with(answer));
+    }
+    Ok(())
+}
+
+/// Puts 11 and 8 into request 2.
+const ELEVEN: &[u8] =
+    b"\xCA\x02\x00\x0B\x0F\x00\x00\x00\x00\x00\x00\x00\x02\x00\x00\x00\x00\x01\x02\x0B\x00\x00\x00";
+
+const EIGHT: &[u8] =
+    b"\xCA\x02\x00\x0B\x0F\x00\x00\x00\x00\x00\x00\x00\x02\x00\x00\x00\x00\x01\x02\x08\x00\x00\x00";
+
+/// Second 100, nanosecond 5, and the tag 0.
+const MOMENT: &[u8] = b"\x64\x00\x00\x00\x00\x00\x00\x00\x05\x00\x00\x00\x00\x00\x00\x00";
+
+#[test]
+fn alarms_of_values_and_of_ports(rt: HostRuntime) -> Result<(), Fail> {
+    let alloc = rt.alloc();
+    let [validation, channel, begin_get, _] = FIRST_CLIENT;
+    let [_, seven, _] = PUTTING_CLIENT;
+    let limits: &[u8] =
+        b"record(longout, X) { field(DRVH, \"10\") field(HIHI, \"10\") field(HHSV, MAJOR) }";
+    let ported: &[u8] = b"record(longout, X) { field(DTYP, File) field(OUT, \"@file p\") }";
+    for (text, puts, value, moment) in [
+        (
+            limits,
+            &[ELEVEN][..],
+            &b"\x0A\x00\x00\x00\x02\x00\x00\x00\x01\x00\x00\x00\x04HIHI"[..],
+            MOMENT,
+        ),
+        (
+            b"record(longin, X) {}",
+            &[],
+            b"\x00\x00\x00\x00\x03\x00\x00\x00\x06\x00\x00\x00\x03UDF",
+            &[0; 16],
+        ),
+        (
+            ported,
+            &[seven],
+            b"\x07\x00\x00\x00\x03\x00\x00\x00\x02\x00\x00\x00\x05WRITE",
+            MOMENT,
+        ),
+        (
+            ported,
+            &[seven, EIGHT],
+            b"\x08\x00\x00\x00\x00\x00\x00\x00\x00\x00\x00\x00\x00",
+            MOMENT,
+        ),
+    ] {
+        let input = [&[validation, channel, begin_get, BEGIN], puts, &[GET]].concat(alloc)?;
+        let outcome = outcome_of(alloc, &["--inetd", "a.db"], text, &input, &[], &[1], &[])?;
+        assert_eq!(rt; outcome.status, 0);
+        let shown = joined(alloc, &[value, moment])?;
+        assert!(rt; outcome.written.as_slice().ends_with(shown.as_slice()));
+    }
     Ok(())
 }

@@ -1,64 +1,282 @@
 // The words of the command line.
-ghost use Rattle.std.specs.Prelude.{◌≡◌, List, ℕ, ℤ, MatchOption, map};
-ghost use Rattle.pvaserve.specs.Words.{IsNumber, IsSource, IsWords, is_plain, source_of};
+ghost use Rattle.std.specs.Prelude.{◌≡◌, ◌≢◌, ◌<◌, ◌^◌, ℕ, List, false, IfOk, MatchOption, codes, map, option_map};
+ghost use Rattle.std.specs.Fmt.{decimal};
+ghost use Rattle.clap.specs.Words.{FailsBy, app_of, found_of, is_broken, kind_of, rows_of, with_rule};
+ghost use Rattle.pvaserve.specs.Words.{AreRead, AreMacrosIn, IsSourceIn, source_of, IsCount, IsCountOr, RowsAreRead, bare_app, flag_rule, given, is_plain_count, is_set, option_rule, order_by, server_app, task_by, task_in, word_faults, word_rows};
+ghost use Rattle.db_text.specs.Macros.{Macros};
 ghost use Rattle.pvaserve.specs.Words as specs;
 
-use desk_api::is_record_name;
+use crate::macros::read_macros;
+use crate::source::{Source, read_source};
+use clap::error::ErrorKind;
+use clap::{Arg, ArgAction, ArgMatches, Command, Error};
+use pva_wire::Order;
+use pvd_type::{Name, NoMemory};
+use std::alloc::{AllocError, Global};
 
-/// What is served: one longout.
+/// What the entries of the history may weigh together, unless the words say otherwise.
+const JOURNAL: u64 = 268_435_456;
+
+/// How many calls of the link one connection may take, at the most.
+const TURNS: u64 = 1 << 62;
+
+/// What is to be done.
 #[derive(Clone, Copy, Debug, PartialEq, Eq)]
-pub struct Source<'a> {
-    /// The record's name.
-    pub name: &'a str,
-    /// The value that it opens with.
-    pub value: i32,
+pub enum Task {
+    /// Serve one connection.
+    Inetd,
+    /// Say what a source has, or where it is wrong.
+    Check,
 }
 
-/// The source that the words name. None where they aren't the two words `--inetd NAME=VALUE`, with a name that a record
-/// may have and a value that is a number.
-pub fn read_words<'a>(words: &[&'a str]) -> Option<Source<'a>>
-    ensures { MatchOption result ((s : specs.Source) → ¬ (IsWords (map (λ w. w.now) words.now) s)) (λ s. IsWords (map (λ w. w.now) words.now) (source_of s)) }
+/// What the words ask for.
+#[derive(Debug, Drop)]
+pub struct Asked<'a> {
+    pub task: Task,
+    pub source: Source<'a>,
+    pub macros: Vec<(Name, Name)>,
+    pub order: Order,
+    pub journal: u64,
+    pub turns: u64,
+}
+
+/// Why words ask for nothing.
+#[derive(Clone, Copy, Debug, PartialEq, Eq)]
+pub enum WordsStop {
+    /// They aren't taken.
+    Refused,
+    /// Memory ran out.
+    NoMemory,
+}
+
+impl From<NoMemory> for WordsStop {
+    ghost use Rattle.std.specs.Prelude.{◌≡◌};
+    ghost use Rattle.pvaserve.specs.declared.words.WordsStop.TheVariants as stops;
+
+    ghost from_gives = { λ _ e. e ≡ stops.NoMemory };
+
+    fn from(_: NoMemory) -> WordsStop {
+        WordsStop::NoMemory
+    }
+}
+
+fn with_flag<'a>(
+    command: Command<'a>,
+    alloc: Global,
+    name: &'a str,
+) -> Result<Command<'a>, AllocError>
+    ensures app { IfOk result (λ c. app_of c ≡ with_rule (app_of command.entry) (flag_rule name.entry.now)) }
+    ensures whole { IfOk result (λ c. is_broken c ≡ is_broken command.entry) }
 {
-    let [option, text] = words else {
+    command.arg(Arg::new(alloc, name).long(name).action(ArgAction::SetTrue))
+}
+
+fn with_option<'a>(
+    command: Command<'a>,
+    alloc: Global,
+    name: &'a str,
+) -> Result<Command<'a>, AllocError>
+    ensures app { IfOk result (λ c. app_of c ≡ with_rule (app_of command.entry) (option_rule name.entry.now)) }
+    ensures whole { IfOk result (λ c. is_broken c ≡ is_broken command.entry) }
+{
+    command.arg(Arg::new(alloc, name).long(name))
+}
+
+/// The command, which has no options so far.
+fn bare_command<'a>(alloc: Global) -> Command<'a>
+    ensures app { app_of result ≡ bare_app }
+    ensures whole { is_broken result ≡ false }
+{
+    Command::new(alloc, "pvaserve").no_binary_name(true)
+}
+
+/// The command with its options, and its one argument.
+fn server_command<'a>(alloc: Global) -> Result<Command<'a>, AllocError>
+    ensures app { IfOk result (λ c. app_of c ≡ server_app) }
+    ensures whole { IfOk result (λ c. is_broken c ≡ false) }
+{
+    let command = with_flag(bare_command(alloc), alloc, "inetd")?;
+    let command = with_flag(command, alloc, "check")?;
+    let command = with_option(command, alloc, "macros")?;
+    let command = with_flag(command, alloc, "big")?;
+    let command = with_option(command, alloc, "journal")?;
+    let command = with_option(command, alloc, "turns")?;
+    command.arg(Arg::new(alloc, "source"))
+}
+
+/// What the words give to the options and to the argument.
+fn matches_of<'a>(alloc: Global, words: &'a [&'a str]) -> Result<ArgMatches<'a>, Error>
+    ensures fails { FailsBy (word_faults (map (λ s. s.now) words.entry.now)) result }
+    ensures rows { IfOk result (λ m. rows_of (found_of m) ≡ word_rows (map (λ s. s.now) words.entry.now)) }
+{
+    let command = server_command(alloc)?;
+    command.try_get_matches_from(words)
+}
+
+/// The text that an option or the argument was given.
+fn given<'a>(matches: &ArgMatches<'a>, name: &str) -> Option<&'a str>
+    ensures { option_map (λ s. s.now) result ≡ given (rows_of (found_of matches.now)) name.now }
+{
+    matches.get_str(name)
+}
+
+/// Whether a flag was given.
+fn is_set(matches: &ArgMatches<'_>, name: &str) -> bool
+    ensures { result ≡ is_set (rows_of (found_of matches.now)) name.now }
+{
+    match given(matches, name) {
+        Some(text) => text == "true",
+        None => false,
+    }
+}
+
+/// The task whose flag was given, where no other was.
+fn task_by(inetd: bool, check: bool) -> Option<Task>
+    ensures { result ≡ task_by inetd check }
+{
+    match (inetd, check) {
+        (true, false) => Some(Task::Inetd),
+        (false, true) => Some(Task::Check),
+        _ => None,
+    }
+}
+
+/// The task that the flags name, where they name exactly one.
+fn task_in(matches: &ArgMatches<'_>) -> Option<Task>
+    ensures { result ≡ task_in (rows_of (found_of matches.now)) }
+{
+    task_by(is_set(matches, "inetd"), is_set(matches, "check"))
+}
+
+/// Whether bytes begin as a number does that has no sign: not with a zero before another digit.
+fn is_plain_count(bytes: &[u8]) -> bool
+    ensures { result ≡ is_plain_count bytes.now }
+{
+    matches!(bytes, [b'0'] | [b'1'..=b'9', ..])
+}
+
+/// Reads a number: decimal digits, without a sign and without a zero in front (`0` itself is one). None also where it doesn't
+/// fit.
+fn read_count(text: &str) -> Option<u64>
+    ensures { MatchOption result ((n : ℕ) → n < 2 ^ 64 → text.now ≢ decimal n) (λ n. text.now ≡ decimal n) }
+{
+    if !is_plain_count(text.as_bytes()) {
         return None;
+    }
+    text.parse::<u64>().ok()
+}
+
+/// The number that a text says, from the least to the most that it may be.
+fn count_within(text: &str, least: u64, most: u64) -> Option<u64>
+    ensures { MatchOption result ((n : ℕ) → ¬ (IsCount text.now least most n)) (IsCount text.now least most) }
+{
+    let count = read_count(text)?;
+    if count < least {
+        return None;
+    }
+    if count > most {
+        return None;
+    }
+    Some(count)
+}
+
+/// The number that an option was given, from the least to the most that it may be, or what stands in its place.
+fn count_of(
+    matches: &ArgMatches<'_>,
+    name: &str,
+    least: u64,
+    most: u64,
+    otherwise: u64,
+) -> Option<u64>
+    ensures { MatchOption result ((n : ℕ) → ¬ (IsCountOr (given (rows_of (found_of matches.now)) name.now) least most otherwise n)) (IsCountOr (given (rows_of (found_of matches.now)) name.now) least most otherwise) }
+{
+    match given(matches, name) {
+        Some(text) => count_within(text, least, most),
+        None => Some(otherwise),
+    }
+}
+
+/// The byte order of the replies.
+fn order_of(matches: &ArgMatches<'_>) -> Order
+    ensures { result ≡ order_by (is_set (rows_of (found_of matches.now)) (codes "big")) }
+{
+    if is_set(matches, "big") {
+        Order::Big
+    } else {
+        Order::Little
+    }
+}
+
+/// The source that the argument names.
+fn source_in<'a>(matches: &ArgMatches<'a>) -> Option<Source<'a>>
+    ensures { MatchOption result ((s : specs.Source) → ¬ (IsSourceIn (rows_of (found_of matches.now)) s)) (λ s. IsSourceIn (rows_of (found_of matches.now)) (source_of s)) }
+{
+    read_source(given(matches, "source")?)
+}
+
+/// The macros that the option for them gives; none where it isn't given.
+fn macros_in(alloc: Global, matches: &ArgMatches<'_>) -> Result<Option<Vec<(Name, Name)>>, NoMemory>
+    ensures { IfOk result (λ o. MatchOption o ((macros : Macros) → ¬ (AreMacrosIn (rows_of (found_of matches.now)) macros)) (λ v. AreMacrosIn (rows_of (found_of matches.now)) v.items)) }
+{
+    match given(matches, "macros") {
+        Some(text) => read_macros(alloc, text),
+        None => Ok(Some(Vec::new(alloc))),
+    }
+}
+
+/// What the options ask for.
+#[tactic(auto, using(crate::proofs::Rows::no_task, crate::proofs::Rows::no_source, crate::proofs::Rows::no_journal, crate::proofs::Rows::no_turns, crate::proofs::Rows::no_macros))]
+fn asked_of<'a>(alloc: Global, matches: &ArgMatches<'a>) -> Result<Asked<'a>, WordsStop>
+    ensures { RowsAreRead (rows_of (found_of matches.now)) result }
+{
+    let Some(task) = task_in(matches) else {
+        return Err(WordsStop::Refused);
     };
-    if *option != "--inetd" {
-        return None;
-    }
-    read_source(text)
+    let Some(source) = source_in(matches) else {
+        return Err(WordsStop::Refused);
+    };
+    let Some(journal) = count_of(matches, "journal", 0, u64::MAX, JOURNAL) else {
+        return Err(WordsStop::Refused);
+    };
+    let Some(turns) = count_of(matches, "turns", 1, TURNS, TURNS) else {
+        return Err(WordsStop::Refused);
+    };
+    let Some(macros) = macros_in(alloc, matches)? else {
+        return Err(WordsStop::Refused);
+    };
+    Ok(Asked {
+        task,
+        source,
+        macros,
+        order: order_of(matches),
+        journal,
+        turns,
+    })
 }
 
-/// Reads `NAME=VALUE`. NAME ends at the first `=`.
-fn read_source(text: &str) -> Option<Source<'_>>
-    ensures { MatchOption result ((s : specs.Source) → ¬ (IsSource text.now s)) (λ s. IsSource text.now (source_of s)) }
+/// What a parse that failed came to.
+fn stop_of(error: &Error) -> WordsStop
+    ensures memory { kind_of error.now ≡ ErrorKind.OutOfMemory → result ≡ WordsStop.NoMemory }
+    ensures refused { result ≡ WordsStop.Refused → kind_of error.now ≢ ErrorKind.OutOfMemory }
 {
-    let (name, number) = text.split_once('=')?;
-    if !is_record_name(name) {
-        return None;
+    match error.kind() {
+        ErrorKind::OutOfMemory => WordsStop::NoMemory,
+        _ => WordsStop::Refused,
     }
-    let value = read_number(number)?;
-    Some(Source { name, value })
 }
 
-/// Reads a number: decimal digits without a zero in front (`0` itself is one), with a `-` before them where it is
-/// negative. None also where it doesn't fit.
-fn read_number(text: &str) -> Option<i32>
-    ensures { MatchOption result ((z : ℤ) → ¬ (IsNumber text.now z)) (IsNumber text.now) }
+/// What the words ask for. They are refused where the command doesn't take them, where not exactly one task is named, and
+/// where a value isn't of its form.
+pub fn read_words<'a>(alloc: Global, words: &'a [&'a str]) -> Result<Asked<'a>, WordsStop>
+    ensures { AreRead (map (λ s. s.now) words.entry.now) result }
 {
-    if !is_plain(text.as_bytes()) {
-        return None;
+    match matches_of(alloc, words) {
+        Ok(matches) => asked_of(alloc, &matches),
+        Err(error) => Err(stop_of(&error)),
     }
-    text.parse::<i32>().ok()
 }
 
-/// Whether the bytes begin as a number does: neither with a plus, nor with a zero before another digit or behind a minus.
-fn is_plain(bytes: &[u8]) -> bool
-    ensures { result ≡ is_plain bytes.now }
-{
-    matches!(bytes, [b'0'] | [b'1'..=b'9', ..] | [b'-', b'1'..=b'9', ..])
-}
-
-/// A law: words name at most one source.
-pub fn words_name_one_source()
-    ensures { (words : List (List ℕ)) (s t : specs.Source) → IsWords words s → IsWords words t → s ≡ t }
+/// A law: words ask for one thing.
+pub fn words_ask_for_one_thing()
+    ensures { (words : List (List ℕ)) (a b : specs.Asked) → specs.AreTaken words a → specs.AreTaken words b → a ≡ b }
 {}

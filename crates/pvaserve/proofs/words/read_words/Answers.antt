@@ -1,7 +1,9 @@
-use Rattle.std.proofs.Common.{◌∙◌, sym}
-use Rattle.pvaserve.proofs.Sources.{words_by_source, words_are}
+use Rattle.std.proofs.Common.{map}
+use Rattle.pvaserve.proofs.Rows.{rows_read, stopped}
 use Rattle.pvaserve.proofs.words.read_words.Goals as goal
 
-pub returns : goal.returns
-returns c =
-    words_by_source _ _ c.read_source.result (words_are c.args.words.now _ c.in-len2.len_at_least c.in-len2.len_below (sym c.ne.ensures ∙ c.if-ne.false)) c.read_source.ensures
+pub returns-in-Ok : goal.returns-in-Ok
+returns-in-Ok c = rows_read (map (λ s. s.now) c.args.words.now) _ c.asked_of.result c.in-Ok.ensures.fails c.in-Ok.ensures.rows c.asked_of.ensures
+
+pub returns-in-Err : goal.returns-in-Err
+returns-in-Err c = stopped (map (λ s. s.now) c.args.words.now) c.in-Err.error c.stop_of.result c.in-Err.ensures.fails c.stop_of.ensures.refused

@@ -2,7 +2,7 @@ use Rattle.std.proofs.Common.{◌∙◌, ℤ, Option, MatchOption, sym, ap, subs
 use Rattle.std.proofs.lemmas.Bool.{both_ways}
 use Rattle.pvaserve.specs.Words.{IsNumber, is_plain}
 use Rattle.pvaserve.proofs.Numbers.{reads, begins_plain}
-use Rattle.pvaserve.proofs.words.read_number.Goals as goal
+use Rattle.pvaserve.proofs.source.read_number.Goals as goal
 
 pub returns-then-not-is_plain : goal.returns-then-not-is_plain
 returns-then-not-is_plain c = λ z is. both_ways c.is_plain.result c.if-not-is_plain.true (c.is_plain.ensures ∙ ap is_plain c.as_bytes.ensures.value ∙ begins_plain c.args.text.now z is)

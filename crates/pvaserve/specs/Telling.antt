@@ -1,0 +1,70 @@
+-- What `--check` prints.
+use Rattle.std.specs.Prelude.{◌≡◌, ℕ, List, [], ◌∷◌, ◌++◌, length, Option, Result, Ok, Err, codes}
+use Rattle.std.specs.Fmt.{decimal}
+use Rattle.std.specs.Io.KnownBytes.{Appends}
+use Rattle.pva_outside.specs.Count.{Rose}
+use Rattle.db_text.specs.declared.fault.TextFault.{TextFault}
+use Rattle.db_text.specs.declared.fault.TextFault.TheVariants as texts
+use Rattle.db_load.specs.declared.fault.LoadFault.{LoadFault}
+use Rattle.db_load.specs.declared.fault.LoadFault.TheVariants as loads
+use Rattle.rec_kinds.specs.declared.fault.BuildFault.{BuildFault}
+use Rattle.rec_kinds.specs.declared.fault.BuildFault.TheVariants as builds
+use Rattle.desk_api.specs.declared.fault.SiteFault.{SiteFault}
+use Rattle.desk_api.specs.declared.fault.SiteFault.TheVariants as faults
+use Rattle.pvaserve.specs.declared.telling.Place.{Place as PlaceRead}
+use Rattle.pvaserve.specs.declared.telling.Printed.{Printed}
+use Rattle.pvaserve.specs.declared.telling.Printed.TheVariants.{Whole, Failed, NoMemory}
+
+-- A fault by its line, 0 where it has none, and the name of its innermost variant.
+
+abbrev pub place_told : PlaceRead → ℕ × List ℕ
+place_told p = (p.line, p.name.now)
+
+abbrev pub place_in_text : TextFault → ℕ × List ℕ
+place_in_text (texts.BadToken line) = (line, codes "BadToken")
+place_in_text (texts.OpenString line) = (line, codes "OpenString")
+place_in_text (texts.UnknownMacro name line) = (line, codes "UnknownMacro")
+place_in_text (texts.MacroDepth line) = (line, codes "MacroDepth")
+place_in_text texts.NoMemory = (0, codes "NoMemory")
+
+abbrev pub place_in_load : LoadFault → ℕ × List ℕ
+place_in_load (loads.Text fault) = place_in_text fault
+place_in_load (loads.SameRecord name line) = (line, codes "SameRecord")
+place_in_load (loads.UnknownKind name line) = (line, codes "UnknownKind")
+place_in_load (loads.UnknownField name line) = (line, codes "UnknownField")
+place_in_load (loads.BadForm line) = (line, codes "BadForm")
+place_in_load (loads.Count found) = (0, codes "Count")
+place_in_load loads.NoMemory = (0, codes "NoMemory")
+
+abbrev pub place_in_build : BuildFault → ℕ × List ℕ
+place_in_build (builds.BadNumber field) = (field.line, codes "BadNumber")
+place_in_build (builds.BadChoice field) = (field.line, codes "BadChoice")
+place_in_build (builds.BadLength field) = (field.line, codes "BadLength")
+place_in_build (builds.BadPort field) = (field.line, codes "BadPort")
+place_in_build builds.NoMemory = (0, codes "NoMemory")
+
+abbrev pub place_of : SiteFault → ℕ × List ℕ
+place_of (faults.Load fault) = place_in_load fault
+place_of (faults.Build name fault) = place_in_build fault
+place_of faults.NoMemory = (0, codes "NoMemory")
+
+-- the line about a site of so many records
+abbrev pub counts_line : ℕ → List ℕ
+counts_line records = decimal records ++ codes " records, 0 groups\n"
+
+-- the line about a fault
+abbrev pub fault_line : SiteFault → List ℕ
+fault_line fault = codes "line " ++ (decimal (place_of fault).0 ++ (codes ": " ++ ((place_of fault).1 ++ codes "\n")))
+
+-- A front of the text was printed.
+pub record IsPart (old new : Option (List ℕ)) (text : List ℕ) : Type 0 where
+  pub front : List ℕ
+  pub rest : List ℕ
+  pub whole : text ≡ front ++ rest
+  pub printed : Appends old new front
+
+-- What became of a text: what was printed, and how often printing failed.
+abbrev pub IsPrinted : Option (List ℕ) → Option (List ℕ) → ℕ → ℕ → List ℕ → Printed → Type 0
+IsPrinted old new faults faults' text Whole = Appends old new text × (faults' ≡ faults)
+IsPrinted old new faults faults' text Failed = IsPart old new text × Rose faults faults'
+IsPrinted old new faults faults' text NoMemory = IsPart old new text × (faults' ≡ faults)

@@ -1,0 +1,161 @@
+// What `--check` says of a source.
+ghost use Rattle.std.specs.Prelude.{◌≡◌, IfOk, codes, length};
+ghost use Rattle.std.specs.String.{string_bytes};
+ghost use Rattle.pvaserve.specs.Telling.{IsPrinted, counts_line, fault_line, place_in_text, place_in_load, place_in_build, place_of, place_told};
+
+use db_load::LoadFault;
+use db_text::TextFault;
+use desk_api::{Site, SiteFault};
+use pva_outside::{Sink, SinkStep};
+use rec_kinds::BuildFault;
+use std::alloc::{AllocError, Global};
+
+/// Where a fault stands, and its name.
+#[derive(Clone, Copy, Debug, PartialEq, Eq)]
+pub struct Place {
+    /// The line of the text as given, counted from 1, and 0 where the fault has none.
+    pub line: u32,
+    pub name: &'static str,
+}
+
+fn place_in_text(fault: &TextFault) -> Place
+    ensures { place_told result ≡ place_in_text fault.now }
+{
+    match fault {
+        TextFault::BadToken(line) => Place {
+            line: *line,
+            name: "BadToken",
+        },
+        TextFault::OpenString(line) => Place {
+            line: *line,
+            name: "OpenString",
+        },
+        TextFault::UnknownMacro(_, line) => Place {
+            line: *line,
+            name: "UnknownMacro",
+        },
+        TextFault::MacroDepth(line) => Place {
+            line: *line,
+            name: "MacroDepth",
+        },
+        TextFault::NoMemory => Place {
+            line: 0,
+            name: "NoMemory",
+        },
+    }
+}
+
+fn place_in_load(fault: &LoadFault) -> Place
+    ensures { place_told result ≡ place_in_load fault.now }
+{
+    match fault {
+        LoadFault::Text(fault) => place_in_text(fault),
+        LoadFault::SameRecord(_, line) => Place {
+            line: *line,
+            name: "SameRecord",
+        },
+        LoadFault::UnknownKind(_, line) => Place {
+            line: *line,
+            name: "UnknownKind",
+        },
+        LoadFault::UnknownField(_, line) => Place {
+            line: *line,
+            name: "UnknownField",
+        },
+        LoadFault::BadForm(line) => Place {
+            line: *line,
+            name: "BadForm",
+        },
+        LoadFault::Count(_) => Place {
+            line: 0,
+            name: "Count",
+        },
+        LoadFault::NoMemory => Place {
+            line: 0,
+            name: "NoMemory",
+        },
+    }
+}
+
+fn place_in_build(fault: &BuildFault) -> Place
+    ensures { place_told result ≡ place_in_build fault.now }
+{
+    match fault {
+        BuildFault::BadNumber(field) => Place {
+            line: field.line,
+            name: "BadNumber",
+        },
+        BuildFault::BadChoice(field) => Place {
+            line: field.line,
+            name: "BadChoice",
+        },
+        BuildFault::BadLength(field) => Place {
+            line: field.line,
+            name: "BadLength",
+        },
+        BuildFault::BadPort(field) => Place {
+            line: field.line,
+            name: "BadPort",
+        },
+        BuildFault::NoMemory => Place {
+            line: 0,
+            name: "NoMemory",
+        },
+    }
+}
+
+/// Where a fault of a site stands, by its innermost variant.
+fn place_of(fault: &SiteFault) -> Place
+    ensures { place_told result ≡ place_of fault.now }
+{
+    match fault {
+        SiteFault::Load(fault) => place_in_load(fault),
+        SiteFault::Build(_, fault) => place_in_build(fault),
+        SiteFault::NoMemory => Place {
+            line: 0,
+            name: "NoMemory",
+        },
+    }
+}
+
+/// The line that says what a site has.
+pub fn line_of_site(alloc: Global, site: &Site) -> Result<String, AllocError>
+    ensures { IfOk result (λ line. string_bytes line ≡ counts_line (length site.now.names)) }
+{
+    let records = site.records();
+    format!(in alloc; "{records} records, 0 groups\n")
+}
+
+/// The line that says where a text is wrong.
+pub fn line_of_fault(alloc: Global, fault: &SiteFault) -> Result<String, AllocError>
+    ensures { IfOk result (λ line. string_bytes line ≡ fault_line fault.now) }
+{
+    let place = place_of(fault);
+    format!(in alloc; "line {}: {}\n", place.line, place.name)
+}
+
+/// What a print came to.
+#[derive(Clone, Copy, Debug, PartialEq, Eq)]
+pub enum Printed {
+    /// All bytes were taken.
+    Whole,
+    /// The sink failed.
+    Failed,
+    /// Memory ran out in the sink.
+    NoMemory,
+}
+
+/// Prints a text, in as many writes as the sink wants.
+pub fn print<S: Sink>(sink: &mut S, text: &str) -> Printed
+    ensures { IsPrinted (S.written sink.old) (S.written sink.new) (S.faults sink.old) (S.faults sink.new) text.now result }
+{
+    let mut rest = text.as_bytes();
+    while !rest.is_empty() {
+        match sink.write(rest) {
+            SinkStep::Took(count) => rest = &rest[count..],
+            SinkStep::Failed => return Printed::Failed,
+            SinkStep::NoMemory => return Printed::NoMemory,
+        }
+    }
+    Printed::Whole
+}
