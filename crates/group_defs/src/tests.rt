@@ -351,10 +351,7 @@ fn each_fault_comes_in_its_place(rt: HostRuntime) -> Result<(), Fail> {
         // all texts are read before the triggers of any group are looked up
         (
             &[
-                (
-                    "A",
-                    r#"{"G": {"m": {"+channel":"VAL", "+trigger":"n"}}}"#,
-                ),
+                ("A", r#"{"G": {"m": {"+channel":"VAL", "+trigger":"n"}}}"#),
                 ("B", r#"{"F": {"+x": 1}}"#),
             ],
             "UnknownKey B",

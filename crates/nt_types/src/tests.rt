@@ -118,7 +118,12 @@ fn with_two(
 /// An NTTable of these labels, with one column in a structure of this id.
 fn table_of(alloc: Global, labels: Shape, id: &str, column: Shape) -> Result<Shape, NoMemory> {
     let columns = with_member(alloc, id, "name", column)?;
-    with_two(alloc, "epics:nt/NTTable:1.0", ("labels", labels), ("value", columns))
+    with_two(
+        alloc,
+        "epics:nt/NTTable:1.0",
+        ("labels", labels),
+        ("value", columns),
+    )
 }
 
 /// An NTEnum whose value is a structure of this id, with this index and these choices.

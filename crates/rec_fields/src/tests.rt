@@ -300,7 +300,13 @@ fn put_texts(alloc: Global, given: &str, texts: &str) -> Result<String, NoMemory
     for text in texts.split(',') {
         items.push(Name::of(alloc, text)?)?;
     }
-    put(alloc, Kind::Waveform, given, PvValue::List(Items::Text(items)), 1)
+    put(
+        alloc,
+        Kind::Waveform,
+        given,
+        PvValue::List(Items::Text(items)),
+        1,
+    )
 }
 
 fn put_numbers(alloc: Global, given: &str, numbers: &[i32]) -> Result<String, NoMemory> {
@@ -533,9 +539,21 @@ fn texts_in_lists_have_their_limits(rt: HostRuntime) -> Result<(), Fail> {
     assert_eq!(rt; words.as_str(), want.as_str());
     let table = [
         ("", "a,b", "TooManyElements"),
-        ("NELM=2", "a,1234567890123456789012345678901234567890", "TextTooLong"),
-        ("", "a,1234567890123456789012345678901234567890", "TextTooLong"),
-        ("DISP=1", "a,1234567890123456789012345678901234567890", "Disabled"),
+        (
+            "NELM=2",
+            "a,1234567890123456789012345678901234567890",
+            "TextTooLong",
+        ),
+        (
+            "",
+            "a,1234567890123456789012345678901234567890",
+            "TextTooLong",
+        ),
+        (
+            "DISP=1",
+            "a,1234567890123456789012345678901234567890",
+            "Disabled",
+        ),
     ];
     for (given, texts, want) in table {
         let words = put_texts(rt.alloc(), given, texts)?;
