@@ -1,5 +1,5 @@
 -- What a parse says, moved to the program's own command.
-use Rattle.std.proofs.Common.{◌≡◌, refl, true, false, subst, List, [], ◌∷◌, inl, inr, Result}
+use Rattle.std.proofs.Common.{◌≡◌, refl, true, subst, List, [], ◌∷◌, inl, inr, Result}
 use Rattle.clap.specs.Words.{App, HasMatchesOf, Text, is_simple, is_simple_and_free, rows_of, found_of, FailsBy, HasKind, IsAmong, Kinds, fault_of, kind_of}
 use Rattle.clap.specs.declared.error.Error.{Error}
 use Rattle.clap.specs.declared.error.kind.ErrorKind.{ErrorKind}

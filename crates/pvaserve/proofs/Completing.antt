@@ -1,6 +1,5 @@
 -- A run that meets no fault.
-use Rattle.std.proofs.Common.{◌≡◌, ◌⊎◌, ℕ, ℤ, List, Option, Result, Ok, Err, inl, inr, refl, sym, ◌∙◌, ap, subst}
-use Rattle.clap.specs.Words.{Text}
+use Rattle.std.proofs.Common.{◌≡◌, ◌⊎◌, ℕ, ℤ, Option, Result, Ok, Err, inl, inr, refl, ◌∙◌, ap, subst}
 use Rattle.pva_outside.specs.Count.{Rose}
 use Rattle.desk_api.specs.declared.fault.SiteFault.{SiteFault}
 use Rattle.desk_api.specs.declared.history.SiteData.{SiteData}
@@ -11,8 +10,8 @@ use Rattle.srv_stream.specs.declared.ended.Ended.TheVariants as ends
 use Rattle.db_text.specs.Macros.{Macros}
 use Rattle.pvaserve.specs.Words.{Asked, Source, single, file}
 use Rattle.pvaserve.specs.Opening.{Opens}
-use Rattle.pvaserve.specs.Running.{Does, IsDone, IsServed, Outside, Serving, SiteServes, status_of}
-use Rattle.pvaserve.specs.Completeness.{IsFaultless, Completes}
+use Rattle.pvaserve.specs.Running.{Does, IsServed, Outside, Serving, SiteServes, status_of}
+use Rattle.pvaserve.specs.Completeness.{Completes}
 use Rattle.pvaserve.specs.declared.loading.SourceStop.{SourceStop}
 use Rattle.pvaserve.specs.declared.loading.SourceStop.TheVariants as stops
 use Rattle.pvaserve.specs.declared.words.Task.{Task}

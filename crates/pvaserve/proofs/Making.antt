@@ -1,5 +1,5 @@
 -- A site that is served, and what a run comes to.
-use Rattle.std.proofs.Common.{◌≡◌, ◌⊎◌, ℕ, ℤ, List, Option, Result, Ok, Err, inl, inr, refl, sym, ◌∙◌, ap, subst, arith}
+use Rattle.std.proofs.Common.{◌≡◌, ℕ, ℤ, List, Option, Result, Ok, Err, inl, inr, refl, sym, ◌∙◌, ap, subst, arith}
 use Rattle.pva_outside.specs.Count.{Rose}
 use Rattle.pva_outside.specs.Makers.{MakerView}
 use Rattle.pva_outside.specs.Wire.{Wire}
@@ -16,7 +16,7 @@ use Rattle.srv_stream.specs.declared.ended.Ended.TheVariants as ends
 use Rattle.srv_stream.proofs.Ending.{never_served}
 use Rattle.srv_stream.specs.Faults.{EndsAtFirstFault, FirstFault}
 use Rattle.pvaserve.specs.Opening.{AllMade, Opens, PortsAre}
-use Rattle.pvaserve.specs.Running.{Checking, Does, IsDone, IsSilent, IsTold, IsUnasked, Outside, Runs, Serves, Serving, SiteServes, Tells, status_by, status_of, status_of_stop, status_of_unmade}
+use Rattle.pvaserve.specs.Running.{Checking, Does, Outside, Runs, Serves, Serving, SiteServes, Tells, status_by, status_of, status_of_stop, status_of_unmade}
 use Rattle.pvaserve.specs.Telling.{IsPrinted}
 use Rattle.clap.specs.Words.{Text}
 use Rattle.pvaserve.specs.Words.{Asked, AreTaken, IsNamed}

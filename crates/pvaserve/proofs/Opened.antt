@@ -1,7 +1,7 @@
 -- What a source gives.
-use Rattle.std.proofs.Common.{◌≡◌, ◌⊎◌, ℕ, ◌+◌, ◌≤◌, zero, suc, ℤ, Bool, List, [], ◌∷◌, ◌++◌, map, length, drop, Option, None, Some, Result, Ok, Err, refl, sym, ◌∙◌, ap, subst, inl, inr, append_assoc, add-one, arith}
+use Rattle.std.proofs.Common.{◌≡◌, ℕ, ◌+◌, ◌≤◌, zero, suc, ℤ, Bool, List, [], ◌∷◌, ◌++◌, length, drop, Option, None, Some, Result, Ok, Err, refl, sym, ◌∙◌, ap, subst, inl, inr, append_assoc, add-one, arith}
 use Rattle.std.specs.Prelude.{IsUtf8, is_some, option_map}
-use Rattle.std.specs.List.{filter_map, slice_get}
+use Rattle.std.specs.List.{slice_get}
 use Rattle.std.specs.Str.{IsValidUpTo}
 use Rattle.std.proofs.lemmas.List.{append-nil, drop_all}
 use Rattle.std.proofs.lemmas.Option.{none-some}
@@ -11,17 +11,16 @@ use Rattle.db_text.specs.Macros.{Macros}
 use Rattle.rec_kinds.specs.Configs.{Config}
 use Rattle.rec_kinds.specs.declared.state.RecState.{RecState}
 use Rattle.journal_core.specs.Legality.{AreValid}
-use Rattle.db_load.specs.declared.fault.LoadFault.TheVariants as loads
 use Rattle.desk_api.specs.Loading.{Builds}
 use Rattle.desk_api.specs.declared.fault.SiteFault.{SiteFault}
 use Rattle.desk_api.specs.declared.fault.SiteFault.TheVariants as faults
 use Rattle.desk_api.specs.declared.history.SiteData.{SiteData}
-use Rattle.pvaserve.specs.Words.{Source, single, file}
+use Rattle.pvaserve.specs.Words.{single, file}
 use Rattle.desk_core.specs.Ports.{ports_there, ports_wanted}
 use Rattle.pva_outside.specs.Count.{Rose}
 use Rattle.pvaserve.specs.declared.ports.PortsStop.{PortsStop}
 use Rattle.pvaserve.specs.declared.ports.PortsStop.TheVariants as unmade
-use Rattle.pvaserve.specs.Opening.{AllMade, OneUnmade, SomeMade, PathIs, PortsAre, BytesGive, BytesFail, IsSingleSite, Opens, bad_byte, stop_at, paths_of, and_these}
+use Rattle.pvaserve.specs.Opening.{AllMade, SomeMade, PathIs, PortsAre, BytesGive, BytesFail, IsSingleSite, Opens, bad_byte, stop_at, paths_of, and_these}
 use Rattle.pvaserve.specs.declared.loading.SourceStop.{SourceStop}
 use Rattle.pvaserve.specs.declared.loading.SourceStop.TheVariants.{Unread, Fault, NoMemory}
 

@@ -1,13 +1,12 @@
 -- What options ask for.
-use Rattle.std.proofs.Common.{◌≡◌, ◌≢◌, ℕ, ◌<◌, ◌≤◌, ◌-◌, ◌^◌, true, List, [], Option, None, Some, Result, Ok, Err, refl, sym, ◌∙◌, ap, subst, arith, codes}
+use Rattle.std.proofs.Common.{◌≡◌, ◌≢◌, ℕ, ◌<◌, ◌-◌, ◌^◌, List, [], Option, None, Some, Result, Ok, Err, refl, sym, ◌∙◌, ap, subst, arith, codes}
 use Rattle.std.specs.Prelude.{MatchOption, unwrap_or}
-use Rattle.std.specs.Fmt.{decimal}
 use Rattle.std.proofs.lemmas.Fmt.{decimal_injective}
 use Rattle.clap.specs.Words.{HasKind, Row, Text, kind_of}
 use Rattle.clap.specs.declared.error.Error.{Error}
 use Rattle.clap.specs.declared.error.kind.ErrorKind.TheVariants.{OutOfMemory}
 use Rattle.db_text.specs.Macros.{Macros}
-use Rattle.pvaserve.specs.Words.{Asked, Asks, AreTaken, AreRead, RowsAreRead, IsSource, IsSourceIn, AreMacrosIn, IsCount, IsCountOr, Source, asked_of, given, source_of, task_in, word_faults, word_rows}
+use Rattle.pvaserve.specs.Words.{Asked, Asks, AreTaken, AreRead, RowsAreRead, IsSource, IsSourceIn, AreMacrosIn, IsCountOr, Source, asked_of, given, source_of, task_in, word_faults, word_rows}
 use Rattle.pvaserve.specs.declared.source.Source.{Source as SourceRead}
 use Rattle.pvaserve.specs.declared.words.Asked.{Asked as AskedRead}
 use Rattle.pvaserve.specs.declared.words.Task.{Task}

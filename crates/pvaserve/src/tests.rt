@@ -491,55 +491,56 @@ fn puts_that_records_take_and_refuse(rt: HostRuntime) -> Result<(), Fail> {
     Ok(())
 }
 
-/// Puts 11 and 8 into request 2.
+/// Puts 11, 7 and 8 into request 2.
 const ELEVEN: &[u8] =
     b"\xCA\x02\x00\x0B\x0F\x00\x00\x00\x00\x00\x00\x00\x02\x00\x00\x00\x00\x01\x02\x0B\x00\x00\x00";
+
+const PUT_SEVEN: &[u8] =
+    b"\xCA\x02\x00\x0B\x0F\x00\x00\x00\x00\x00\x00\x00\x02\x00\x00\x00\x00\x01\x02\x07\x00\x00\x00";
 
 const EIGHT: &[u8] =
     b"\xCA\x02\x00\x0B\x0F\x00\x00\x00\x00\x00\x00\x00\x02\x00\x00\x00\x00\x01\x02\x08\x00\x00\x00";
 
-/// Second 100, nanosecond 5, and the tag 0.
-const MOMENT: &[u8] = b"\x64\x00\x00\x00\x00\x00\x00\x00\x05\x00\x00\x00\x00\x00\x00\x00";
+/// A record whose port fails at the first drive.
+const PORTED: &[u8] = b"record(longout, X) { field(DTYP, File) field(OUT, \"@file p\") }";
+
+/// A database text of X, two puts, and what a get shows after them, at second 100 and nanosecond 5 but without a put.
+const SHOWN: [(&[u8], &[u8], &[u8], &[u8]); 4] = [
+    (
+        b"record(longout, X) { field(DRVH, \"10\") field(HIHI, \"10\") field(HHSV, MAJOR) }",
+        ELEVEN,
+        b"",
+        b"\x0A\x00\x00\x00\x02\x00\x00\x00\x01\x00\x00\x00\x04HIHI\x64\x00\x00\x00\x00\x00\x00\x00\x05\x00\x00\x00\x00\x00\x00\x00",
+    ),
+    (
+        b"record(longin, X) {}",
+        b"",
+        b"",
+        b"\x00\x00\x00\x00\x03\x00\x00\x00\x06\x00\x00\x00\x03UDF\x00\x00\x00\x00\x00\x00\x00\x00\x00\x00\x00\x00\x00\x00\x00\x00",
+    ),
+    (
+        PORTED,
+        PUT_SEVEN,
+        b"",
+        b"\x07\x00\x00\x00\x03\x00\x00\x00\x02\x00\x00\x00\x05WRITE\x64\x00\x00\x00\x00\x00\x00\x00\x05\x00\x00\x00\x00\x00\x00\x00",
+    ),
+    (
+        PORTED,
+        PUT_SEVEN,
+        EIGHT,
+        b"\x08\x00\x00\x00\x00\x00\x00\x00\x00\x00\x00\x00\x00\x64\x00\x00\x00\x00\x00\x00\x00\x05\x00\x00\x00\x00\x00\x00\x00",
+    ),
+];
 
 #[test]
 fn alarms_of_values_and_of_ports(rt: HostRuntime) -> Result<(), Fail> {
     let alloc = rt.alloc();
     let [validation, channel, begin_get, _] = FIRST_CLIENT;
-    let [_, seven, _] = PUTTING_CLIENT;
-    let limits: &[u8] =
-        b"record(longout, X) { field(DRVH, \"10\") field(HIHI, \"10\") field(HHSV, MAJOR) }";
-    let ported: &[u8] = b"record(longout, X) { field(DTYP, File) field(OUT, \"@file p\") }";
-    for (text, puts, value, moment) in [
-        (
-            limits,
-            &[ELEVEN][..],
-            &b"\x0A\x00\x00\x00\x02\x00\x00\x00\x01\x00\x00\x00\x04HIHI"[..],
-            MOMENT,
-        ),
-        (
-            b"record(longin, X) {}",
-            &[],
-            b"\x00\x00\x00\x00\x03\x00\x00\x00\x06\x00\x00\x00\x03UDF",
-            &[0; 16],
-        ),
-        (
-            ported,
-            &[seven],
-            b"\x07\x00\x00\x00\x03\x00\x00\x00\x02\x00\x00\x00\x05WRITE",
-            MOMENT,
-        ),
-        (
-            ported,
-            &[seven, EIGHT],
-            b"\x08\x00\x00\x00\x00\x00\x00\x00\x00\x00\x00\x00\x00",
-            MOMENT,
-        ),
-    ] {
-        let input = [&[validation, channel, begin_get, BEGIN], puts, &[GET]].concat(alloc)?;
+    for (text, first, second, shown) in SHOWN {
+        let input = [validation, channel, begin_get, BEGIN, first, second, GET];
         let outcome = outcome_of(alloc, &["--inetd", "a.db"], text, &input, &[], &[1], &[])?;
         assert_eq!(rt; outcome.status, 0);
-        let shown = joined(alloc, &[value, moment])?;
-        assert!(rt; outcome.written.as_slice().ends_with(shown.as_slice()));
+        assert!(rt; outcome.written.as_slice().ends_with(shown));
     }
     Ok(())
 }

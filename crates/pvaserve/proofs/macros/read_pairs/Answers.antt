@@ -1,4 +1,4 @@
-use Rattle.std.proofs.Common.{◌≡◌, ◌∙◌, List, [], ◌∷◌, ◌++◌, arith}
+use Rattle.std.proofs.Common.{◌≡◌, ◌∙◌, [], ◌∷◌, ◌++◌, arith}
 use Rattle.pvaserve.proofs.Pairs.{at_piece, none_left, one_more_so_far, stops, all_so_far}
 use Rattle.pvaserve.proofs.macros.read_pairs.Goals as goal
 

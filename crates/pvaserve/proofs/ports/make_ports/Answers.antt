@@ -1,4 +1,4 @@
-use Rattle.std.proofs.Common.{◌≡◌, ◌∙◌, ◌+◌, ◌++◌, [], ◌∷◌, List, Bool, Option, ap, sym, arith, Bor, ℕ}
+use Rattle.std.proofs.Common.{◌≡◌, ◌∙◌, ◌+◌, ◌++◌, [], ◌∷◌, List, Bool, ap, sym, arith, Bor, ℕ}
 use Rattle.std.specs.Prelude.{is_some, option_map}
 use Rattle.desk_core.specs.Ports.{ports_there}
 use Rattle.pvaserve.proofs.Opened.{one_made, some_made, stopped_at, all_made, all_there, ended_at, is_some_map, there_more}

@@ -1,4 +1,4 @@
-use Rattle.std.proofs.Common.{◌≡◌, ◌∙◌, ap, sym, subst, ℕ, ℤ, true, List, Some, SFits, w32, to_z-of_z}
+use Rattle.std.proofs.Common.{◌≡◌, ◌∙◌, ap, sym, subst, ℕ, true, List, Some, SFits, w32, to_z-of_z}
 use Rattle.std.proofs.lemmas.Bool.{both_ways}
 use Rattle.desk_api.specs.Sites.{is_record_name}
 use Rattle.pvaserve.specs.Words.{IsSource, IsNumber, Source}
