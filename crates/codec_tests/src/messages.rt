@@ -501,6 +501,25 @@ fn texts(alloc: Global, message: &str, tree: &str) -> Option<(Name, Name)> {
     Some((message, tree))
 }
 
+/// The methods of authentication that a server offers.
+fn methods(alloc: Global) -> Result<Vec<Name>, NoMemory> {
+    let first = Name::of(alloc, "anonymous")?;
+    let second = Name::of(alloc, "ca")?;
+    Ok(vec![in alloc; first, second]?)
+}
+
+fn validation_replied(alloc: Global, order: Order) -> Option<Vec<u8>> {
+    let Ok(methods) = methods(alloc) else {
+        return None;
+    };
+    let message = ToClient::Validation {
+        buffer: 65_536,
+        registry: 32_767,
+        methods,
+    };
+    replied(alloc, order, message)
+}
+
 fn echo_replied(alloc: Global, order: Order) -> Option<Vec<u8>> {
     let Ok(bytes) = Vec::from_slice(alloc, &[1, 2, 3]) else {
         return None;
@@ -560,6 +579,25 @@ fn two_types(alloc: Global) -> Option<(PvType, PvType)> {
     let first = pair_type(alloc)?;
     let second = text_type(alloc)?;
     Some((first, second))
+}
+
+fn put_begun_replied(alloc: Global, order: Order) -> Option<Vec<u8>> {
+    let ty = text_type(alloc)?;
+    let (message, tree) = texts(alloc, "", "")?;
+    let kind = StatusKind::Good;
+    let status = Status {
+        kind,
+        message,
+        tree,
+    };
+    let message = ToClient::Put {
+        req: 2,
+        sub: 8,
+        status,
+        ty: Some(ty),
+        part: None,
+    };
+    replied(alloc, order, message)
 }
 
 fn put_get_begun_replied(alloc: Global, order: Order) -> Option<Vec<u8>> {
@@ -719,6 +757,24 @@ fn a_server_writes_its_connection_in_both_orders(rt: HostRuntime) -> Result<(), 
     let alloc = rt.alloc();
     assert!(rt;
         is(
+            validation_replied(alloc, Order::Little),
+            &[
+                0xCA, 2, 0x40, 1, 20, 0, 0, 0, 0, 0, 1, 0, 0xFF, 0x7F, 2, 9, b'a', b'n', b'o',
+                b'n', b'y', b'm', b'o', b'u', b's', 2, b'c', b'a'
+            ]
+        )
+    );
+    assert!(rt;
+        is(
+            validation_replied(alloc, Order::Big),
+            &[
+                0xCA, 2, 0xC0, 1, 0, 0, 0, 20, 0, 1, 0, 0, 0x7F, 0xFF, 2, 9, b'a', b'n', b'o',
+                b'n', b'y', b'm', b'o', b'u', b's', 2, b'c', b'a'
+            ]
+        )
+    );
+    assert!(rt;
+        is(
             echo_replied(alloc, Order::Little),
             &[0xCA, 2, 0x40, 2, 3, 0, 0, 0, 1, 2, 3]
         )
@@ -787,8 +843,20 @@ fn a_server_writes_its_connection_in_both_orders(rt: HostRuntime) -> Result<(), 
 }
 
 #[test]
-fn a_server_writes_put_gets_and_monitors_in_both_orders(rt: HostRuntime) -> Result<(), Fail> {
+fn a_server_writes_puts_and_monitors_in_both_orders(rt: HostRuntime) -> Result<(), Fail> {
     let alloc = rt.alloc();
+    assert!(rt;
+        is(
+            put_begun_replied(alloc, Order::Little),
+            &[0xCA, 2, 0x40, 0x0B, 7, 0, 0, 0, 2, 0, 0, 0, 8, 0xFF, 0x60]
+        )
+    );
+    assert!(rt;
+        is(
+            put_begun_replied(alloc, Order::Big),
+            &[0xCA, 2, 0xC0, 0x0B, 0, 0, 0, 7, 0, 0, 0, 2, 8, 0xFF, 0x60]
+        )
+    );
     assert!(rt;
         is(
             put_get_begun_replied(alloc, Order::Little),
