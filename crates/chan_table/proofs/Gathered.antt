@@ -28,7 +28,7 @@ same_or_not q n =
 pub some_there : {V : Type 0} (o : Option V) → IsSome o → o ≡ None → ⊥
 some_there o h e = absurd (false≢true (sym (ap is_some e) ∙ h))
 
-none_from : {A : Type 0} (o : Option A) → is_some o ≡ false → o ≡ None
+pub none_from : {A : Type 0} (o : Option A) → is_some o ≡ false → o ≡ None
 none_from None e = refl
 none_from (Some x) e = absurd (false≢true (sym e))
 
@@ -41,7 +41,7 @@ lt_from a b e =
       | Greater ↦ λ _ f. absurd (false≢true f)
     ] refl e
 
-lt_of : (a b : ℕ) → a < b → is_lt (nat_cmp a b) ≡ true
+pub lt_of : (a b : ℕ) → a < b → is_lt (nat_cmp a b) ≡ true
 lt_of a b lt =
     elim (nat_cmp a b) as (λ r. r ≡ nat_cmp a b → is_lt r ≡ true) [
       | Less ↦ λ _. refl
@@ -49,10 +49,10 @@ lt_of a b lt =
       | Greater ↦ λ p. let gt : b < a = ranked a b Greater p in absurd (omega arith)
     ] refl
 
-ge_from : (a b : ℕ) → is_lt (nat_cmp a b) ≡ false → b ≤ a
+pub ge_from : (a b : ℕ) → is_lt (nat_cmp a b) ≡ false → b ≤ a
 ge_from a b e = elim (cases_lt a b) [ inl lt ↦ absurd (false≢true (sym e ∙ lt_of a b lt)) | inr ge ↦ ge ]
 
-ge_of : (a b : ℕ) → b ≤ a → is_lt (nat_cmp a b) ≡ false
+pub ge_of : (a b : ℕ) → b ≤ a → is_lt (nat_cmp a b) ≡ false
 ge_of a b ge =
     elim (is_lt (nat_cmp a b)) as (λ t. is_lt (nat_cmp a b) ≡ t → t ≡ false) [
       | true ↦ λ p. let lt : a < b = lt_from a b p in absurd (omega arith)

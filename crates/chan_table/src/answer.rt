@@ -12,6 +12,11 @@ pub enum TableAnswer {
 }
 
 impl From<NoMemory> for TableAnswer {
+    ghost use Rattle.std.specs.Prelude.{◌≡◌};
+    ghost use Rattle.chan_table.specs.declared.answer.TableAnswer.TheVariants.{NoMemory as short_of_memory};
+
+    ghost from_gives = { λ _ answer. answer ≡ short_of_memory };
+
     fn from(_: NoMemory) -> TableAnswer {
         TableAnswer::NoMemory
     }
