@@ -1,6 +1,6 @@
 -- Requests filed by their channels: what stays filed as requests come, go and are lent, and which is found first.
-use Rattle.std.specs.Prelude.{◌≡◌, ◌≢◌, ℕ, suc, zero, ◌+◌, ◌-◌, ◌<◌, ◌≤◌, Bool, true, false, cond, ◌&&◌, List, [], length, Option, None, Some, is_some, IsSome, refl}
-use Rattle.std.proofs.Common.{sym, ap, subst, ◌∙◌, inl, inr, ◌⊎◌, arith}
+use Rattle.std.specs.Prelude.{◌≡◌, ◌≢◌, ℕ, ◌+◌, ◌-◌, ◌<◌, Bool, true, false, cond, ◌&&◌, List, [], length, Option, None, Some, is_some, IsSome, refl}
+use Rattle.std.proofs.Common.{sym, ap, subst, ◌∙◌, inl, inr, arith}
 use Rattle.std.specs.declared.cmp.Ordering.{Ordering}
 use Rattle.std.specs.declared.cmp.Ordering.TheVariants.{Less, Equal, Greater}
 use Rattle.std.specs.Ordering.{nat_cmp, eq_by_cmp, is_eq, is_lt, ordering_then}
@@ -12,9 +12,9 @@ use Rattle.std.proofs.lemmas.Option.{none-some, same_Some}
 use Rattle.std.proofs.lemmas.Bool.{cases_lt, false≢true}
 use Rattle.chan_table.specs.declared.ask.Ask.{Ask}
 use Rattle.chan_table.specs.Index.{AllBelow, IsFirst}
-use Rattle.chan_table.specs.Filing.{filed_cmp, sid_at, filed_at, is_at, IsFiled}
-use Rattle.chan_table.specs.Tables.{IsFreeOf, IsLeastOn}
-use Rattle.chan_table.proofs.Gathered.{same_or_not, remove-absent, none_from, lt_of, ge_of, ge_from}
+use Rattle.chan_table.specs.Filing.{filed_cmp, filed_at, is_at, IsFiled}
+use Rattle.chan_table.specs.Tables.{sid_at, IsFreeOf, IsLeastOn}
+use Rattle.chan_table.proofs.Gathered.{same_or_not, remove-absent, none_from, lt_of, ge_of}
 
 -- ---- pairs as keys
 tied : (x y : Ordering) → is_eq (ordering_then x y) ≡ (is_eq x && is_eq y)
@@ -105,7 +105,7 @@ module _ {S : Type 0} where
 
   -- ---- settling: the request that was lent is on the channel that it was on
   pub filed-same : (es : List ((ℕ × ℕ) × Unit {0})) (lent : ℕ × ℕ) (m : map.FinMap nat_cmp (Ask S)) (ask : Ask S) → IsFiled es (Some lent) m
-    → map.get m lent.1 ≡ Some ask → ask.sid ≡ lent.0 → IsFiled es None m
+      → map.get m lent.1 ≡ Some ask → ask.sid ≡ lent.0 → IsFiled es None m
   filed-same es lent m ask h known same = record {
     filed = λ s i. h.filed s i ∙ ap (λ o. is_at o s) (elim (same_or_not i lent.1) [
       | inl p ↦ at_it _ (Some lent.0) (sid_at m i) p.1 ∙ ap Some (sym same) ∙ sym (sid_of_known m i ask (ap (map.get m) p.0 ∙ known))
@@ -117,16 +117,16 @@ module _ {S : Type 0} where
 
   -- or on another
   pub filed-moved : (es mid new : List ((ℕ × ℕ) × Unit {0})) (lent : ℕ × ℕ) (m : map.FinMap nat_cmp (Ask S)) (ask : Ask S) → IsFiled es (Some lent) m
-    → map.get m lent.1 ≡ Some ask → ask.sid ≢ lent.0
-    → ((q : ℕ × ℕ) → map.find filed_cmp q mid ≡ cond (eq_by_cmp filed_cmp q lent) None (map.find filed_cmp q es))
-    → ((q : ℕ × ℕ) → map.find filed_cmp q new ≡ cond (eq_by_cmp filed_cmp q (ask.sid, lent.1)) (Some tt) (map.find filed_cmp q mid))
-    → length new ≡ length es → IsFiled new None m
+      → map.get m lent.1 ≡ Some ask → ask.sid ≢ lent.0
+      → ((q : ℕ × ℕ) → map.find filed_cmp q mid ≡ cond (eq_by_cmp filed_cmp q lent) None (map.find filed_cmp q es))
+      → ((q : ℕ × ℕ) → map.find filed_cmp q new ≡ cond (eq_by_cmp filed_cmp q (ask.sid, lent.1)) (Some tt) (map.find filed_cmp q mid))
+      → length new ≡ length es → IsFiled new None m
   filed-moved es mid new lent m ask h known other finds finds' size = record {
     filed = λ s i. elim (same_or_not i lent.1) [
       | inl p ↦
           let here : sid_at m i ≡ Some ask.sid = sid_of_known m i ask (ap (map.get m) p.0 ∙ known) in
           let was : is_some (map.find filed_cmp (s, i) es) ≡ eq_by_cmp nat_cmp s lent.0 =
-            h.filed s i ∙ ap (λ o. is_at o s) (at_it _ (Some lent.0) (sid_at m i) p.1) in
+          h.filed s i ∙ ap (λ o. is_at o s) (at_it _ (Some lent.0) (sid_at m i) p.1) in
           elim (same_or_not s ask.sid) [
             | inl r ↦ ap is_some (finds' (s, i) ∙ at_it _ _ _ (pair_same s i ask.sid lent.1 r.0 p.0)) ∙ sym r.1 ∙ ap (λ o. is_at o s) (sym here)
             | inr r ↦ ap is_some (finds' (s, i) ∙ elsewhere _ _ _ (pair_other_sid s i ask.sid lent.1 r.0) ∙ finds (s, i))
@@ -145,12 +145,12 @@ module _ {S : Type 0} where
 
   -- under its own sid nothing else is filed yet
   pub unfiled-own : (es mid : List ((ℕ × ℕ) × Unit {0})) (lent : ℕ × ℕ) (m : map.FinMap nat_cmp (Ask S)) (sid : ℕ) → IsFiled es (Some lent) m → sid ≢ lent.0
-    → ((q : ℕ × ℕ) → map.find filed_cmp q mid ≡ cond (eq_by_cmp filed_cmp q lent) None (map.find filed_cmp q es))
-    → map.find filed_cmp (sid, lent.1) mid ≡ None
+      → ((q : ℕ × ℕ) → map.find filed_cmp q mid ≡ cond (eq_by_cmp filed_cmp q lent) None (map.find filed_cmp q es))
+      → map.find filed_cmp (sid, lent.1) mid ≡ None
   unfiled-own es mid lent m sid h other finds =
       finds (sid, lent.1) ∙ elsewhere _ _ _ (pair_other_sid sid lent.1 lent.0 lent.1 other)
       ∙ none_from (map.find filed_cmp (sid, lent.1) es)
-        (h.filed sid lent.1 ∙ ap (λ o. is_at o sid) (at_it _ (Some lent.0) (sid_at m lent.1) (eq_true lent.1 lent.1 refl)) ∙ eq_false sid lent.0 other)
+      (h.filed sid lent.1 ∙ ap (λ o. is_at o sid) (at_it _ (Some lent.0) (sid_at m lent.1) (eq_true lent.1 lent.1 refl)) ∙ eq_false sid lent.0 other)
 
   -- what the lent one is filed under is there
   pub filed-lent : (es : List ((ℕ × ℕ) × Unit {0})) (lent : ℕ × ℕ) (m : map.FinMap nat_cmp (Ask S)) → IsFiled es (Some lent) m → is_some (map.find filed_cmp lent es) ≡ true
@@ -162,11 +162,11 @@ module _ {S : Type 0} where
   unfiled es m sid id h none = none_from _ (h.filed sid id ∙ ap (λ o. is_at (option_map (λ (a : Ask S). a.sid) o) sid) none)
 
   pub filed-inserted : (es new : List ((ℕ × ℕ) × Unit {0})) (m : map.FinMap nat_cmp (Ask S)) (id : ℕ) (ask : Ask S) → IsFiled es None m → map.get m id ≡ None
-    → ((q : ℕ × ℕ) → map.find filed_cmp q new ≡ cond (eq_by_cmp filed_cmp q (ask.sid, id)) (Some tt) (map.find filed_cmp q es))
-    → length new ≡ length es + 1 → IsFiled new None (map.insert m id ask)
+      → ((q : ℕ × ℕ) → map.find filed_cmp q new ≡ cond (eq_by_cmp filed_cmp q (ask.sid, id)) (Some tt) (map.find filed_cmp q es))
+      → length new ≡ length es + 1 → IsFiled new None (map.insert m id ask)
   filed-inserted es new m id ask h none finds more =
       let size : map.len (map.insert m id ask) ≡ map.len m + 1 =
-        map.len-insert nat_cmp_total m id ask ∙ ap (λ o. cond (is_some o) (map.len m) (map.len m + 1)) none in
+      map.len-insert nat_cmp_total m id ask ∙ ap (λ o. cond (is_some o) (map.len m) (map.len m + 1)) none in
       let counted = h.counted in
       record {
         filed = λ s i. elim (same_or_not i id) [
@@ -186,11 +186,11 @@ module _ {S : Type 0} where
 
   -- ---- a request goes
   pub filed-removed : (es new : List ((ℕ × ℕ) × Unit {0})) (m : map.FinMap nat_cmp (Ask S)) (id : ℕ) (ask : Ask S) → IsFiled es None m → map.get m id ≡ Some ask
-    → ((q : ℕ × ℕ) → map.find filed_cmp q new ≡ cond (eq_by_cmp filed_cmp q (ask.sid, id)) None (map.find filed_cmp q es))
-    → length new + 1 ≡ length es → IsFiled new None (map.remove m id)
+      → ((q : ℕ × ℕ) → map.find filed_cmp q new ≡ cond (eq_by_cmp filed_cmp q (ask.sid, id)) None (map.find filed_cmp q es))
+      → length new + 1 ≡ length es → IsFiled new None (map.remove m id)
   filed-removed es new m id ask h known finds less =
       let size : map.len (map.remove m id) ≡ map.len m - 1 =
-        map.len-remove nat_cmp_total m id ∙ ap (λ o. cond (is_some o) (map.len m - 1) (map.len m)) known in
+      map.len-remove nat_cmp_total m id ∙ ap (λ o. cond (is_some o) (map.len m - 1) (map.len m)) known in
       let counted = h.counted in
       record {
         filed = λ s i. elim (same_or_not i id) [
@@ -209,7 +209,7 @@ module _ {S : Type 0} where
       }
 
   pub filed-known : (es : List ((ℕ × ℕ) × Unit {0})) (m : map.FinMap nat_cmp (Ask S)) (id : ℕ) (ask : Ask S) → IsFiled es None m → map.get m id ≡ Some ask
-    → is_some (map.find filed_cmp (ask.sid, id) es) ≡ true
+      → is_some (map.find filed_cmp (ask.sid, id) es) ≡ true
   filed-known es m id ask h known = h.filed ask.sid id ∙ ap (λ o. is_at o ask.sid) (sid_of_known m id ask known) ∙ eq_true ask.sid ask.sid refl
 
   pub filed-without : (es : List ((ℕ × ℕ) × Unit {0})) (m : map.FinMap nat_cmp (Ask S)) (id : ℕ) → IsFiled es None m → map.get m id ≡ None → IsFiled es None (map.remove m id)
@@ -217,7 +217,7 @@ module _ {S : Type 0} where
 
   -- ---- a request is lent: whatever is written to it, it stays filed as it was
   pub filed-written : (es : List ((ℕ × ℕ) × Unit {0})) (m : map.FinMap nat_cmp (Ask S)) (id : ℕ) (ask written : Ask S) → IsFiled es None m → map.get m id ≡ Some ask
-    → IsFiled es (Some (ask.sid, id)) (map.insert m id written)
+      → IsFiled es (Some (ask.sid, id)) (map.insert m id written)
   filed-written es m id ask written h known = record {
     filed = λ s i. h.filed s i ∙ ap (λ o. is_at o s) (elim (same_or_not i id) [
       | inl p ↦ sid_of_known m i ask (ap (map.get m) p.0 ∙ known) ∙ sym (at_it _ (Some ask.sid) (sid_at (map.insert m id written) i) p.1)
@@ -237,7 +237,7 @@ module _ {S : Type 0} where
   }
 
   pub first-on : (es : List ((ℕ × ℕ) × Unit {0})) (m : map.FinMap nat_cmp (Ask S)) (sid : ℕ) (e : (ℕ × ℕ) × Unit {0}) → IsFiled es None m
-    → IsFirst filed_cmp es (sid, 0) e → e.0.0 ≡ sid → IsLeastOn (sid_at m) sid e.0.1
+      → IsFirst filed_cmp es (sid, 0) e → e.0.0 ≡ sid → IsLeastOn (sid_at m) sid e.0.1
   first-on es m sid e h first same = record {
     on = told (sid_at m e.0.1) sid (sym (h.filed sid e.0.1) ∙ ap is_some (ap (λ s. map.find filed_cmp (s, e.0.1) es) (sym same) ∙ first.found));
     least = λ k lt. not_told (sid_at m k) sid (sym (h.filed sid k)
@@ -245,7 +245,7 @@ module _ {S : Type 0} where
   }
 
   pub free-first : (es : List ((ℕ × ℕ) × Unit {0})) (m : map.FinMap nat_cmp (Ask S)) (sid : ℕ) (e : (ℕ × ℕ) × Unit {0}) → IsFiled es None m
-    → IsFirst filed_cmp es (sid, 0) e → e.0.0 ≢ sid → IsFreeOf (sid_at m) sid
+      → IsFirst filed_cmp es (sid, 0) e → e.0.0 ≢ sid → IsFreeOf (sid_at m) sid
   free-first es m sid e h first other =
       let later : sid < e.0.0 = sid_below e.0.0 sid e.0.1 other first.above in
       record {

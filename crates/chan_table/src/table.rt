@@ -3,7 +3,7 @@ ghost use Rattle.std.specs.Option.{option_copied, option_copied_mut, option_map}
 ghost use Rattle.std.specs.Borrow.{sem};
 ghost use Rattle.std.specs.FinMap as map;
 ghost use Rattle.chan_table.specs.Numbers.{IsLeastAbsent, IsNextFrom};
-ghost use Rattle.chan_table.specs.Tables.{limit, blank, with_channel, without_channel, with_ask, without_ask, channel_of, sid_of, IsFreeOf, IsFirstOn, IsReady, Refuses};
+ghost use Rattle.chan_table.specs.Tables.{limit, blank, with_channel, without_channel, with_ask, without_ask, channel_of, sid_at, IsFreeOf, IsFirstOn, IsReady, IsFull, Refuses};
 
 use crate::answer::TableAnswer;
 use crate::ask::Ask;
@@ -72,7 +72,7 @@ impl<C, S> Table<C, S> {
         ensures ok { IfOk result (λ sid. self.new ≡ with_channel self.old sid cid channel) }
         ensures least { IfOk result (λ sid. IsLeastAbsent (map.get self.old.channels) sid) }
         ensures few { OnOk result (map.len self.old.channels < limit) }
-        ensures full { IfErr result (λ answer. (answer ≡ TableAnswer.Full limit) × (map.len self.old.channels ≡ limit)) }
+        ensures full { IfErr result (IsFull (map.len self.old.channels)) }
         ensures err { OnErr result (self.new ≡ self.old) }
     {
         if self.channels.len() >= LIMIT as usize {
@@ -105,7 +105,7 @@ impl<C, S> Table<C, S> {
 
     /// Takes out the channel of this sid and this cid, if there is one. Its requests are gone by then. No memory is taken.
     pub fn remove_channel(&mut self, sid: u32, cid: u32) -> Option<C>
-        requires gone { IsSome (channel_of self.old sid cid) → IsFreeOf (sid_of self.old) sid }
+        requires gone { IsSome (channel_of self.old sid cid) → IsFreeOf (sid_at self.old.asks) sid }
         ensures value { result ≡ channel_of self.old sid cid }
         ensures removed { OnSome result (self.new ≡ without_channel self.old sid) }
         ensures none { IfNone result (self.new ≡ self.old) }
@@ -123,7 +123,7 @@ impl<C, S> Table<C, S> {
     /// the id, else `Full` with 4,096 requests. The channels and requests stay as they are.
     pub fn reserve(&mut self, id: u32) -> Result<(), TableAnswer>
         ensures ready { OnOk result (IsReady self.new id) }
-        ensures refused { IfErr result (λ answer. Refuses self.old id answer) }
+        ensures refused { IfErr result (Refuses self.old id) }
         ensures kept { self.new ≡ record self.old { room = self.new.room } }
         ensures room { self.old.room ≤ self.new.room }
     {
@@ -188,7 +188,7 @@ impl<C, S> Table<C, S> {
     /// Takes out the request with the least id of those on a channel, and gives both. It is None where there is none on
     /// it, and then all is as before. It doesn't look at other channels' requests. No memory is taken.
     pub fn take_of(&mut self, sid: u32) -> Option<(u32, Ask<S>)>
-        ensures least { IsFirstOn (sid_of self.old) sid (option_map (λ taken. taken.0) result) }
+        ensures least { IsFirstOn (sid_at self.old.asks) sid (option_map (λ taken. taken.0) result) }
         ensures ask { IfSome result (λ taken. map.get self.old.asks taken.0 ≡ Some taken.1) }
         ensures rest { IfSome result (λ taken. self.new ≡ without_ask self.old taken.0) }
         ensures none { IfNone result (self.new ≡ self.old) }
