@@ -6,6 +6,10 @@ use Rattle.std.specs.FinMap.{FinMap, find, get, len}
 use Rattle.chan_table.specs.declared.ask.Ask.{Ask}
 use Rattle.chan_table.specs.Tables.{sid_at}
 
+-- the pairs, each once
+abbrev pub Filings : Type 0
+Filings = List ((ℕ × ℕ) × Unit {0})
+
 -- by the sid, then by the id
 abbrev pub filed_cmp : ℕ × ℕ → ℕ × ℕ → Ordering
 filed_cmp x y = ordering_then (nat_cmp x.0 y.0) (nat_cmp x.1 y.1)
@@ -21,8 +25,7 @@ is_at None sid = false
 is_at (Some at) sid = eq_by_cmp nat_cmp sid at
 
 -- Each request is filed, and nothing else; the one that was lent is there.
-pub record IsFiled {S : Type 0} (es : List ((ℕ × ℕ) × Unit {0})) (lent : Option (ℕ × ℕ)) (m : FinMap nat_cmp (Ask S))
-    : Type 0 where
+pub record IsFiled {S : Type 0} (es : Filings) (lent : Option (ℕ × ℕ)) (m : FinMap nat_cmp (Ask S)) : Type 0 where
   pub filed : (sid id : ℕ) → is_some (find filed_cmp (sid, id) es) ≡ is_at (filed_at lent m id) sid
   pub counted : length es ≡ len m
   pub there : (at : ℕ × ℕ) → lent ≡ Some at → IsSome (get m at.1)
