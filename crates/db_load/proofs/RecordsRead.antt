@@ -16,7 +16,7 @@ use Rattle.rec_kinds.specs.Fields.{rule_of}
 use Rattle.db_load.specs.declared.bodies.Item.{Item}
 use Rattle.db_load.specs.declared.fault.LoadFault.TheVariants as faults
 use Rattle.db_load.specs.declared.bodies.Item.TheVariants as items
-use Rattle.db_load.specs.Forms.{Stop, short, faulty, Tokens, Read, ◌>>=◌, bad, next, mark_in, mark_at, word_in, word_at, value_in, value_at, field_of, field_at, info_of, info_at, as_field, as_info, keyword_at, item_in, item_at, Body, with_items, after_item, body_at, is_record_name, is_among, name_in, kind_in, begin_in, begin_at, head_with, record_of, record_with, then_records, records_from}
+use Rattle.db_load.specs.Forms.{Stop, short, faulty, Tokens, Read, ◌>>=◌, bad, next, mark_in, mark_at, word_in, word_at, value_in, value_at, told_at, known_in, known_at, field_of, field_at, info_of, info_at, as_field, as_info, keyword_at, item_in, item_at, Body, with_items, after_item, body_at, is_record_name, is_among, name_in, kind_in, begin_in, begin_at, head_with, record_of, record_with, then_records, records_from}
 use Rattle.db_load.specs.Grammar.{IsWord, IsMark, IsText, is_value, is_json, Part, field, info, parts_tokens, AreParts, fields_of, infos_of, Head, IsHead, Form, form_tokens, IsForm, record_is, RecordsAfter}
 
 pub same_bytes : (xs ys : List ℕ) → xs ≡ ys → bytes_eq xs ys ≡ true
@@ -51,11 +51,15 @@ value_only : (t : Token) (rest : Tokens) → is_value t.kind ≡ true → value_
 unfolding value_at next
 value_only t rest h = value_kind t rest t.kind h
 
+known_only : (kind : Kind) (n : Token) (rest : Tokens) → IsText n → is_some (rule_of kind n.text) ≡ true → known_at kind (n ∷ rest) ≡ Ok (n, rest)
+unfolding known_at
+known_only kind n rest a b = rw (word_only n rest a, b) refl
+
 pub field_only : (kind : Kind) (o n c t e : Token) (rest : Tokens) → IsMark 40 o → IsText n → IsMark 44 c → IsText t → is_some (rule_of kind n.text) ≡ true → IsMark 41 e
     → field_at kind (o ∷ n ∷ c ∷ t ∷ e ∷ rest) ≡ Ok (record { name = n.text; text = t.text; line = t.line }, rest)
 unfolding field_at
 field_only kind o n c t e rest a b d f g h =
-    rw (mark_only 40 o (n ∷ c ∷ t ∷ e ∷ rest) a, word_only n (c ∷ t ∷ e ∷ rest) b, mark_only 44 c (t ∷ e ∷ rest) d, word_only t (e ∷ rest) f, g, mark_only 41 e rest h) refl
+    rw (mark_only 40 o (n ∷ c ∷ t ∷ e ∷ rest) a, known_only kind n (c ∷ t ∷ e ∷ rest) b g, mark_only 44 c (t ∷ e ∷ rest) d, word_only t (e ∷ rest) f, mark_only 41 e rest h) refl
 
 pub info_only : (o n c v e : Token) (rest : Tokens) → IsMark 40 o → IsText n → IsMark 44 c → is_value v.kind ≡ true → IsMark 41 e
     → info_at (o ∷ n ∷ c ∷ v ∷ e ∷ rest) ≡ Ok (record { name = n.text; text = v.text; json = is_json v.kind; line = v.line }, rest)
@@ -228,16 +232,27 @@ unfolding value_at next
 value_found [] x h = absurd cc
 value_found (t ∷ ts) x h = value_in_found t ts x t.kind refl h
 
--- a name or text and what follows a mark before it
-field_of_found : (kind : Kind) (n t : Token) (x : FieldText) → field_of kind n t ≡ Ok x → (is_some (rule_of kind n.text) ≡ true) × (record { name = n.text; text = t.text; line = t.line } ≡ x)
-field_of_found kind n t x h = by_rule (is_some (rule_of kind n.text)) refl
+-- a field's name, which its kind knows
+known_in_found : (kind : Kind) (n : Token) (rest : Tokens) (x : Token × Tokens) → known_in kind n rest ≡ Ok x → (is_some (rule_of kind n.text) ≡ true) × ((n, rest) ≡ x)
+known_in_found kind n rest x h = by_rule (is_some (rule_of kind n.text)) refl
   where
-    faulty_ok : (r : Result FieldText Stop) (e : Stop) → r ≡ Err e → r ≡ Ok x → ⊥
+    faulty_ok : (r : Read Token) (e : Stop) → r ≡ Err e → r ≡ Ok x → ⊥
     faulty_ok r e f g = absurd cc
 
-    by_rule : (c : Bool) → is_some (rule_of kind n.text) ≡ c → (is_some (rule_of kind n.text) ≡ true) × (record { name = n.text; text = t.text; line = t.line } ≡ x)
-    by_rule true c = (c, ok_is (record { name = n.text; text = t.text; line = t.line }) x (field_of kind n t) (rw c refl) h)
-    by_rule false c = absurd (faulty_ok (field_of kind n t) (faulty (faults.UnknownField n.text t.line)) (rw c refl) h)
+    by_rule : (c : Bool) → is_some (rule_of kind n.text) ≡ c → (is_some (rule_of kind n.text) ≡ true) × ((n, rest) ≡ x)
+    by_rule true c = (c, ok_is (n, rest) x (known_in kind n rest) (rw c refl) h)
+    by_rule false c = absurd (faulty_ok (known_in kind n rest) (faulty (faults.UnknownField n.text (told_at n rest))) (rw c refl) h)
+
+known_found : (kind : Kind) (tokens : Tokens) (x : Token × Tokens) → known_at kind tokens ≡ Ok x → (tokens ≡ x.0 ∷ x.1) × IsText x.0 × (is_some (rule_of kind x.0.text) ≡ true)
+unfolding known_at
+known_found kind tokens x h =
+    let b = bound (word_at tokens) _ x h in
+    let n = word_found tokens b.0 b.1 in
+    let k = known_in_found kind b.0.0 b.0.1 x b.2 in (
+      n.0 ∙ ap (λ (p : Token × Tokens). p.0 ∷ p.1) k.1,
+      sym (ap (λ (p : Token × Tokens). is_name p.0.kind) k.1) ∙ n.1,
+      sym (ap (λ (p : Token × Tokens). is_some (rule_of kind p.0.text)) k.1) ∙ k.0,
+    )
 
 abbrev pub FieldRead : Kind → Tokens → FieldText × Tokens → Type 0
 FieldRead kind tokens x =
@@ -248,18 +263,16 @@ field_found : (kind : Kind) (tokens : Tokens) (x : FieldText × Tokens) → fiel
 unfolding field_at
 field_found kind tokens x h =
     let a = bound (mark_at 40 tokens) _ x h in
-    let b = bound (word_at a.0) _ x a.2 in
+    let b = bound (known_at kind a.0) _ x a.2 in
     let c = bound (mark_at 44 b.0.1) _ x b.2 in
     let d = bound (word_at c.0) _ x c.2 in
-    let f = bound (field_of kind b.0.0 d.0.0) _ x d.2 in
-    let g = bound (mark_at 41 d.0.1) _ x f.2 in
+    let g = bound (mark_at 41 d.0.1) _ x d.2 in
     let o = mark_found 40 tokens a.0 a.1 in
-    let n = word_found a.0 b.0 b.1 in
+    let n = known_found kind a.0 b.0 b.1 in
     let m = mark_found 44 b.0.1 c.0 c.1 in
     let t = word_found c.0 d.0 d.1 in
-    let k = field_of_found kind b.0.0 d.0.0 f.0 f.1 in
     let e = mark_found 41 d.0.1 g.0 g.1 in
-    let made = ok_is (f.0, g.0) x (Ok (f.0, g.0)) refl g.2 in (
+    let made = ok_is (field_of b.0.0 d.0.0, g.0) x (Ok (field_of b.0.0 d.0.0, g.0)) refl g.2 in (
       o.0,
       b.0.0,
       m.0,
@@ -271,9 +284,9 @@ field_found kind tokens x h =
       n.1,
       m.2,
       t.1,
-      k.0,
+      n.2,
       e.2,
-      sym (ap (λ (p : FieldText × Tokens). p.0) made) ∙ sym k.1,
+      sym (ap (λ (p : FieldText × Tokens). p.0) made),
     )
 
 abbrev pub InfoRead : Tokens → Info × Tokens → Type 0

@@ -17,9 +17,9 @@ use Rattle.db_load.specs.declared.bodies.Item.{Item}
 use Rattle.db_load.specs.declared.bodies.Item.TheVariants as items
 use Rattle.db_load.specs.declared.fault.LoadFault.{LoadFault}
 use Rattle.db_load.specs.declared.fault.LoadFault.TheVariants.{SameRecord, UnknownKind, UnknownField, BadForm}
-use Rattle.db_load.specs.Forms.{Stop, short, faulty, Tokens, Read, ◌>>=◌, next, mark_in, mark_at, word_in, word_at, value_in, value_at, field_of, field_at, info_at, as_field, as_info, keyword_at, item_in, item_at, Body, with_items, after_item, body_at, is_record_name, is_among, name_in, kind_in, begin_in, begin_at, head_with, record_of, record_with, then_records, records_from}
+use Rattle.db_load.specs.Forms.{Stop, short, faulty, Tokens, Read, ◌>>=◌, next, mark_in, mark_at, word_in, word_at, value_in, value_at, told_at, known_in, known_at, field_at, info_at, as_field, as_info, keyword_at, item_in, item_at, Body, with_items, after_item, body_at, is_record_name, is_among, name_in, kind_in, begin_in, begin_at, head_with, record_of, record_with, then_records, records_from}
 use Rattle.db_load.specs.Grammar.{IsWord, IsMark, is_value, is_json, Part, field, info, parts_tokens, AreParts, Head, head_tokens, Form, record_is}
-use Rattle.db_load.specs.Places.{Place, unless, the_word, the_mark, a_text, a_value, a_kind, a_name, a_text_of, head_places, StopsIn, third, PartStops, FormStops, StopsBehind}
+use Rattle.db_load.specs.Places.{Place, unless, the_word, the_mark, a_text, a_value, a_kind, a_name, a_field, head_places, StopsIn, PartStops, FormStops, StopsBehind}
 use Rattle.db_load.proofs.RecordsRead.{Marked, mark_found, mark_only, HeadRead, head_found, head_only, ItemRead, item_found, item_bare, word_field, word_info, field_only, info_only, body_step, FormRead, form_found, form_only, records_step, records_none, same_bytes}
 
 abbrev why : {A : Type 0} → Stop → Result A Stop → Stop
@@ -40,7 +40,7 @@ on (Some fault) r = Err (faulty fault)
 abbrev fill : List Place → Tokens → Result Tokens Stop
 fill [] ts = Ok ts
 fill (p ∷ ps) [] = Err short
-fill (p ∷ ps) (t ∷ ts) = on (p t) (fill ps ts)
+fill (p ∷ ps) (t ∷ ts) = on (p t ts) (fill ps ts)
 
 abbrev left : {A : Type 0} → (A → Tokens) → Result A Stop → Result Tokens Stop
 left view (Ok x) = Ok (view x)
@@ -56,14 +56,14 @@ stops_only (p ∷ ps) [] stop h = ap (λ (e : Stop). Err e) (sym h)
 stops_only (p ∷ ps) (t ∷ ts) stop (inl (fault, at, is)) = ap (λ o. on o (fill ps ts)) at ∙ ap (λ (e : Stop). Err e) (sym is)
 stops_only (p ∷ ps) (t ∷ ts) stop (inr (at, more)) = ap (λ o. on o (fill ps ts)) at ∙ stops_only ps ts stop more
 
-stops_at : (p : Place) (ps : List Place) (t : Token) (ts : Tokens) (stop : Stop) → (fill ps ts ≡ Err stop → StopsIn ps ts stop) → (o : Option LoadFault) → p t ≡ o → fill (p ∷ ps) (t ∷ ts) ≡ Err stop → StopsIn (p ∷ ps) (t ∷ ts) stop
+stops_at : (p : Place) (ps : List Place) (t : Token) (ts : Tokens) (stop : Stop) → (fill ps ts ≡ Err stop → StopsIn ps ts stop) → (o : Option LoadFault) → p t ts ≡ o → fill (p ∷ ps) (t ∷ ts) ≡ Err stop → StopsIn (p ∷ ps) (t ∷ ts) stop
 stops_at p ps t ts stop more None e h = inr (e, more (sym (ap (λ o. on o (fill ps ts)) e) ∙ h))
 stops_at p ps t ts stop more (Some fault) e h = inl (fault, e, sym (stop_is (faulty fault) stop (fill (p ∷ ps) (t ∷ ts)) (ap (λ o. on o (fill ps ts)) e) h))
 
 stops_found : (ps : List Place) (ts : Tokens) (stop : Stop) → fill ps ts ≡ Err stop → StopsIn ps ts stop
 stops_found [] ts stop h = absurd (ok_err ts stop (fill [] ts) refl h)
 stops_found (p ∷ ps) [] stop h = sym (stop_is short stop (fill (p ∷ ps) []) refl h)
-stops_found (p ∷ ps) (t ∷ ts) stop h = stops_at p ps t ts stop (λ e. stops_found ps ts stop e) (p t) refl h
+stops_found (p ∷ ps) (t ∷ ts) stop h = stops_at p ps t ts stop (λ e. stops_found ps ts stop e) (p t ts) refl h
 
 on_bind : {A B : Type 0} (o : Option LoadFault) (r : Result A Stop) (f : A → Result B Stop) → (on o r >>= f) ≡ on o (r >>= f)
 on_bind None r f = refl
@@ -76,7 +76,7 @@ left_on view (Some fault) r = refl
 fill_more : (ps qs : List Place) (ts : Tokens) → fill (ps ++ qs) ts ≡ (fill ps ts >>= fill qs)
 fill_more [] qs ts = refl
 fill_more (p ∷ ps) qs [] = refl
-fill_more (p ∷ ps) qs (t ∷ ts) = ap (on (p t)) (fill_more ps qs ts) ∙ sym (on_bind (p t) (fill ps ts) (fill qs))
+fill_more (p ∷ ps) qs (t ∷ ts) = ap (on (p t ts)) (fill_more ps qs ts) ∙ sym (on_bind (p t ts) (fill ps ts) (fill qs))
 
 -- each reader puts one token into a place
 pick : {A : Type 0} (c : Bool) (r : Result A Stop) (fault : LoadFault) → cond c r (Err (faulty fault)) ≡ on (unless (true && c) fault) r
@@ -89,7 +89,7 @@ mark_in_is b t rest Bare = refl
 mark_in_is b t rest Quoted = refl
 mark_in_is b t rest Json = refl
 
-mark_is : (b : ℕ) (t : Token) (rest : Tokens) → mark_at b (t ∷ rest) ≡ on (the_mark b t) (Ok rest)
+mark_is : (b : ℕ) (t : Token) (rest : Tokens) → mark_at b (t ∷ rest) ≡ on (the_mark b t rest) (Ok rest)
 unfolding mark_at next
 mark_is b t rest = mark_in_is b t rest t.kind
 
@@ -103,7 +103,7 @@ begin_in_is t rest Mark = refl
 begin_in_is t rest Quoted = refl
 begin_in_is t rest Json = refl
 
-begin_is : (t : Token) (rest : Tokens) → begin_at (t ∷ rest) ≡ on (the_word (codes "record") t) (Ok (t, rest))
+begin_is : (t : Token) (rest : Tokens) → begin_at (t ∷ rest) ≡ on (the_word (codes "record") t rest) (Ok (t, rest))
 unfolding begin_at next
 begin_is t rest = begin_in_is t rest t.kind
 
@@ -117,7 +117,7 @@ word_in_is t rest Mark = refl
 word_in_is t rest Quoted = refl
 word_in_is t rest Json = refl
 
-word_is : (t : Token) (rest : Tokens) → word_at (t ∷ rest) ≡ on (a_text t) (Ok (t, rest))
+word_is : (t : Token) (rest : Tokens) → word_at (t ∷ rest) ≡ on (a_text t rest) (Ok (t, rest))
 unfolding word_at next
 word_is t rest = word_in_is t rest t.kind
 
@@ -131,7 +131,7 @@ value_in_is t rest Mark = refl
 value_in_is t rest Quoted = refl
 value_in_is t rest Json = refl
 
-value_is : (t : Token) (rest : Tokens) → value_at (t ∷ rest) ≡ on (a_value t) (Ok ((t, is_json t.kind), rest))
+value_is : (t : Token) (rest : Tokens) → value_at (t ∷ rest) ≡ on (a_value t rest) (Ok ((t, is_json t.kind), rest))
 unfolding value_at next
 value_is t rest = value_in_is t rest t.kind
 
@@ -144,7 +144,7 @@ module _ {A : Type 0} (view : A → Tokens) (ps : List Place) where
   one_step r o x rest f is same = ap (λ m. left view (m >>= f)) is ∙ ap (left view) (on_bind o (Ok x) f) ∙ left_on view o (f x) ∙ ap (on o) same
 
   mark_cons : (b : ℕ) (f : Tokens → Result A Stop) (t : Token) (rest : Tokens) → left view (f rest) ≡ fill ps rest → left view (mark_at b (t ∷ rest) >>= f) ≡ fill (the_mark b ∷ ps) (t ∷ rest)
-  mark_cons b f t rest same = one_step (mark_at b (t ∷ rest)) (the_mark b t) rest rest f (mark_is b t rest) same
+  mark_cons b f t rest same = one_step (mark_at b (t ∷ rest)) (the_mark b t rest) rest rest f (mark_is b t rest) same
 
   mark_step : (b : ℕ) (f : Tokens → Result A Stop) (ts : Tokens) → ((rest : Tokens) → left view (f rest) ≡ fill ps rest) → left view (mark_at b ts >>= f) ≡ fill (the_mark b ∷ ps) ts
   mark_step b f [] same = ap (λ m. left view (m >>= f)) (mark_none b)
@@ -152,10 +152,10 @@ module _ {A : Type 0} (view : A → Tokens) (ps : List Place) where
 
   begin_step : (f : Token × Tokens → Result A Stop) (ts : Tokens) → ((t : Token) (rest : Tokens) → left view (f (t, rest)) ≡ fill ps rest) → left view (begin_at ts >>= f) ≡ fill (the_word (codes "record") ∷ ps) ts
   begin_step f [] same = ap (λ m. left view (m >>= f)) begin_none
-  begin_step f (t ∷ rest) same = one_step (begin_at (t ∷ rest)) (the_word (codes "record") t) (t, rest) rest f (begin_is t rest) (same t rest)
+  begin_step f (t ∷ rest) same = one_step (begin_at (t ∷ rest)) (the_word (codes "record") t rest) (t, rest) rest f (begin_is t rest) (same t rest)
 
   word_cons : (f : Token × Tokens → Result A Stop) (t : Token) (rest : Tokens) → left view (f (t, rest)) ≡ fill ps rest → left view (word_at (t ∷ rest) >>= f) ≡ fill (a_text ∷ ps) (t ∷ rest)
-  word_cons f t rest same = one_step (word_at (t ∷ rest)) (a_text t) (t, rest) rest f (word_is t rest) same
+  word_cons f t rest same = one_step (word_at (t ∷ rest)) (a_text t rest) (t, rest) rest f (word_is t rest) same
 
   word_end : (f : Token × Tokens → Result A Stop) → left view (word_at [] >>= f) ≡ fill (a_text ∷ ps) []
   word_end f = ap (λ m. left view (m >>= f)) word_none
@@ -166,7 +166,7 @@ module _ {A : Type 0} (view : A → Tokens) (ps : List Place) where
 
   value_step : (f : (Token × Bool) × Tokens → Result A Stop) (ts : Tokens) → ((t : Token) (j : Bool) (rest : Tokens) → left view (f ((t, j), rest)) ≡ fill ps rest) → left view (value_at ts >>= f) ≡ fill (a_value ∷ ps) ts
   value_step f [] same = ap (λ m. left view (m >>= f)) value_none
-  value_step f (t ∷ rest) same = one_step (value_at (t ∷ rest)) (a_value t) ((t, is_json t.kind), rest) rest f (value_is t rest) (same t (is_json t.kind) rest)
+  value_step f (t ∷ rest) same = one_step (value_at (t ∷ rest)) (a_value t rest) ((t, is_json t.kind), rest) rest f (value_is t rest) (same t (is_json t.kind) rest)
 
   -- a text, of which more is asked
   kind_step : (g : Token × Tokens → Kind → Result A Stop) (ts : Tokens) → ((t : Token) (kind : Kind) (rest : Tokens) → left view (g (t, rest) kind) ≡ fill ps rest)
@@ -174,7 +174,7 @@ module _ {A : Type 0} (view : A → Tokens) (ps : List Place) where
   kind_step g [] same = ap (λ m. left view (m >>= λ k. kind_in k.0 (kind_of k.0.text) >>= λ kind. g k kind)) word_none
   kind_step g (t ∷ rest) same =
       ap (λ m. left view (m >>= λ k. kind_in k.0 (kind_of k.0.text) >>= λ kind. g k kind)) (word_is t rest)
-      ∙ ap (left view) (on_bind (a_text t) (Ok (t, rest)) (λ k. kind_in k.0 (kind_of k.0.text) >>= λ kind. g k kind)) ∙ by_kind (is_name t.kind) (kind_of t.text)
+      ∙ ap (left view) (on_bind (a_text t rest) (Ok (t, rest)) (λ k. kind_in k.0 (kind_of k.0.text) >>= λ kind. g k kind)) ∙ by_kind (is_name t.kind) (kind_of t.text)
     where
       by_kind : (c : Bool) (o : Option Kind) → left view (on (unless c (BadForm t.line)) (kind_in t o >>= λ kind. g (t, rest) kind)) ≡ on (cond c (unless (is_some o) (UnknownKind t.text t.line)) (Some (BadForm t.line))) (fill ps rest)
       by_kind false o = refl
@@ -186,7 +186,7 @@ module _ {A : Type 0} (view : A → Tokens) (ps : List Place) where
   name_step names g [] same = ap (λ m. left view (m >>= λ n. name_in (is_among n.0.text names) n.0 >>= λ name. g n name)) word_none
   name_step names g (t ∷ rest) same =
       ap (λ m. left view (m >>= λ n. name_in (is_among n.0.text names) n.0 >>= λ name. g n name)) (word_is t rest)
-      ∙ ap (left view) (on_bind (a_text t) (Ok (t, rest)) (λ n. name_in (is_among n.0.text names) n.0 >>= λ name. g n name)) ∙ by_name (is_name t.kind) (is_record_name t.text) (is_among t.text names)
+      ∙ ap (left view) (on_bind (a_text t rest) (Ok (t, rest)) (λ n. name_in (is_among n.0.text names) n.0 >>= λ name. g n name)) ∙ by_name (is_name t.kind) (is_record_name t.text) (is_among t.text names)
     where
       by_name : (c r v : Bool) → left view (on (unless c (BadForm t.line)) (cond {A = Result (List ℕ) Stop} r (cond {A = Result (List ℕ) Stop} v (Err (faulty (SameRecord t.text t.line))) (Ok t.text)) (Err (faulty (BadForm t.line))) >>= λ name. g (t, rest) name))
           ≡ on (cond (c && r) (unless (not v) (SameRecord t.text t.line)) (Some (BadForm t.line))) (fill ps rest)
@@ -195,21 +195,22 @@ module _ {A : Type 0} (view : A → Tokens) (ps : List Place) where
       by_name true true true = refl
       by_name true true false = same t t.text rest
 
-  known_step : (kind : Kind) (n : Token) (g : Token × Tokens → FieldText → Result A Stop) (ts : Tokens) → ((t : Token) (x : FieldText) (rest : Tokens) → left view (g (t, rest) x) ≡ fill ps rest)
-      → left view (word_at ts >>= λ text. field_of kind n text.0 >>= λ x. g text x) ≡ fill (a_text_of kind n.text ∷ ps) ts
-  known_step kind n g [] same = ap (λ m. left view (m >>= λ text. field_of kind n text.0 >>= λ x. g text x)) word_none
-  known_step kind n g (t ∷ rest) same =
-      ap (λ m. left view (m >>= λ text. field_of kind n text.0 >>= λ x. g text x)) (word_is t rest)
-      ∙ ap (left view) (on_bind (a_text t) (Ok (t, rest)) (λ text. field_of kind n text.0 >>= λ x. g text x)) ∙ by_rule (is_name t.kind) (is_some (rule_of kind n.text))
+  -- a field's name, which its kind must know
+  known_step : (kind : Kind) (f : Token × Tokens → Result A Stop) (ts : Tokens) → ((t : Token) (rest : Tokens) → left view (f (t, rest)) ≡ fill ps rest) → left view (known_at kind ts >>= f) ≡ fill (a_field kind ∷ ps) ts
+  unfolding known_at
+  known_step kind f [] same = ap (λ m. left view ((m >>= λ n. known_in kind n.0 n.1) >>= f)) word_none
+  known_step kind f (t ∷ rest) same =
+      ap (λ m. left view ((m >>= λ n. known_in kind n.0 n.1) >>= f)) (word_is t rest)
+      ∙ ap (λ m. left view (m >>= f)) (on_bind (a_text t rest) (Ok (t, rest)) (λ n. known_in kind n.0 n.1)) ∙ by_rule (is_name t.kind) (is_some (rule_of kind t.text))
     where
-      by_rule : (c r : Bool) → left view (on (unless c (BadForm t.line)) (cond {A = Result FieldText Stop} r (Ok (record { name = n.text; text = t.text; line = t.line })) (Err (faulty (UnknownField n.text t.line))) >>= λ x. g (t, rest) x))
-          ≡ on (cond c (unless r (UnknownField n.text t.line)) (Some (BadForm t.line))) (fill ps rest)
+      by_rule : (c r : Bool) → left view (on (unless c (BadForm t.line)) (cond {A = Read Token} r (Ok (t, rest)) (Err (faulty (UnknownField t.text (told_at t rest))))) >>= f)
+          ≡ on (cond c (unless r (UnknownField t.text (told_at t rest))) (Some (BadForm t.line))) (fill ps rest)
       by_rule false r = refl
       by_rule true false = refl
-      by_rule true true = same t (record { name = n.text; text = t.text; line = t.line }) rest
+      by_rule true true = same t rest
 
-abbrev field_rest : Kind → List ℕ → List Place
-field_rest kind name = the_mark 40 ∷ a_text ∷ the_mark 44 ∷ a_text_of kind name ∷ the_mark 41 ∷ []
+abbrev field_rest : Kind → List Place
+field_rest kind = the_mark 40 ∷ a_field kind ∷ the_mark 44 ∷ a_text ∷ the_mark 41 ∷ []
 
 abbrev info_rest : List Place
 info_rest = the_mark 40 ∷ a_text ∷ the_mark 44 ∷ a_value ∷ the_mark 41 ∷ []
@@ -220,15 +221,13 @@ head_rest names = the_word (codes "record") ∷ the_mark 40 ∷ a_kind ∷ the_m
 abbrev after : {A : Type 0} → A × Tokens → Tokens
 after x = x.1
 
-field_left : (kind : Kind) (w : Token) (ts : Tokens) → left after (field_at kind ts) ≡ fill (field_rest kind (third (w ∷ ts))) ts
+field_left : (kind : Kind) (ts : Tokens) → left after (field_at kind ts) ≡ fill (field_rest kind) ts
 unfolding field_at
-field_left kind w [] = rw (mark_none 40) refl
-field_left kind w (o ∷ []) = mark_cons after (a_text ∷ the_mark 44 ∷ a_text_of kind [] ∷ the_mark 41 ∷ []) 40 _ o [] (word_end after (the_mark 44 ∷ a_text_of kind [] ∷ the_mark 41 ∷ []) _)
-field_left kind w (o ∷ n ∷ rest) =
-    mark_cons after (a_text ∷ the_mark 44 ∷ a_text_of kind n.text ∷ the_mark 41 ∷ []) 40 _ o (n ∷ rest)
-    (word_cons after (the_mark 44 ∷ a_text_of kind n.text ∷ the_mark 41 ∷ []) _ n rest
-    (mark_step after (a_text_of kind n.text ∷ the_mark 41 ∷ []) 44 _ rest
-    (λ ts. known_step after (the_mark 41 ∷ []) kind n (λ text x. mark_at 41 text.1 >>= λ left. Ok (x, left)) ts (λ t x more. mark_step after [] 41 (λ left. Ok (x, left)) more (λ end. refl)))))
+field_left kind ts =
+    mark_step after (a_field kind ∷ the_mark 44 ∷ a_text ∷ the_mark 41 ∷ []) 40 _ ts
+    (λ a. known_step after (the_mark 44 ∷ a_text ∷ the_mark 41 ∷ []) kind _ a
+    (λ n b. mark_step after (a_text ∷ the_mark 41 ∷ []) 44 _ b
+    (λ c. word_step after (the_mark 41 ∷ []) _ c (λ t d. mark_step after [] 41 _ d (λ end. refl)))))
 
 info_left : (ts : Tokens) → left after (info_at ts) ≡ fill info_rest ts
 unfolding info_at
@@ -250,8 +249,8 @@ head_left names ts =
     (λ n name e. mark_step after [] 41 _ e (λ end. refl))))))
 
 -- an item stops where a part does
-passes : (word : List ℕ) (t : Token) → IsWord word t → the_word word t ≡ None
-passes word t is = rw (is.0, same_bytes t.text word is.1) refl
+passes : (word : List ℕ) (t : Token) (rest : Tokens) → IsWord word t → the_word word t rest ≡ None
+passes word t rest is = rw (is.0, same_bytes t.text word is.1) refl
 
 field_err : (r : Read FieldText) (stop : Stop) → as_field r ≡ Err stop → r ≡ Err stop
 field_err (Ok x) stop h = absurd cc
@@ -284,10 +283,10 @@ bad_stop w stop r f g = sym (stop_is (faulty (BadForm w.line)) stop r f g)
 
 module _ (kind : Kind) (w : Token) (ts : Tokens) (stop : Stop) where
   field_stops : IsWord (codes "field") w → field_at kind ts ≡ Err stop → PartStops kind (w ∷ ts) stop
-  field_stops is h = inl (is, inr (passes (codes "field") w is, stops_found (field_rest kind (third (w ∷ ts))) ts stop (sym (field_left kind w ts) ∙ ap (left after) h)))
+  field_stops is h = inl (is, inr (passes (codes "field") w ts is, stops_found (field_rest kind) ts stop (sym (field_left kind ts) ∙ ap (left after) h)))
 
   info_stops : IsWord (codes "info") w → info_at ts ≡ Err stop → PartStops kind (w ∷ ts) stop
-  info_stops is h = inr (inl (is, inr (passes (codes "info") w is, stops_found info_rest ts stop (sym (info_left ts) ∙ ap (left after) h))))
+  info_stops is h = inr (inl (is, inr (passes (codes "info") w ts is, stops_found info_rest ts stop (sym (info_left ts) ∙ ap (left after) h))))
 
   keyword_stops : w.kind ≡ Bare → (c d : Bool) → bytes_eq w.text (codes "field") ≡ c → bytes_eq w.text (codes "info") ≡ d
       → cond c (as_field (field_at kind ts)) (cond d (as_info (info_at ts)) (Err (faulty (BadForm w.line)))) ≡ Err stop → PartStops kind (w ∷ ts) stop
@@ -327,7 +326,7 @@ module _ (kind : Kind) (w : Token) (ts : Tokens) (stop : Stop) where
       by_word false false c e = refl
 
   rest_stops : (word : List ℕ) (ps : List Place) → IsWord word w → StopsIn (the_word word ∷ ps) (w ∷ ts) stop → fill ps ts ≡ Err stop
-  rest_stops word ps is (inl (fault, at, e)) = let none = passes word w is in absurd cc
+  rest_stops word ps is (inl (fault, at, e)) = let none = passes word w ts is in absurd cc
   rest_stops word ps is (inr (at, more)) = stops_only ps ts stop more
 
 item_stops_found : (kind : Kind) (tokens : Tokens) (stop : Stop) → item_at kind tokens ≡ Err stop → PartStops kind tokens stop
@@ -337,7 +336,7 @@ item_stops_found kind (w ∷ ts) stop h = in_stops kind w ts stop w.kind refl (s
 item_stops_only : (kind : Kind) (tokens : Tokens) (stop : Stop) → PartStops kind tokens stop → item_at kind tokens ≡ Err stop
 item_stops_only kind [] stop h = item_none kind ∙ ap (λ (e : Stop). Err e) (sym h)
 item_stops_only kind (w ∷ ts) stop (inl (is, stops)) =
-    let at = left_err after stop (field_at kind ts) (field_left kind w ts ∙ rest_stops kind w ts stop (codes "field") (field_rest kind (third (w ∷ ts))) is stops) in
+    let at = left_err after stop (field_at kind ts) (field_left kind ts ∙ rest_stops kind w ts stop (codes "field") (field_rest kind) is stops) in
     item_bare kind w ts is.0 ∙ word_field kind w ts is.1 ∙ ap as_field at
 item_stops_only kind (w ∷ ts) stop (inr (inl (is, stops))) =
     let at = left_err after stop (info_at ts) (info_left ts ∙ rest_stops kind w ts stop (codes "info") info_rest is stops) in
@@ -409,7 +408,7 @@ module _ (names : List (List ℕ)) where
 
   brace_left : (ts : Tokens) → left same_tokens (mark_at 123 ts) ≡ fill (the_mark 123 ∷ []) ts
   brace_left [] = ap (left same_tokens) (mark_none 123)
-  brace_left (t ∷ rest) = ap (left same_tokens) (mark_is 123 t rest) ∙ left_on same_tokens (the_mark 123 t) (Ok rest)
+  brace_left (t ∷ rest) = ap (left same_tokens) (mark_is 123 t rest) ∙ left_on same_tokens (the_mark 123 t rest) (Ok rest)
 
   abbrev finish : Kind × List ℕ × ℕ → Body × Tokens → Read RecText
   finish head body = Ok (record_of head body.0, body.1)

@@ -4,6 +4,7 @@ use Rattle.std.specs.Prelude.{◌≡◌, ℕ, zero, suc, ◌+◌, Bool, true, fa
 use Rattle.std.specs.Prelude.{Option, Some, None, Result, Ok, Err, ◌==◌, nat_le, is_some, codes, if◌then◌else◌}
 use Rattle.std.specs.List.{list_all}
 use Rattle.std.specs.Str.{bytes_eq}
+use Rattle.db_text.specs.Grammar.{is_sign, is_name}
 use Rattle.db_text.specs.declared.token.Token.{Token}
 use Rattle.db_text.specs.declared.token.TokenKind.{TokenKind}
 use Rattle.db_text.specs.declared.token.TokenKind.TheVariants.{Bare, Quoted, Mark, Json}
@@ -85,17 +86,31 @@ value_in t Mark rest = bad t
 unfoldable pub value_at : Tokens → Read (Token × Bool)
 value_at tokens = next tokens >>= λ t. value_in t.0 t.0.kind t.1
 
--- a field of this kind; the fault stands at the text
-abbrev pub field_of : Kind → Token → Token → Result FieldText Stop
-field_of kind name text =
-    if is_some (rule_of kind name.text) then Ok (record { name = name.text; text = text.text; line = text.line })
-    else Err (faulty (UnknownField name.text text.line))
+-- The line at which a field's unknown name is told: that of its text, where a comma and a text follow the name, else
+-- that of the name itself.
+abbrev pub told_at : Token → Tokens → ℕ
+told_at name [] = name.line
+told_at name (c ∷ []) = name.line
+told_at name (c ∷ text ∷ rest) =
+    if is_sign c.kind && bytes_eq c.text (44 ∷ []) && is_name text.kind then text.line else name.line
+
+-- a field's name, which this kind must know
+abbrev pub known_in : Kind → Token → Tokens → Read Token
+known_in kind name rest =
+    if is_some (rule_of kind name.text) then Ok (name, rest)
+    else Err (faulty (UnknownField name.text (told_at name rest)))
+
+unfoldable pub known_at : Kind → Tokens → Read Token
+known_at kind tokens = word_at tokens >>= λ name. known_in kind name.0 name.1
+
+abbrev pub field_of : Token → Token → FieldText
+field_of name text = record { name = name.text; text = text.text; line = text.line }
 
 -- `(NAME, text)`
 unfoldable pub field_at : Kind → Tokens → Read FieldText
 field_at kind tokens =
-    mark_at 40 tokens >>= λ a. word_at a >>= λ name. mark_at 44 name.1 >>= λ b. word_at b >>= λ text.
-    field_of kind name.0 text.0 >>= λ field. mark_at 41 text.1 >>= λ rest. Ok (field, rest)
+    mark_at 40 tokens >>= λ a. known_at kind a >>= λ name. mark_at 44 name.1 >>= λ b. word_at b >>= λ text.
+    mark_at 41 text.1 >>= λ rest. Ok (field_of name.0 text.0, rest)
 
 abbrev pub info_of : Token → Token × Bool → Info
 info_of name value = record { name = name.text; text = value.0.text; json = value.1; line = value.0.line }

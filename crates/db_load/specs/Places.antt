@@ -13,52 +13,53 @@ use Rattle.rec_kinds.specs.Fields.{rule_of}
 use Rattle.db_load.specs.declared.fault.LoadFault.{LoadFault}
 use Rattle.db_load.specs.declared.fault.LoadFault.TheVariants.{Text, SameRecord, UnknownKind, UnknownField, BadForm}
 use Rattle.db_load.specs.declared.fault.LoadFault.TheVariants.{Count}
-use Rattle.db_load.specs.Forms.{Stop, short, faulty, is_record_name, is_among}
+use Rattle.db_load.specs.Forms.{Stop, short, faulty, told_at, is_record_name, is_among}
 use Rattle.db_load.specs.Grammar.{IsWord, IsMark, is_value, Part, parts_tokens, AreParts, Head, head_tokens, IsHead}
 use Rattle.db_load.specs.Grammar.{Form, form_tokens, IsForm, Records}
 
--- A place in a form: what is wrong with a token that stands there, if anything.
+-- A place in a form: what is wrong with a token that stands there, in front of these, if anything.
 abbrev pub Place : Type 0
-Place = Token → Option LoadFault
+Place = Token → List Token → Option LoadFault
 
 abbrev pub unless : Bool → LoadFault → Option LoadFault
 unless holds fault = if holds then None else Some fault
 
 abbrev pub the_word : List ℕ → Place
-the_word word t = unless (is_bare t.kind && bytes_eq t.text word) (BadForm t.line)
+the_word word t rest = unless (is_bare t.kind && bytes_eq t.text word) (BadForm t.line)
 
 abbrev pub the_mark : ℕ → Place
-the_mark b t = unless (is_sign t.kind && bytes_eq t.text (b ∷ [])) (BadForm t.line)
+the_mark b t rest = unless (is_sign t.kind && bytes_eq t.text (b ∷ [])) (BadForm t.line)
 
 abbrev pub a_text : Place
-a_text t = unless (is_name t.kind) (BadForm t.line)
+a_text t rest = unless (is_name t.kind) (BadForm t.line)
 
 abbrev pub a_value : Place
-a_value t = unless (is_value t.kind) (BadForm t.line)
+a_value t rest = unless (is_value t.kind) (BadForm t.line)
 
 abbrev pub a_kind : Place
-a_kind t =
+a_kind t rest =
     if is_name t.kind then unless (is_some (kind_of t.text)) (UnknownKind t.text t.line) else Some (BadForm t.line)
 
 -- a record's name, which none of these is
 abbrev pub a_name : List (List ℕ) → Place
-a_name names t =
+a_name names t rest =
     if is_name t.kind && is_record_name t.text then unless (not (is_among t.text names)) (SameRecord t.text t.line)
     else Some (BadForm t.line)
 
--- the text of a field of this kind and name
-abbrev pub a_text_of : Kind → List ℕ → Place
-a_text_of kind name t =
-    if is_name t.kind then unless (is_some (rule_of kind name)) (UnknownField name t.line) else Some (BadForm t.line)
+-- The name of a field, which this kind must know, whatever follows it. Only the line goes by what follows.
+abbrev pub a_field : Kind → Place
+a_field kind t rest =
+    if is_name t.kind then unless (is_some (rule_of kind t.text)) (UnknownField t.text (told_at t rest))
+    else Some (BadForm t.line)
 
 -- `record(KIND, NAME) {`; `field(NAME, text)`; `info(NAME, value)`
 abbrev pub head_places : List (List ℕ) → List Place
 head_places names =
     the_word (codes "record") ∷ the_mark 40 ∷ a_kind ∷ the_mark 44 ∷ a_name names ∷ the_mark 41 ∷ the_mark 123 ∷ []
 
-abbrev pub field_places : Kind → List ℕ → List Place
-field_places kind name =
-    the_word (codes "field") ∷ the_mark 40 ∷ a_text ∷ the_mark 44 ∷ a_text_of kind name ∷ the_mark 41 ∷ []
+abbrev pub field_places : Kind → List Place
+field_places kind =
+    the_word (codes "field") ∷ the_mark 40 ∷ a_field kind ∷ the_mark 44 ∷ a_text ∷ the_mark 41 ∷ []
 
 abbrev pub info_places : List Place
 info_places = the_word (codes "info") ∷ the_mark 40 ∷ a_text ∷ the_mark 44 ∷ a_value ∷ the_mark 41 ∷ []
@@ -68,20 +69,13 @@ abbrev pub StopsIn : List Place → List Token → Stop → Type 0
 StopsIn [] tokens stop = ⊥
 StopsIn (p ∷ ps) [] stop = stop ≡ short
 StopsIn (p ∷ ps) (t ∷ ts) stop =
-    ((fault : LoadFault) × (p t ≡ Some fault) × (stop ≡ faulty fault)) ⊎ ((p t ≡ None) × StopsIn ps ts stop)
-
--- the third token's text: a field's name
-abbrev pub third : List Token → List ℕ
-third [] = []
-third (w ∷ []) = []
-third (w ∷ o ∷ []) = []
-third (w ∷ o ∷ n ∷ ts) = n.text
+    ((fault : LoadFault) × (p t ts ≡ Some fault) × (stop ≡ faulty fault)) ⊎ ((p t ts ≡ None) × StopsIn ps ts stop)
 
 -- In a record's braces, behind whole parts: a field, or an info, stops; or a token begins neither, nor ends the record.
 abbrev pub PartStops : Kind → List Token → Stop → Type 0
 PartStops kind [] stop = stop ≡ short
 PartStops kind (t ∷ ts) stop =
-    (IsWord (codes "field") t × StopsIn (field_places kind (third (t ∷ ts))) (t ∷ ts) stop)
+    (IsWord (codes "field") t × StopsIn (field_places kind) (t ∷ ts) stop)
     ⊎ ((IsWord (codes "info") t × StopsIn info_places (t ∷ ts) stop)
     ⊎ ((IsWord (codes "field") t → ⊥) × (IsWord (codes "info") t → ⊥) × (IsMark 125 t → ⊥)
     × (stop ≡ faulty (BadForm t.line))))

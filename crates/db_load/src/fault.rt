@@ -11,7 +11,8 @@ pub enum LoadFault {
     SameRecord(Name, u32),
     /// No kind has this name; the line of the kind.
     UnknownKind(Name, u32),
-    /// The record's kind knows no field of this name; the line of the field's text.
+    /// The record's kind knows no field of this name; the line of the field's text, or of the name where no
+    /// comma and text follow it.
     UnknownField(Name, u32),
     /// Another token should stand here; the line of the token, or of the text's last byte where it ends too early.
     BadForm(u32),

@@ -1,5 +1,7 @@
-ghost use Rattle.std.specs.Prelude.{◌≡◌, ◌<◌, ◌≤◌, length, IfOk, Ok};
-ghost use Rattle.db_load.specs.Forms.{Gives, next, mark_at, word_at, value_at, field_of, field_at, info_of, info_at, begin_at, kind_in};
+ghost use Rattle.std.specs.Prelude.{◌≡◌, ◌<◌, ◌≤◌, ◌&&◌, [], ◌∷◌, length, IfOk, Ok};
+ghost use Rattle.std.specs.Str.{bytes_eq};
+ghost use Rattle.db_text.specs.Grammar.{is_sign, is_name};
+ghost use Rattle.db_load.specs.Forms.{Gives, next, mark_at, word_at, value_at, told_at, known_at, field_of, field_at, info_of, info_at, begin_at, kind_in};
 ghost use Rattle.rec_kinds.specs.Kinds.{kind_of};
 
 use crate::fault::{FormStop, LoadFault};
@@ -70,18 +72,60 @@ fn value_at(tokens: &[Token]) -> Result<(&Token, bool, &[Token]), FormStop>
     }
 }
 
-/// A field of a record of this kind, by its name and text.
-fn field_of(alloc: Global, kind: Kind, name: &Token, text: &Token) -> Result<FieldText, FormStop>
-    ensures { Gives (λ x. x) result (field_of kind name.now text.now) }
+/// Whether a token is a comma.
+fn is_comma(token: &Token) -> bool
+    ensures { result ≡ is_sign token.now.kind && bytes_eq token.now.text (44 ∷ []) }
 {
-    let field = name.text.clone_in(alloc)?;
-    if !field_known(kind, name.text.as_str()) {
-        return Err(FormStop::Fault(LoadFault::UnknownField(field, text.line)));
+    matches!(token.kind, TokenKind::Mark) && token.text.as_str() == ","
+}
+
+/// Whether a token is a text, bare or in quotes.
+fn is_text(token: &Token) -> bool
+    ensures { result ≡ is_name token.now.kind }
+{
+    matches!(token.kind, TokenKind::Bare | TokenKind::Quoted)
+}
+
+/// The line at which a field's unknown name is told, by what follows the name: that of the text, where a
+/// comma and a text follow, else that of the name.
+fn told_at(name: &Token, rest: &[Token]) -> u32
+    ensures { result ≡ told_at name.now rest.now }
+{
+    match rest {
+        [comma, text, ..] => {
+            if is_comma(comma) && is_text(text) {
+                return text.line;
+            }
+            name.line
+        }
+        [_] => name.line,
+        [] => name.line,
     }
-    let value = text.text.clone_in(alloc)?;
+}
+
+/// The name of a field of this kind, and what follows it. A name that the kind doesn't know is told
+/// whatever follows.
+#[tactic(auto, unfolding(crate::specs::Forms::known_at))]
+fn known_at(alloc: Global, kind: Kind, tokens: &[Token]) -> Result<(&Token, &[Token]), FormStop>
+    ensures value { Gives (λ x. (x.0.now, x.1.now)) result (known_at kind tokens.now) }
+    ensures shorter { IfOk result (λ x. length x.1.now < length tokens.now) }
+{
+    let (name, rest) = word_at(tokens)?;
+    if field_known(kind, name.text.as_str()) {
+        return Ok((name, rest));
+    }
+    let line = told_at(name, rest);
+    let name = name.text.clone_in(alloc)?;
+    Err(FormStop::Fault(LoadFault::UnknownField(name, line)))
+}
+
+/// A field by its name and text.
+fn field_of(alloc: Global, name: &Token, text: &Token) -> Result<FieldText, NoMemory>
+    ensures { IfOk result (λ x. x ≡ field_of name.now text.now) }
+{
     Ok(FieldText {
-        name: field,
-        text: value,
+        name: name.text.clone_in(alloc)?,
+        text: text.text.clone_in(alloc)?,
         line: text.line,
     })
 }
@@ -97,10 +141,10 @@ pub fn field_at(
     ensures shorter { IfOk result (λ x. length x.1.now < length tokens.now) }
 {
     let rest = mark_at(b'(', tokens)?;
-    let (name, rest) = word_at(rest)?;
+    let (name, rest) = known_at(alloc, kind, rest)?;
     let rest = mark_at(b',', rest)?;
     let (text, rest) = word_at(rest)?;
-    let field = field_of(alloc, kind, name, text)?;
+    let field = field_of(alloc, name, text)?;
     let rest = mark_at(b')', rest)?;
     Ok((field, rest))
 }

@@ -80,9 +80,9 @@ fn loaded_cut(alloc: Global, end: u32, plain: &str) -> Result<Vec<RecText>, Load
 
 /// The records of a database text with these macros, of which values hold no line feed; of two values
 /// of one macro the later counts (EPICS IOC Application Developer's Guide, "Database Definition").
-/// All macros come first, then tokens and forms from left to right; then Count, where there are no
-/// records or more than 4,000. A field that a record gives twice is given once, by its last text and at
-/// its last place.
+/// All macros come first, then tokens and forms from left to right, where an unknown kind or field is told
+/// as soon as its name is read; then Count, where there are no records or more than 4,000. A field that a
+/// record gives twice is given once, by its last text and at its last place.
 pub fn read_records(
     alloc: Global,
     text: &str,

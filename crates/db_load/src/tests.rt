@@ -155,6 +155,46 @@ fn forms_are_read_with_their_first_fault(rt: HostRuntime) -> Result<(), Fail> {
     Ok(())
 }
 
+#[test]
+fn an_unknown_field_is_told_as_soon_as_its_name_is_read(rt: HostRuntime) -> Result<(), Fail> {
+    let alloc = rt.alloc();
+    let rows = [
+        // Text on another line than the name.
+        ("field(NOPE\n,\n\"\")", "UnknownField NOPE 4"),
+        ("field(NOPE, x)\n\"", "UnknownField NOPE 2"),
+        // No comma behind the name.
+        ("field(NE\"3\")", "UnknownField NE 2"),
+        ("field(L\nOW, \"0x1F\")\n\n\n\"", "UnknownField L 2"),
+        (
+            "field(HOPinfo(Q:group, \"{\")R, \"t\")",
+            "UnknownField HOPinfo 2",
+        ),
+        // The token behind the name can't be cut.
+        ("field(FRSMove\")", "UnknownField FRSMove 2"),
+        ("field(ZR@ST, \"Hold\")", "UnknownField ZR 2"),
+        // A comma, and then no text.
+        ("field(NOPE\n,\n)", "UnknownField NOPE 2"),
+        ("field(NOPE,\n\"Hold)", "UnknownField NOPE 2"),
+        // The text ends.
+        ("field(\n\"NOPE\"\n", "UnknownField NOPE 3"),
+        ("field(NOPE,\n", "UnknownField NOPE 2"),
+        // A name that is known, or none.
+        ("field(VAL\n\"3\")", "BadForm 3"),
+        ("field(VAL,\n\n\"3)", "OpenString 4"),
+        ("field(,\n\"3\")", "BadForm 2"),
+        ("field(\"NOPE,\n", "OpenString 2"),
+        // A form's fault in front of a quote that isn't closed.
+        ("field(VAL \"3\")\n\n\n\"", "BadForm 2"),
+        // A text behind an info's name isn't asked for.
+        ("info(NOPE \"3\")", "BadForm 2"),
+    ];
+    for (item, told) in rows {
+        let text = format!(in alloc; "record(bi, A) {{\n{item}")?;
+        assert_eq!(rt; loaded(alloc, text.as_str(), &[])?.as_str(), told);
+    }
+    Ok(())
+}
+
 /// A text with so many records.
 fn text_with(alloc: Global, records: u32) -> Result<String, NoMemory> {
     let mut text = String::new(alloc);
