@@ -15,7 +15,7 @@ use pvd_value::{PvValue, leaf};
 use std::alloc::Global;
 
 /// What the options of a request say.
-#[derive(Clone, Copy, Debug, PartialEq, Eq)]
+#[derive(Clone, Copy)]
 pub(crate) struct Options {
     pub queue: u32,
     pub atomic: Option<bool>,
@@ -57,6 +57,7 @@ fn queue_of_text(text: &str) -> Option<u32>
     ensures { result ≡ spec.queue_of_text text.now }
 {
     match text.as_bytes() {
+        // a number with a `-` is below 1
         [b'-', digits @ ..] => up_to_64(digits).map(|_| 1),
         digits => up_to_64(digits).map(|size| size.max(1)),
     }
@@ -73,7 +74,7 @@ fn signed_size(number: i64) -> u32
 fn unsigned_size(number: u64) -> u32
     ensures { result ≡ spec.queue_size (pos number) }
 {
-    number.clamp(1, 64) as u32
+    number.min(64).max(1) as u32
 }
 
 /// The size of a queue that a value asks for: a whole number of any type, or a text that writes one.
