@@ -1,5 +1,5 @@
--- The options of a request, which stand in the member `_options` of its member `record` (pvAccess Protocol Specification,
--- "pvRequest"; QSRV manual, "atomic").
+-- The options of a request, which stand in the member `_options` of its member `record` (pvAccess Protocol
+-- Specification, "pvRequest"; QSRV manual, "atomic").
 use Rattle.std.specs.Prelude.{ℕ, ℤ, pos, negsuc, Bool, true, false, ◌&&◌, min, max, List, drop, length, codes, Option, Some, None, option_map, unwrap_or, Result, Ok, Err, nat_lt, if◌then◌else◌}
 use Rattle.std.specs.List.{list_all}
 use Rattle.std.specs.Char.{is_ascii_digit}
@@ -18,8 +18,8 @@ abbrev pub option_in : Option (Tree × Data) → List ℕ → Option (Option Dat
 option_in None path = None
 option_in (Some r) path = option_map (λ n. leaf_at n r.0 r.1) (number_at path r.0)
 
--- What an option says, read by `read`, which knows no structure; where the option isn't given, the default. None is a bad
--- option.
+-- What an option says, read by `read`, which knows no structure; where the option isn't given, the default. None is a
+-- bad option.
 abbrev pub read_or : {A : Type 0} → A → (Data → Option A) → Option (Option Data) → Option A
 read_or default read None = Some default
 read_or default read (Some None) = None

@@ -48,8 +48,8 @@ asked (n ∷ ns) (Ok o) =
 abbrev pub request_of : Tree → Root → Option (Tree × Data) → Result Request RequestFault
 request_of t which request = asked (selected t (root_in which request)) (options_in request)
 
--- What holds of each request that asks something: it asks for leaves of the type, for one at least, and its queue has 1 to
--- 64 places.
+-- What holds of each request that asks something: it asks for leaves of the type, for one at least, and its queue has
+-- 1 to 64 places.
 pub record IsSound (t : Tree) (r : Request) : Type 0 where
   pub holds : HoldsLeaves t r.mask
   pub some : r.mask ≢ empty

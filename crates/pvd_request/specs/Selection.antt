@@ -32,8 +32,8 @@ abbrev pub name_fields : Fields → Bool
 name_fields no_fields = false
 name_fields (field name t fs) = not (is_options name) || name_fields fs
 
--- Whether the member of a request that names a field selects what the path leads to, counted from that field: everything
--- below the field, where no member of its own names a field; else only what such members select.
+-- Whether the member of a request that names a field selects what the path leads to, counted from that field:
+-- everything below the field, where no member of its own names a field; else only what such members select.
 abbrev pub selects : List (List ℕ) → Tree → Bool
 selects [] t = not (name_fields (fields_in t))
 selects (name ∷ path) t = not (name_fields (fields_in t)) || some_tree (selects path) (said_of name (fields_in t))

@@ -44,16 +44,16 @@ fn root_in(request: Option<&(PvType, PvValue)>, root: Root) -> Option<&Shape>
 
 /// What a request structure asks of a channel of this type; none is the null request. Its value fits its type.
 ///
-/// The members of its root, `field` or `getField`, name fields of the type, nested as these are. One without members that
-/// name fields selects all leaves below its field, another those that its members select. A name that the type lacks is
-/// passed over, and so is `_options`. A null request, and a root that is missing or an empty structure, select all leaves.
-/// Where no leaf is left, `NothingSelected` is answered.
+/// The members of its root, `field` or `getField`, name fields of the type, nested as these are. One without members
+/// that name fields selects all leaves below its field, another those that its members select. A name that the type
+/// lacks is passed over, and so is `_options`. A null request, and a root that is missing or an empty structure, select
+/// all leaves. Where no leaf is left, `NothingSelected` is answered.
 ///
-/// Then the options `queueSize`, `atomic` and `pipeline` are read in this order, which stand in `record._options`: a whole
-/// number of any type, or a text of decimal digits that may have a `-` before them, of which a number below 1 counts as 1
-/// and one above 64 as 64, and 4 is the default; and a boolean or a text `true` or `false`. The first that is something
-/// else is answered as `BadOption`. Other options are passed over (pvAccess Protocol Specification, "pvRequest"; QSRV
-/// manual, "atomic").
+/// Then the options `queueSize`, `atomic` and `pipeline` are read in this order, which stand in `record._options`. The
+/// first is a whole number of any type, or a text of decimal digits that may have a `-` before them: below 1 it counts
+/// as 1, above 64 as 64, and 4 is the default. The others are a boolean, or a text `true` or `false`. The first option
+/// that is something else is answered as `BadOption`, and options of other names are passed over (pvAccess Protocol
+/// Specification, "pvRequest"; QSRV manual, "atomic").
 pub fn read_request(
     alloc: Global,
     ty: &PvType,

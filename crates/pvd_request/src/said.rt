@@ -10,7 +10,7 @@ use pvd_type::{Member, NoMemory, Shape};
 use std::alloc::Global;
 use std::collections::BTreeMap;
 
-/// Members of a request by the fields that they name.
+/// Members of a request by the fields that they name: a map, since a client may send thousands of them.
 pub(crate) type Said<'a> = BTreeMap<&'a str, &'a Shape>;
 
 /// The members of a structure; none of another type.

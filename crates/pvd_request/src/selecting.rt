@@ -39,8 +39,8 @@ fn take_members(members: &[Member], number: u32, found: &mut BitSet) -> Result<u
     Ok(next)
 }
 
-/// Adds the leaves of a node with this number that a request selects, where `said` is its member for that node, if it has
-/// one. The sizes are those from the node on.
+/// Adds the leaves of a node with this number that a request selects, where `said` is its member for that node, if it
+/// has one. The sizes are those from the node on.
 #[cycle(select)]
 fn select(
     alloc: Global,
@@ -65,8 +65,8 @@ fn select(
     Ok(())
 }
 
-/// Adds the leaves of a node with this number that members of a request select among its own. The sizes are those from the
-/// node on.
+/// Adds the leaves of a node with this number that members of a request select among its own. The sizes are those from
+/// the node on.
 #[cycle(select)]
 fn select_below(
     alloc: Global,
@@ -114,7 +114,8 @@ fn select_among(
     Ok(())
 }
 
-/// The leaves of a type that a request with this root selects. A root that is missing or an empty structure selects all.
+/// The leaves of a type that a request with this root selects. A root that is missing or an empty structure selects
+/// all.
 pub(crate) fn select_all(
     alloc: Global,
     ty: &PvType,

@@ -53,8 +53,8 @@ const LONGOUT: Part = Part::Struct(&[
     ),
 ]);
 
-/// A group of three longouts. Its nodes are the group 0; a 1 with the leaves 2, 4, 5, 6, 8, 9, 10; b 11 with 12, 14, 15,
-/// 16, 18, 19, 20; c 21 with 22, 24, 25, 26, 28, 29, 30.
+/// A group of three longouts. Its nodes are the group 0; a 1 with the leaves 2, 4, 5, 6, 8, 9, 10; b 11 with 12, 14,
+/// 15, 16, 18, 19, 20; c 21 with 22, 24, 25, 26, 28, 29, 30.
 const GROUP: Part = Part::Struct(&[("a", LONGOUT), ("b", LONGOUT), ("c", LONGOUT)]);
 
 fn discard<T: Drop>(_value: T) {}
