@@ -10,7 +10,8 @@ use Rattle.group_defs.specs.declared.def.MemberKind.TheVariants as kinds
 use Rattle.group_defs.specs.declared.def.MemberDef.{MemberDef}
 use Rattle.group_defs.specs.declared.fault.GroupFault.{GroupFault}
 use Rattle.group_defs.specs.declared.fault.GroupFault.TheVariants as faults
-use Rattle.group_view.specs.Groups.{MemberData, GroupData}
+use Rattle.group_view.specs.Groups.{GroupData}
+use Rattle.group_view.specs.declared.member.Member.{Member}
 use Rattle.group_view.specs.Slots.{alarm_path, time_path}
 use Rattle.group_view.specs.Types.{group_tree}
 
@@ -32,7 +33,7 @@ abbrev pub names_above : List ℕ → List (List ℕ)
 names_above name = above_from [] name
 
 -- the names below which no member may stand
-abbrev pub closed_names : List MemberData → List (List ℕ)
+abbrev pub closed_names : List Member → List (List ℕ)
 closed_names [] = []
 closed_names (m ∷ ms) = if holds_members m.def.kind then closed_names ms else m.def.name ∷ closed_names ms
 
@@ -40,7 +41,7 @@ abbrev pub is_among : List (List ℕ) → List ℕ → Bool
 is_among names name = list_any (bytes_eq name) names
 
 -- whether a member stands below one that is no structure
-abbrev pub is_misplaced : List MemberData → Bool
+abbrev pub is_misplaced : List Member → Bool
 is_misplaced ms = list_any (λ m. list_any (is_among (closed_names ms)) (names_above m.def.name)) ms
 
 -- whether a name begins with the one that the alarm or the time stamp has at the top
@@ -52,7 +53,7 @@ abbrev pub is_meta_name : List ℕ → Bool
 is_meta_name name = begins_with (codes "alarm") (path_of name) || begins_with (codes "timeStamp") (path_of name)
 
 -- whether a member has the place of the alarm or the time stamp that the empty name places at the top
-abbrev pub is_doubled : List MemberData → Bool
+abbrev pub is_doubled : List Member → Bool
 is_doubled ms = list_any (λ m. length m.def.name == 0) ms && list_any (λ m. is_meta_name m.def.name) ms
 
 -- The first fault of a group.

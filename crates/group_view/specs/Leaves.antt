@@ -1,17 +1,19 @@
 -- Which leaves of a group which member shows, what a record triggers, and what is read for it.
-use Rattle.std.specs.Prelude.{ℕ, suc, Bool, false, ◌==◌, ◌&&◌, ◌≡◌, true, List, [], ◌∷◌, ◌++◌, map, fold, filter}
+use Rattle.std.specs.Prelude.{ℕ, suc, Bool, false, ◌==◌, ◌&&◌, true, List, [], ◌∷◌, ◌++◌, map, fold, filter}
 use Rattle.std.specs.Prelude.{Option, None, Some, slice_get, option_map, if◌then◌else◌}
 use Rattle.std.specs.Option.{option_and_then}
 use Rattle.std.specs.List.{flat_map, filter_map}
 use Rattle.std.specs.BTreeSet.{insert_key}
-use Rattle.std.specs.FinSet.{FinSet, from_list, empty, union, contains}
+use Rattle.std.specs.FinSet.{FinSet, empty, insert}
 use Rattle.std.specs.Ordering.{nat_cmp}
 use Rattle.pvd_type.specs.Numbers.{numbered, is_leaf}
-use Rattle.rec_kinds.specs.declared.state.RecState.{RecState}
 use Rattle.group_defs.specs.declared.def.MemberKind.{MemberKind}
 use Rattle.group_defs.specs.declared.def.MemberKind.TheVariants as kinds
-use Rattle.group_view.specs.Groups.{Link, MemberData, GroupData, IsReady}
-use Rattle.group_view.specs.Slots.{Source, Slot, shows, level, Slots, no_slots, slot, structure_of}
+use Rattle.group_view.specs.Groups.{GroupData}
+use Rattle.group_view.specs.Links.{Link}
+use Rattle.group_view.specs.declared.member.Member.{Member}
+use Rattle.group_view.specs.declared.source.Source.{Source}
+use Rattle.group_view.specs.Slots.{Slot, shows, level, Slots, no_slots, slot, structure_of}
 use Rattle.group_view.specs.Types.{source_tree}
 
 -- What is shown under each number of the type, and none at a structure.
@@ -33,9 +35,9 @@ abbrev pub places : {A : Type 0} → (A → Bool) → ℕ → List A → List �
 places passes k [] = []
 places passes k (x ∷ xs) = if passes x then k ∷ places passes (suc k) xs else places passes (suc k) xs
 
--- The leaves that the member of this number shows.
-unfoldable pub leaves_of : GroupData → ℕ → FinSet nat_cmp
-leaves_of g n = from_list (places (is_of n) 0 (sources (structure_of g)))
+-- The numbers of the leaves that the member of this number shows, in rising order.
+unfoldable pub leaves_of : GroupData → ℕ → List ℕ
+leaves_of g n = places (is_of n) 0 (sources (structure_of g))
 
 -- ---- what a record triggers
 
@@ -49,7 +51,7 @@ triggered_by g rec = flat_map (λ m. m.def.trigger) (filter (λ m. is_about rec 
 
 -- The leaves that a record triggers.
 unfoldable pub triggered : GroupData → ℕ → FinSet nat_cmp
-triggered g rec = fold (λ found n. union found (leaves_of g n)) empty (triggered_by g rec)
+triggered g rec = fold insert empty (flat_map (leaves_of g) (triggered_by g rec))
 
 -- whether a member of this kind shows something
 abbrev pub reads : MemberKind → Bool
@@ -61,7 +63,7 @@ reads kinds.Proc = false
 reads kinds.Structure = false
 
 -- the record that a member shows
-abbrev pub read_by : MemberData → Option ℕ
+abbrev pub read_by : Member → Option ℕ
 read_by m = if reads m.def.kind then option_map (λ l. l.rec) m.link else None
 
 -- numbers in rising order, each once
@@ -75,9 +77,3 @@ footprint g rec = rising (filter_map (λ n. option_and_then read_by (slice_get g
 -- All records of a group.
 unfoldable pub records_of : GroupData → List ℕ
 records_of g = rising (filter_map (λ m. option_map (λ l. l.rec) m.link) g.members)
-
--- Each record that the leaves of a mask read has a state that it may be in.
-abbrev pub AreReadyFor : FinSet nat_cmp → List RecState → GroupData → Type 0
-AreReadyFor mask states g =
-    (n : ℕ) (m : MemberData) (k : ℕ) → slice_get g.members n ≡ Some m
-    → contains (leaves_of g n) k ≡ true → contains mask k ≡ true → IsReady states m

@@ -1,4 +1,5 @@
 pub mod Pieces
+pub mod Links
 pub mod Groups
 pub mod Slots
 pub mod Types

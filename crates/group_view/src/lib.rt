@@ -2,8 +2,13 @@
 //! put to it does (QSRV manual, "Group PV definitions").
 #![tactic(auto)]
 
+mod entry;
 mod laws;
+mod link;
+mod member;
 mod piece;
+mod source;
+mod writer;
 
 pub use group_defs::{GroupDef, GroupFault, MemberDef, MemberKind};
 pub use laws::{value_reads_footprint, value_reads_records};
