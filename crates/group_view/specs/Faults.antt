@@ -1,7 +1,11 @@
 -- Which groups have no type, and why (QSRV manual, "Group PV definitions").
 use Rattle.std.specs.Prelude.{◌≡◌, ⊤, ℕ, Bool, true, false, ◌&&◌, ◌||◌, ◌==◌, List, [], ◌∷◌, ◌++◌, length}
-use Rattle.std.specs.Prelude.{Option, None, Some, option_map, if◌then◌else◌}
+use Rattle.std.specs.Prelude.{codes, Option, None, Some, option_map, if◌then◌else◌}
+use Rattle.std.specs.Borrow.{Bor}
+use Rattle.std.specs.BTreeSet.{BTreeSet, contains_by}
+use Rattle.std.specs.Cmp.Lexicographic.{slice_cmp}
 use Rattle.std.specs.List.{list_any}
+use Rattle.std.specs.Ordering.{nat_cmp}
 use Rattle.std.specs.Str.{bytes_eq}
 use Rattle.pvd_type.specs.Check.{type_fault}
 use Rattle.pvd_type.specs.Numbers.{path_of}
@@ -40,9 +44,17 @@ closed_names (m ∷ ms) = if holds_members m.def.kind then closed_names ms else 
 abbrev pub is_among : List (List ℕ) → List ℕ → Bool
 is_among names name = list_any (bytes_eq name) names
 
+-- whether one of these names stands above a name
+abbrev pub is_below : List (List ℕ) → List ℕ → Bool
+is_below names name = list_any (is_among names) (names_above name)
+
 -- whether a member stands below one that is no structure
 abbrev pub is_misplaced : List Member → Bool
-is_misplaced ms = list_any (λ m. list_any (is_among (closed_names ms)) (names_above m.def.name)) ms
+is_misplaced ms = list_any (λ m. is_below (closed_names ms) m.def.name) ms
+
+-- a set of texts that are borrowed has these names
+abbrev pub Knows : BTreeSet (Bor (List ℕ)) → List (List ℕ) → Type 0
+Knows set names = (name : List ℕ) → contains_by (λ k. slice_cmp nat_cmp name k.now) set ≡ is_among names name
 
 -- whether a name begins with the one that the alarm or the time stamp has at the top
 abbrev pub begins_with : List ℕ → List (List ℕ) → Bool

@@ -6,7 +6,7 @@ use Rattle.std.specs.Option.{option_and_then}
 use Rattle.std.specs.Ordering.{nat_cmp, int_cmp, ordering_then}
 use Rattle.std.specs.BTreeMap.{insert_entry}
 use Rattle.std.specs.FinSet.{FinSet, contains}
-use Rattle.std.specs.List.{filter_map, enumerate_from}
+use Rattle.std.specs.List.{enumerate_from}
 use Rattle.pvd_value.specs.Data.{Data}
 use Rattle.pvd_value.specs.Leaves.{leaf_at}
 use Rattle.rec_kinds.specs.Configs.{Config}
@@ -33,10 +33,6 @@ use Rattle.group_view.specs.Types.{group_tree}
 
 -- ---- the writable members, in put order
 
--- the leaf that is put: the first that the member shows, which is its value, or `value.index`
-abbrev pub put_leaf : GroupData → ℕ → Option ℕ
-put_leaf g n = slice_get (leaves_of g n) 0
-
 -- what a put does with a member of this kind: it writes this leaf, or processes the record
 abbrev pub writing_of : MemberKind → Option ℕ → Option Writing
 writing_of kinds.Whole leaf = option_map Writes leaf
@@ -57,14 +53,22 @@ abbrev pub placed_by : ℕ → Option ℤ → Option Link → Option Writing →
 placed_by n (Some order) (Some link) (Some writing) = Some ((order, n), record { link = link; writing = writing })
 placed_by n _ _ _ = None
 
-abbrev pub writer_of : GroupData → ℕ × Member → Option (Place × Writer)
-writer_of g m = placed_by m.0 m.1.def.order m.1.link (writing_of m.1.def.kind (put_leaf g m.0))
+-- a writable member and its place, where these are the leaves that it shows: the first of them is the one that is put, its
+-- value or `value.index`
+abbrev pub writer_of : ℕ → Member → List ℕ → Option (Place × Writer)
+writer_of n m leaves = placed_by n m.def.order m.link (writing_of m.def.kind (slice_get leaves 0))
+
+abbrev pub with_writer : List (Place × Writer) → Option (Place × Writer) → List (Place × Writer)
+with_writer sorted None = sorted
+with_writer sorted (Some w) = insert_entry place_cmp sorted w.0 w.1
+
+-- the writable among members that show these leaves
+abbrev pub writers_among : (ℕ → List ℕ) → List (Place × Writer) → List (ℕ × Member) → List (Place × Writer)
+writers_among leaves sorted ms = fold (λ found m. with_writer found (writer_of m.0 m.1 (leaves m.0))) sorted ms
 
 -- The writable members: those with a put order, in rising order; ties by name, in whose order members stand.
 unfoldable pub writers : GroupData → List Writer
-writers g =
-    map (λ e. e.1)
-    (fold (λ sorted e. insert_entry place_cmp sorted e.0 e.1) [] (filter_map (writer_of g) (enumerate_from 0 g.members)))
+writers g = map (λ e. e.1) (writers_among (leaves_of g) [] (enumerate_from 0 g.members))
 
 -- ---- what a put does
 

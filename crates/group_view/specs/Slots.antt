@@ -1,5 +1,5 @@
 -- Where the members of a group stand in its structure (QSRV manual, "Group PV definitions").
-use Rattle.std.specs.Prelude.{ℕ, List, [], ◌∷◌, ◌++◌, map, fold, Option, None, Some, codes, if◌then◌else◌}
+use Rattle.std.specs.Prelude.{ℕ, ⊤, List, [], ◌∷◌, ◌++◌, map, fold, Option, None, Some, codes, if◌then◌else◌}
 use Rattle.std.specs.declared.cmp.Ordering.{Ordering}
 use Rattle.std.specs.BTreeMap.{insert_entry}
 use Rattle.std.specs.Cmp.Lexicographic.{slice_cmp}
@@ -75,9 +75,15 @@ entries_by m = ids_of m.1.def.kind m.1.def.name m.1.def.id ++ shown_by m.0 m.1.d
 abbrev pub entries_of : List Member → List (Path × Entry)
 entries_of ms = flat_map entries_by (enumerate_from 0 ms)
 
--- the entries by their paths, each level in the order of the bytes of its names
+-- entries by their paths, each level in the order of the bytes of its names
+abbrev pub added : List (Path × Entry) → Path × Entry → List (Path × Entry)
+added sorted e = insert_entry path_cmp sorted e.0 e.1
+
+abbrev pub added_all : List (Path × Entry) → List (Path × Entry) → List (Path × Entry)
+added_all sorted es = fold added sorted es
+
 abbrev pub in_order : List (Path × Entry) → List (Path × Entry)
-in_order es = fold (λ sorted e. insert_entry path_cmp sorted e.0 e.1) [] es
+in_order es = added_all [] es
 
 -- ---- the structure that they make
 
@@ -104,6 +110,16 @@ behind (name ∷ next ∷ path) e ss = in_last name (λ id inner. level id (behi
 -- the slots of entries that stand in order
 abbrev pub slots_of : List (Path × Entry) → Slots
 slots_of es = fold (λ ss e. behind e.0 e.1 ss) no_slots es
+
+-- each source of a structure is so
+abbrev mutual
+  pub EachShown : (Source → Type 0) → Slot → Type 0
+  EachShown P (shows s) = P s
+  EachShown P (level id ss) = EachOfShown P ss
+
+  pub EachOfShown : (Source → Type 0) → Slots → Type 0
+  EachOfShown P no_slots = ⊤
+  EachOfShown P (slot name s ss) = EachShown P s × EachOfShown P ss
 
 -- The structure of a group.
 unfoldable pub structure_of : GroupData → Slot

@@ -3,9 +3,10 @@ use Rattle.std.specs.Prelude.{◌≡◌, ◌≤◌, ◌<◌, ◌+◌, ⊤, true,
 use Rattle.std.specs.FinSet.{FinSet, contains}
 use Rattle.std.specs.Ordering.{nat_cmp}
 use Rattle.pvd_type.specs.Numbers.{numbered}
-use Rattle.pvd_value.specs.Blank.{blank_of}
+use Rattle.pvd_type.specs.Tree.{Tree, Fields}
+use Rattle.pvd_value.specs.Blank.{blank_of, blank_row}
 use Rattle.pvd_value.specs.Data.{Data, members, Row, end, more}
-use Rattle.pvd_value.specs.Merge.{merged}
+use Rattle.pvd_value.specs.Merge.{merged, merged_row}
 use Rattle.rec_kinds.specs.declared.state.RecState.{RecState}
 use Rattle.group_view.specs.Groups.{GroupData, HasState}
 use Rattle.group_view.specs.Pieces.{piece_shown}
@@ -38,6 +39,14 @@ group_shown g states = slot_shown states (structure_of g)
 abbrev pub part_shown : GroupData → FinSet nat_cmp → List RecState → Data
 part_shown g mask states =
     merged (contains mask) 0 (group_tree g) (blank_of (group_tree g)) (group_shown g states)
+
+-- of a type that is numbered from n: the value has the leaves of the mask as the whole has them
+abbrev pub IsPart : FinSet nat_cmp → ℕ → Tree → Data → Data → Type 0
+IsPart mask n t part whole = merged (contains mask) n t (blank_of t) part ≡ merged (contains mask) n t (blank_of t) whole
+
+abbrev pub IsRowPart : FinSet nat_cmp → ℕ → Fields → Row → Row → Type 0
+IsRowPart mask n fs part whole =
+    merged_row (contains mask) n fs (blank_row fs) part ≡ merged_row (contains mask) n fs (blank_row fs) whole
 
 -- Each record that is shown under a number of the mask has a state that it may be in.
 abbrev mutual

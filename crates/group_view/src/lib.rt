@@ -3,11 +3,18 @@
 #![tactic(auto)]
 
 mod entry;
+mod faults;
 mod laws;
 mod link;
 mod member;
+mod parts;
+mod paths;
 mod piece;
+mod reach;
+mod shapes;
+mod slots;
 mod source;
+mod views;
 mod writer;
 
 pub use group_defs::{GroupDef, GroupFault, MemberDef, MemberKind};

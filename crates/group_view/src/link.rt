@@ -1,5 +1,6 @@
 // The record that a member of a group is about.
 ghost use Rattle.std.specs.Prelude.{◌≡◌, IfOk};
+ghost use Rattle.std.specs.Arc.{arc_value};
 
 use pvd_type::NoMemory;
 use rec_kinds::RecConfig;
@@ -24,7 +25,7 @@ impl Model for Linked {
 impl Linked {
     /// The record of this number, so configured.
     pub fn of(rec: u32, config: &Arc<RecConfig>) -> Result<Linked, NoMemory>
-        ensures { IfOk result (λ link. link ≡ record { rec = rec; config = config.now.value }) }
+        ensures { IfOk result (λ link. link ≡ record { rec = rec; config = arc_value config.now }) }
     {
         Ok(Linked {
             rec,
