@@ -35,7 +35,7 @@ fn closed_names(alloc: Global, members: &[Member]) -> Result<BTreeSet<&[u8]>, No
 }
 
 /// Whether what stands before one of a name's dots is one of these names.
-fn is_below(closed: &BTreeSet<&[u8]>, name: &[u8]) -> bool
+fn is_below<'a>(closed: &BTreeSet<&'a [u8]>, name: &'a [u8]) -> bool
     ensures { (names : List (List ℕ)) → Knows closed.now names → result ≡ is_below names name.now }
 {
     for (place, byte) in name.iter().enumerate() {

@@ -1,5 +1,5 @@
 // The leaves of a mask alone, of what a group shows.
-ghost use Rattle.std.specs.Prelude.{◌≡◌, ◌≤◌, ◌<◌, ◌+◌, ◌×◌, ℕ, true, false, length, IfOk};
+ghost use Rattle.std.specs.Prelude.{◌≡◌, ◌≤◌, ◌<◌, ◌+◌, ℕ, true, false, length, IfOk};
 ghost use Rattle.std.specs.FinSet as set;
 ghost use Rattle.pvd_type.specs.Numbers.{numbered, numbered_fields, IsMeasured};
 ghost use Rattle.pvd_type.specs.View.{shape_view, members_view};

@@ -1,5 +1,5 @@
 // The structure of a group as a tree.
-ghost use Rattle.std.specs.Prelude.{◌≡◌, ◌×◌, ℕ, List, [], map, IfOk, IfErr, OnOk};
+ghost use Rattle.std.specs.Prelude.{◌≡◌, ℕ, List, [], map, IfOk, IfErr, OnOk};
 ghost use Rattle.group_view.specs.Seen.{entries_seen, slots_seen, named_seen};
 ghost use Rattle.group_view.specs.Slots.{Slot, Slots, level, no_slots, slot, with_last, in_last, behind, slots_of};
 
@@ -113,14 +113,12 @@ fn opened(last: Named, name: &str) -> Result<(Name, Vec<Named>), Named>
     ensures other { IfErr result (λ other. named_seen other ≡ named_seen last) }
     ensures apart { IfErr result (λ other. (make : List ℕ → Slots → Slot) → in_last name.now make (slot (named_seen last).0 (named_seen last).1 no_slots) ≡ slot (named_seen last).0 (named_seen last).1 (slot name.now (make [] no_slots) no_slots)) }
 {
-    if last.name.as_str() != name {
-        return Err(last);
-    }
-    match last.branch {
-        Branch::Level(id, inner) => Ok((id, inner)),
-        Branch::Shows(source) => Err(Named {
-            name: last.name,
-            branch: Branch::Shows(source),
+    let Named { name: found, branch } = last;
+    match branch {
+        Branch::Level(id, inner) if found.as_str() == name => Ok((id, inner)),
+        branch => Err(Named {
+            name: found,
+            branch,
         }),
     }
 }
