@@ -59,14 +59,20 @@ Knows set names = (name : List ℕ) → contains_by (λ k. slice_cmp nat_cmp nam
 -- whether a name begins with the one that the alarm or the time stamp has at the top
 abbrev pub begins_with : List ℕ → List (List ℕ) → Bool
 begins_with name [] = false
-begins_with name (first ∷ rest) = bytes_eq name first
+begins_with name (first ∷ rest) = bytes_eq first name
 
 abbrev pub is_meta_name : List ℕ → Bool
 is_meta_name name = begins_with (codes "alarm") (path_of name) || begins_with (codes "timeStamp") (path_of name)
 
 -- whether a member has the place of the alarm or the time stamp that the empty name places at the top
+abbrev pub has_empty_name : List Member → Bool
+has_empty_name ms = list_any (λ m. length m.def.name == 0) ms
+
+abbrev pub has_meta_name : List Member → Bool
+has_meta_name ms = list_any (λ m. is_meta_name m.def.name) ms
+
 abbrev pub is_doubled : List Member → Bool
-is_doubled ms = list_any (λ m. length m.def.name == 0) ms && list_any (λ m. is_meta_name m.def.name) ms
+is_doubled ms = has_empty_name ms && has_meta_name ms
 
 -- The first fault of a group.
 unfoldable pub group_fault : GroupData → Option GroupFault

@@ -1,5 +1,5 @@
 -- What a put to a group does (QSRV manual, "Group PV definitions", `+putorder`).
-use Rattle.std.specs.Prelude.{◌≡◌, ⊤, ⊥, ℕ, ℤ, List, [], ◌∷◌, ◌++◌, map, fold, Option, None, Some, option_map}
+use Rattle.std.specs.Prelude.{◌≡◌, ⊤, ℕ, ℤ, List, [], ◌∷◌, ◌++◌, map, fold, Option, None, Some, option_map}
 use Rattle.std.specs.Prelude.{Result, Ok, Err, MatchOption, slice_get, if◌then◌else◌}
 use Rattle.std.specs.declared.cmp.Ordering.{Ordering}
 use Rattle.std.specs.Ordering.{nat_cmp, int_cmp, ordering_then}

@@ -5,9 +5,10 @@ ghost use Rattle.pvd_type.specs.Numbers.{numbered, numbered_fields, IsMeasured};
 ghost use Rattle.pvd_type.specs.View.{shape_view, members_view};
 ghost use Rattle.pvd_value.specs.Fits.{fits_of, row_fits};
 ghost use Rattle.pvd_value.specs.View.{view, row_view};
+ghost use Rattle.group_view.specs.Groups.{HasState};
 ghost use Rattle.group_view.specs.Seen.{branch_seen, slots_seen};
-ghost use Rattle.group_view.specs.Types.{slot_tree, slot_fields};
-ghost use Rattle.group_view.specs.Views.{slot_shown, slots_shown, IsPart, IsRowPart, IsReadyUnder, AreReadyUnder};
+ghost use Rattle.group_view.specs.Types.{source_tree, slot_tree, slot_fields};
+ghost use Rattle.group_view.specs.Views.{source_shown, slot_shown, slots_shown, IsPart, IsRowPart, IsReadyUnder, AreReadyUnder};
 
 use crate::slots::{Branch, Named};
 use crate::source::Source;
