@@ -1,5 +1,5 @@
 -- Entries that stand in a map.
-use Rattle.std.proofs.Common.{◌≡◌, ℕ, ◌+◌, ◌<◌, List, [], ◌∷◌, ◌++◌, length, get_or, drop, map, fold, codes, refl, sym, ap, ◌∙◌, add-one}
+use Rattle.std.proofs.Common.{◌≡◌, ℕ, ◌+◌, ◌<◌, List, [], ◌∷◌, ◌++◌, length, get_or, drop, map, fold, codes, Some, refl, sym, ap, ◌∙◌, arith, add-one}
 use Rattle.std.proofs.lemmas.List.Sums.{fold-append}
 use Rattle.std.proofs.Math.Seq.{drop-cons}
 use Rattle.std.specs.declared.cmp.Ordering.{Ordering}
@@ -12,9 +12,14 @@ use Rattle.std.specs.List.{flat_map, enumerate_from}
 use Rattle.std.specs.Ordering.{nat_cmp, ordering_then, match_ordering}
 use Rattle.pvd_type.specs.Numbers.{path_of}
 use Rattle.group_defs.specs.Order.{text_cmp}
+use Rattle.group_defs.specs.declared.def.MemberKind.{MemberKind}
+use Rattle.group_defs.specs.declared.def.MemberKind.TheVariants as kinds
+use Rattle.group_view.specs.Links.{Link}
 use Rattle.group_view.specs.Seen.{path_seen, entries_seen}
-use Rattle.group_view.specs.Slots.{Path, path_cmp, alarm_path, time_path, added, added_all, entries_by, entries_of, in_order}
+use Rattle.group_view.specs.Slots.{Path, path_cmp, alarm_path, time_path, shown_by, added, added_all, entries_by, entries_of, in_order}
 use Rattle.group_view.specs.declared.entry.Entry.{Entry}
+use Rattle.group_view.specs.declared.entry.Entry.TheVariants.{Shown}
+use Rattle.group_view.specs.declared.piece.Piece.TheVariants as pieces
 use Rattle.group_view.specs.declared.member.Member.{Member}
 
 abbrev borrowed_cmp : List (Bor (List ℕ)) → List (Bor (List ℕ)) → Ordering
@@ -54,12 +59,25 @@ pub time_is : path_of (codes "timeStamp") ≡ time_path
 unfolding time_path
 time_is = refl
 
+-- the member with the empty name
+pub meta_added : (n : ℕ) (kind : MemberKind) (name : List ℕ) (link : Link) (before middle after : List (Path × Entry)) → kind ≡ kinds.Meta → length name ≡ 0
+    → middle ≡ added before (path_of (codes "alarm"), Shown (record { member = n; piece = pieces.Alarm; link = link }))
+    → after ≡ added middle (path_of (codes "timeStamp"), Shown (record { member = n; piece = pieces.Time; link = link }))
+    → after ≡ added_all before (shown_by n kind name (Some link))
+meta_added n kind [] link before middle after is none first last =
+    last
+    ∙ (λ i. added (first i) (time_is i, Shown (record { member = n; piece = pieces.Time; link = link })))
+    ∙ ap (λ (p : Path). added (added before (p, Shown (record { member = n; piece = pieces.Alarm; link = link }))) (time_path, Shown (record { member = n; piece = pieces.Time; link = link }))) alarm_is
+    ∙ sym (ap (λ k. added_all before (shown_by n k [] (Some link))) is)
+meta_added n kind (b ∷ bs) link before middle after is none first last = absurd (omega arith)
+
 -- one member after another
 pub entries_more : (ms : List Member) (i : ℕ) (m : Member) (before after whole : List (Path × Entry)) → i < length ms → get_or ms i m ≡ m
     → after ≡ added_all before (entries_by (i, m)) → added_all before (flat_map entries_by (enumerate_from i (drop i ms))) ≡ whole
     → added_all after (flat_map entries_by (enumerate_from (i + 1) (drop (i + 1) ms))) ≡ whole
 entries_more ms i m before after whole within here is so_far =
     let rest = flat_map entries_by (enumerate_from (i + 1) (drop (i + 1) ms)) in
+    let step : flat_map entries_by (enumerate_from i (drop i ms)) ≡ entries_by (i, m) ++ rest = rw (drop-cons ms i m within, add-one, here) refl in
     ap (λ (es : List (Path × Entry)). added_all es rest) is
     ∙ sym (fold-append added before (entries_by (i, m)) rest)
-    ∙ (rw (drop-cons ms i m within, add-one, here) at so_far)
+    ∙ ap (added_all before) (sym step) ∙ so_far

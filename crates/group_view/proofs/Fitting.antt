@@ -24,7 +24,7 @@ use Rattle.group_view.specs.Types.{source_tree, slot_tree, slot_fields}
 use Rattle.group_view.specs.Views.{shown_or_blank, source_shown, slot_shown, slots_shown}
 use Rattle.group_view.specs.declared.piece.Piece.{Piece}
 use Rattle.group_view.specs.declared.piece.Piece.TheVariants as pieces
-use Rattle.group_view.specs.declared.source.Source.{Source}
+use Rattle.group_view.specs.Sources.{Source}
 
 -- a record's value by itself
 abbrev by_itself : Kind → Element → List (List ℕ) → Datum → Data

@@ -18,7 +18,7 @@ use Rattle.group_view.specs.declared.entry.Entry.TheVariants.{Shown, WithId}
 use Rattle.group_view.specs.declared.member.Member.{Member}
 use Rattle.group_view.specs.declared.piece.Piece.{Piece}
 use Rattle.group_view.specs.declared.piece.Piece.TheVariants as pieces
-use Rattle.group_view.specs.declared.source.Source.{Source}
+use Rattle.group_view.specs.Sources.{Source}
 
 module _ (P : Source → Type 0) where
   abbrev IsSo : Entry → Type 0
@@ -83,7 +83,7 @@ module _ (P : Source → Type 0) where
   -- so is each source of the structure
   pub each_so : (ms : List Member) → ((n : ℕ) (m : Member) → slice_get ms n ≡ Some m → AreSo (entries_by (n, m)))
       → EachOfShown P (slots_of (in_order (entries_of ms)))
-  each_so ms h = slots_so (in_order (entries_of ms)) no_slots (so_added [] (entries_of ms) tt (entries_so 0 ms h)) tt
+  each_so ms h = slots_so (in_order (entries_of ms)) no_slots (so_added [] (entries_of ms) tt (entries_so 0 ms (λ n m is. subst (λ (j : ℕ). AreSo (entries_by (j, m))) (omega arith) (h n m is)))) tt
 
 -- what a member of this kind shows
 abbrev pub IsPieceOf : MemberKind → Piece → Type 0

@@ -4,3 +4,10 @@ pub mod Placing
 pub mod Entering
 pub mod Froms
 pub mod Fitting
+pub mod Misplacing
+pub mod Depending
+pub mod Reaching
+pub mod Parting
+pub mod Heads
+pub mod Ready
+pub mod Keeping

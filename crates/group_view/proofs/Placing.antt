@@ -1,5 +1,6 @@
 -- An entry behind slots.
-use Rattle.std.proofs.Common.{◌≡◌, ℕ, suc, ◌+◌, ◌<◌, Bool, true, false, List, [], ◌∷◌, ◌++◌, length, get_or, drop, map, if◌then◌else◌, refl, sym, ap, ◌∙◌, arith, rules}
+use Rattle.std.proofs.Common.{◌≡◌, ℕ, suc, ◌+◌, ◌<◌, Bool, true, false, List, [], ◌∷◌, ◌++◌, length, get_or, drop, map, Result, Ok, Err, if◌then◌else◌, refl, sym, ap, ◌∙◌, arith, rules}
+use Rattle.std.specs.Result.{OnOk}
 use Rattle.std.specs.Str.{bytes_eq}
 use Rattle.std.specs.Borrow.{Bor}
 use Rattle.std.proofs.lemmas.Slice.Eq.{bytes_eq-Decides}
@@ -67,6 +68,28 @@ module _ (name : List ℕ) (make : List ℕ → Slots → Slot) where
       by (shows s) = refl
       by (level id inner) =
           ap (λ b. if b then slot name (make id inner) no_slots else slot n.name (level id inner) (slot name (make [] no_slots) no_slots)) differs
+
+pub on_ok : {A E : Type 0} {P Q : Type 0} (r : Result A E) → (P → Q) → OnOk r P → OnOk r Q
+on_ok (Ok x) f h = f h
+on_ok (Err e) f h = h
+
+pub nothing_left : {A : Type 0} (xs : List A) → length xs ≡ 0 → xs ≡ []
+nothing_left [] h = refl
+nothing_left (x ∷ xs) h = absurd (omega arith)
+
+-- what is put into the structure that stands last
+pub put_in : (path rest : List (Bor (List ℕ))) (first : Bor (List ℕ)) (e : Entry) (before mid after inner filled : Slots) (id name : List ℕ) (made : Slot)
+    → 1 < length path → rest ≡ drop 1 path → name ≡ (get_or path 0 first).now
+    → ((make : List ℕ → Slots → Slot) → in_last name make before ≡ with_last name (make id inner) mid)
+    → filled ≡ behind (map (λ a. a.now) rest) e inner → made ≡ level id filled → after ≡ with_last name made mid
+    → after ≡ behind (map (λ a. a.now) path) e before
+put_in (a ∷ b ∷ path) rest first e before mid after inner filled id name made long is named taken put whole last =
+    last
+    ∙ ap (λ (s : Slot). with_last name s mid) (whole ∙ ap (level id) (put ∙ ap (λ (xs : List (Bor (List ℕ))). behind (map (λ a. a.now) xs) e inner) is))
+    ∙ sym (taken (λ id inner. level id (behind (map (λ a. a.now) (b ∷ path)) e inner)))
+    ∙ ap (λ (n : List ℕ). in_last n (λ id inner. level id (behind (map (λ a. a.now) (b ∷ path)) e inner)) before) named
+put_in (a ∷ []) rest first e before mid after inner filled id name made long is named taken put whole last = absurd (omega arith)
+put_in [] rest first e before mid after inner filled id name made long is named taken put whole last = absurd (omega arith)
 
 -- a path of several names leads into the structure that stands last
 pub behind_in : (path : List (List ℕ)) (e : Entry) (ss : Slots) (first : List ℕ) → 1 < length path → get_or path 0 first ≡ first

@@ -8,7 +8,7 @@ use Rattle.rec_kinds.specs.declared.state.RecState.{RecState}
 use Rattle.group_view.specs.Seen.{branch_seen, slots_seen}
 use Rattle.group_view.specs.Slots.{EachShown, EachOfShown}
 use Rattle.group_view.specs.Views.{slot_shown, slots_shown}
-use Rattle.group_view.specs.declared.source.Source.{Source}
+use Rattle.group_view.specs.Sources.{Source}
 use Rattle.group_view.specs.declared.slots.Named.{Named}
 use Rattle.group_view.proofs.Walks.{slots_from}
 

@@ -1,5 +1,5 @@
 -- The slots of a group, one after another.
-use Rattle.std.proofs.Common.{◌≡◌, ℕ, ◌+◌, ◌<◌, ◌≤◌, List, [], ◌∷◌, ◌++◌, length, get_or, drop, map, true, if◌then◌else◌, Option, Some, None, refl, sym, ap, ◌∙◌, arith, rules, add-one}
+use Rattle.std.proofs.Common.{◌≡◌, ℕ, zero, suc, ◌+◌, ◌<◌, ◌≤◌, List, [], ◌∷◌, ◌++◌, length, get_or, drop, map, true, if◌then◌else◌, Option, Some, None, refl, sym, ap, ◌∙◌, arith, rules, add-one}
 use Rattle.std.proofs.lemmas.List.{map_push, append_assoc}
 use Rattle.std.proofs.Math.Seq.{drop-cons}
 use Rattle.std.proofs.Math.ListN.{drop_of_length-le}
@@ -14,7 +14,7 @@ use Rattle.group_view.specs.Leaves.{sources, sources_among, member_in, shown_at}
 use Rattle.group_view.specs.Seen.{branch_step, named_step, branch_seen, named_seen, slots_in, slots_seen}
 use Rattle.group_view.specs.Slots.{Slot, shows, level, Slots, no_slots, slot}
 use Rattle.group_view.specs.Types.{slot_tree, slot_fields}
-use Rattle.group_view.specs.declared.source.Source.{Source}
+use Rattle.group_view.specs.Sources.{Source}
 use Rattle.group_view.specs.declared.slots.Named.{Named, fold_out-Named}
 use Rattle.group_view.specs.declared.slots.Branch.{Branch, Shows, Level, the_lemmas}
 
@@ -34,6 +34,25 @@ slots_from ns i n within here = rw (drop-cons ns i n within, add-one, here, name
 
 pub slots_over : (ns : List Named) (i : ℕ) → length ns ≤ i → slots_seen (drop i ns) ≡ no_slots
 slots_over ns i h = ap slots_seen (drop_of_length-le ns h)
+
+-- how many names there are
+abbrev mutual
+  pub size_of : Slot → ℕ
+  size_of (shows s) = 1
+  size_of (level id ss) = suc (sizes_of ss)
+
+  pub sizes_of : Slots → ℕ
+  sizes_of no_slots = 0
+  sizes_of (slot name s ss) = suc (size_of s + sizes_of ss)
+
+pub size_within : (ns : List Named) (i : ℕ) (n : Named) → i < length ns → get_or ns i n ≡ n → size_of (branch_seen n.branch) < sizes_of (slots_seen ns)
+size_within [] i n within here = absurd (omega arith)
+size_within (x ∷ ns) zero n within here =
+    let e : size_of (named_seen x).1 ≡ size_of (branch_seen n.branch) = ap (λ (p : List ℕ × Slot). size_of p.1) (named_is x) ∙ ap (λ (y : Named). size_of (branch_seen y.branch)) here in
+    omega (arith, e)
+size_within (x ∷ ns) (suc i) n within here =
+    let h = size_within ns i n (omega arith) here in
+    omega (arith, h)
 
 -- fields one after another
 abbrev pub joined : Fields → Fields → Fields

@@ -44,3 +44,8 @@ IsReady states m = MatchOption m.link ⊤ (HasState states)
 
 abbrev pub AreReady : List RecState → GroupData → Type 0
 AreReady states g = AllByRecursion (IsReady states) g.members
+
+-- Each configured record has a state that it may be in.
+abbrev pub AreConfigured : List Config → List RecState → Type 0
+AreConfigured configs states =
+    (n : ℕ) (config : Config) → slice_get configs n ≡ Some config → MatchOption (slice_get states n) ⊥ (IsValid config)

@@ -103,11 +103,19 @@ unfoldable pub actions_for : GroupData → Data → FinSet nat_cmp → Result (L
 actions_for g value mask = unless_none (done_by_all (group_tree g) value mask (writers g))
 
 -- what an answer without actions says; want of memory is free
-abbrev pub IsRefusal : GroupData → Data → FinSet nat_cmp → FieldAnswer → Type 0
-IsRefusal g value mask NoMemory = ⊤
-IsRefusal g value mask answer = actions_for g value mask ≡ Err answer
+abbrev pub Refuses : Result (List (ℕ × Action)) FieldAnswer → FieldAnswer → Type 0
+Refuses told NoMemory = ⊤
+Refuses told answer = told ≡ Err answer
 
--- Each action may be done to its record, wherever the group is over so configured records.
+abbrev pub IsRefusal : GroupData → Data → FinSet nat_cmp → FieldAnswer → Type 0
+IsRefusal g value mask answer = Refuses (actions_for g value mask) answer
+
+-- at most one action of a record
+abbrev pub listed : ℕ → Option Action → List (ℕ × Action)
+listed rec None = []
+listed rec (Some action) = (rec, action) ∷ []
+
+-- Each action may be done to its record, where the records are so configured.
 abbrev pub MayBeDoneBy : List Config → ℕ × Action → Type 0
 MayBeDoneBy configs a = MatchOption (slice_get configs a.0) ⊥ (λ config. MayBeDone config a.1)
 

@@ -126,11 +126,7 @@ fn add_piece<'a>(
     ensures { OnOk result (entries_seen entries.new.entries ≡ added (entries_seen entries.old.entries) (numbers.path_of name.now, Shown (record { member = number; piece = piece; link = link.now }))) }
 {
     let path = path_of(alloc, name)?;
-    let source = Source {
-        member: number,
-        piece,
-        link: link.share()?,
-    };
+    let source = Source::of(alloc, number, piece, link)?;
     entries.insert(path, Entry::Shown(source))?;
     Ok(())
 }

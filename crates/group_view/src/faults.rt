@@ -1,8 +1,8 @@
 // Which groups have no type.
-ghost use Rattle.std.specs.Prelude.{◌≡◌, ℕ, List, IfOk};
+ghost use Rattle.std.specs.Prelude.{◌≡◌, ◌<◌, ◌||◌, ℕ, List, length, IfOk, OnOk};
 ghost use Rattle.std.specs.Str.{bytes_eq};
 ghost use Rattle.pvd_type.specs.Numbers.{path_of};
-ghost use Rattle.group_view.specs.Faults.{holds_members, closed_names, Knows, is_below, begins_with, is_meta_name, is_misplaced, is_doubled, has_empty_name, has_meta_name};
+ghost use Rattle.group_view.specs.Faults.{holds_members, closed_names, is_closed, is_cut, has_name, Knows, is_below, begins_with, is_meta_name, is_misplaced, is_doubled, has_empty_name, has_meta_name};
 
 use crate::member::Member;
 use group_defs::MemberKind;
@@ -29,11 +29,20 @@ fn closed_names(alloc: Global, members: &[Member]) -> Result<BTreeSet<&[u8]>, No
 {
     let mut closed = BTreeSet::new(alloc);
     for member in members {
-        if !holds_members(member.def.kind) {
-            closed.insert(member.def.name.as_str().as_bytes())?;
-        }
+        add_closed(&mut closed, member)?;
     }
     Ok(closed)
+}
+
+/// Adds the name of a member below which none may stand.
+fn add_closed<'a>(closed: &mut BTreeSet<&'a [u8]>, member: &'a Member) -> Result<(), NoMemory>
+    ensures { OnOk result ((name : List ℕ) → has_name closed.new name ≡ (is_closed member.now name || has_name closed.old name)) }
+{
+    if holds_members(member.def.kind) {
+        return Ok(());
+    }
+    closed.insert(member.def.name.as_str().as_bytes())?;
+    Ok(())
 }
 
 /// Whether members may stand below one of this kind.
@@ -51,12 +60,23 @@ fn holds_members(kind: MemberKind) -> bool
 fn is_below<'a>(closed: &BTreeSet<&'a [u8]>, name: &'a [u8]) -> bool
     ensures { (names : List (List ℕ)) → Knows closed.now names → result ≡ is_below names name.now }
 {
-    for (place, byte) in name.iter().enumerate() {
-        if *byte == b'.' && closed.contains(&&name[..place]) {
+    for place in 0..name.len() {
+        if is_cut(closed, name, place) {
             return true;
         }
     }
     false
+}
+
+/// Whether the name up to this place is one of these, and a dot follows.
+fn is_cut<'a>(closed: &BTreeSet<&'a [u8]>, name: &'a [u8], place: usize) -> bool
+    requires { place < length name.now }
+    ensures { (names : List (List ℕ)) → Knows closed.now names → result ≡ is_cut names name.now place }
+{
+    if name[place] != b'.' {
+        return false;
+    }
+    closed.contains(&&name[..place])
 }
 
 /// Whether a member has the place of the alarm or the time stamp that the empty name places at the top.

@@ -159,7 +159,7 @@ pub(crate) fn records_of(alloc: Global, members: &[Member]) -> Result<Vec<u32>, 
 
 /// The numbers of a set, in rising order.
 fn in_order(alloc: Global, numbers: BTreeSet<u32>) -> Result<Vec<u32>, NoMemory>
-    ensures { IfOk result (λ list. list.items ≡ numbers.entry.keys) }
+    ensures { IfOk result (λ list. list.items ≡ numbers.keys) }
 {
     let mut left = numbers;
     let mut list = Vec::with_capacity(alloc, left.len())?;

@@ -100,7 +100,7 @@ fn take_last(
 {
     if let Some(last) = slots.pop() {
         match opened(last, name) {
-            Ok(structure) => return Ok(structure),
+            Ok((id, inner)) => return Ok((id, inner)),
             Err(other) => slots.push(other)?,
         }
     }

@@ -6,4 +6,4 @@ use Rattle.group_view.proofs.entry.add_piece.Goals as goal
 pub returns : goal.returns
 returns c =
     inserted_as c.args.entries.now.entries c.insert.new.self.entries c.in_ok-path.path _ _ _ c.in_ok-insert.ensures.entries c.in_ok-path.ensures
-    (ap (λ l. Shown (record { member = c.args.number; piece = c.args.piece; link = l })) c.in_ok-share.ensures)
+    (ap Shown c.in_ok-source.ensures)
