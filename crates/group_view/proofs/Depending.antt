@@ -200,22 +200,22 @@ module _ (a b : List RecState) where
         let long_b = slots_length 16 (slot_shown b s) (slot_tree s) (slot_fits b s ready_b.0) in
         elim (cases_lt k n) [
           | inl lt ↦
-            let in_a : k < length (slots (slot_tree s) (slot_shown a s)) = omega (arith, lt, long, long_a) in
-            let in_b : k < length (slots (slot_tree s) (slot_shown b s)) = omega (arith, lt, long, long_b) in
-            ap known (slice_left (slots (slot_tree s) (slot_shown a s)) (row_slots (slot_fields ss) (slots_shown a ss)) k in_a)
-            ∙ leaf_same s k ready_a.0 ready_b.0 (subst IsKnown (slice_left (sources s) (sources_among ss) k lt) source)
-            ∙ sym (ap known (slice_left (slots (slot_tree s) (slot_shown b s)) (row_slots (slot_fields ss) (slots_shown b ss)) k in_b))
+              let in_a : k < length (slots (slot_tree s) (slot_shown a s)) = omega (arith, lt, long, long_a) in
+              let in_b : k < length (slots (slot_tree s) (slot_shown b s)) = omega (arith, lt, long, long_b) in
+              ap known (slice_left (slots (slot_tree s) (slot_shown a s)) (row_slots (slot_fields ss) (slots_shown a ss)) k in_a)
+              ∙ leaf_same s k ready_a.0 ready_b.0 (subst IsKnown (slice_left (sources s) (sources_among ss) k lt) source)
+              ∙ sym (ap known (slice_left (slots (slot_tree s) (slot_shown b s)) (row_slots (slot_fields ss) (slots_shown b ss)) k in_b))
           | inr ge ↦
-            let j = k - n in
-            let at_a : k ≡ length (slots (slot_tree s) (slot_shown a s)) + j = omega (arith, ge, long, long_a) in
-            let at_b : k ≡ length (slots (slot_tree s) (slot_shown b s)) + j = omega (arith, ge, long, long_b) in
-            let at : k ≡ n + j = omega (arith, ge) in
-            ap (λ i. known (slice_get (slots (slot_tree s) (slot_shown a s) ++ row_slots (slot_fields ss) (slots_shown a ss)) i)) at_a
-            ∙ ap known (slice_right (slots (slot_tree s) (slot_shown a s)) (row_slots (slot_fields ss) (slots_shown a ss)) j)
-            ∙ row_same ss j ready_a.1 ready_b.1
+              let j = k - n in
+              let at_a : k ≡ length (slots (slot_tree s) (slot_shown a s)) + j = omega (arith, ge, long, long_a) in
+              let at_b : k ≡ length (slots (slot_tree s) (slot_shown b s)) + j = omega (arith, ge, long, long_b) in
+              let at : k ≡ n + j = omega (arith, ge) in
+              ap (λ i. known (slice_get (slots (slot_tree s) (slot_shown a s) ++ row_slots (slot_fields ss) (slots_shown a ss)) i)) at_a
+              ∙ ap known (slice_right (slots (slot_tree s) (slot_shown a s)) (row_slots (slot_fields ss) (slots_shown a ss)) j)
+              ∙ row_same ss j ready_a.1 ready_b.1
               (subst IsKnown (ap (slice_get (sources s ++ sources_among ss)) at ∙ slice_right (sources s) (sources_among ss) j) source)
-            ∙ sym (ap known (slice_right (slots (slot_tree s) (slot_shown b s)) (row_slots (slot_fields ss) (slots_shown b ss)) j))
-            ∙ sym (ap (λ i. known (slice_get (slots (slot_tree s) (slot_shown b s) ++ row_slots (slot_fields ss) (slots_shown b ss)) i)) at_b)
+              ∙ sym (ap known (slice_right (slots (slot_tree s) (slot_shown b s)) (row_slots (slot_fields ss) (slots_shown b ss)) j))
+              ∙ sym (ap (λ i. known (slice_get (slots (slot_tree s) (slot_shown b s) ++ row_slots (slot_fields ss) (slots_shown b ss)) i)) at_b)
         ]
 
 -- ---- valid states
@@ -272,6 +272,6 @@ reads_footprint g rec a b ready_a ready_b agree k in_triggered =
     let t = level g.id ss in
     let read = unfiltered _ (λ n. option_and_then read_by (slice_get ms n)) (triggered_by ms rec) (unrising _ _ agree) in
     let leaves = flat (IsRead a b ms t (from_members ms)) (λ k. IsKnown a b (slice_get (sources t) k)) (λ n. places (is_of n) 0 (sources t))
-        (leaves_known a b ms t (from_members ms)) (triggered_by ms rec) read in
+    (leaves_known a b ms t (from_members ms)) (triggered_by ms rec) read in
     let known = in_set (λ k. IsKnown a b (slice_get (sources t) k)) _ empty leaves (λ q e. absurd (false≢true (sym (contains-empty nat_cmp q) ∙ e))) k in_triggered in
     leaf_same a b t k (slots_ready a g ready_a) (slots_ready b g ready_b) known

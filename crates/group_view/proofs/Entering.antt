@@ -37,13 +37,13 @@ pub inserted_seen : (es : List (Vec (Bor (List ℕ)) × Entry)) (k : Vec (Bor (L
 inserted_seen [] k v = refl
 inserted_seen (e ∷ es) k v =
     (elim (borrowed_cmp k.items e.0.items) as (λ o. entries_seen (match_ordering o ((k, v) ∷ e ∷ es) ((e.0, v) ∷ es) (e ∷ insert_entry (λ x y. borrowed_cmp x.items y.items) es k v))
-      ≡ match_ordering o ((path_seen k, v) ∷ entries_seen (e ∷ es)) ((path_seen e.0, v) ∷ entries_seen es) ((path_seen e.0, e.1) ∷ added (entries_seen es) (path_seen k, v))) [
-        | Less ↦ refl
-        | Equal ↦ refl
-        | Greater ↦ ap (λ (xs : List (Path × Entry)). (path_seen e.0, e.1) ∷ xs) (inserted_seen es k v)
-      ])
+    ≡ match_ordering o ((path_seen k, v) ∷ entries_seen (e ∷ es)) ((path_seen e.0, v) ∷ entries_seen es) ((path_seen e.0, e.1) ∷ added (entries_seen es) (path_seen k, v))) [
+      | Less ↦ refl
+      | Equal ↦ refl
+      | Greater ↦ ap (λ (xs : List (Path × Entry)). (path_seen e.0, e.1) ∷ xs) (inserted_seen es k v)
+    ])
     ∙ ap (λ o. match_ordering o ((path_seen k, v) ∷ entries_seen (e ∷ es)) ((path_seen e.0, v) ∷ entries_seen es) ((path_seen e.0, e.1) ∷ added (entries_seen es) (path_seen k, v)))
-      (same_order k.items e.0.items)
+    (same_order k.items e.0.items)
 
 pub inserted_as : (es after : List (Vec (Bor (List ℕ)) × Entry)) (k : Vec (Bor (List ℕ))) (v w : Entry) (path : Path)
     → after ≡ insert_entry (λ x y. borrowed_cmp x.items y.items) es k v → path_seen k ≡ path → v ≡ w

@@ -121,10 +121,10 @@ module _ (P : Source → Type 0) (n : ℕ) where
 pub from_members : (ms : List Member) → EachOfShown (IsFrom ms) (slots_of (in_order (entries_of ms)))
 from_members ms =
     each_so (IsFrom ms) ms (λ n m at.
-      so_append (IsFrom ms) (ids_of m.def.kind m.def.name m.def.id) (shown_by n m.def.kind m.def.name m.link)
-      (ids_so (IsFrom ms) n m.def.kind m.def.name m.def.id)
-      (shown_so (IsFrom ms) n m.def.kind m.def.name m.link (λ l p linked reading piece.
-        record { member = m; at = at; linked = linked; reading = reading; piece = piece })))
+    so_append (IsFrom ms) (ids_of m.def.kind m.def.name m.def.id) (shown_by n m.def.kind m.def.name m.link)
+    (ids_so (IsFrom ms) n m.def.kind m.def.name m.def.id)
+    (shown_so (IsFrom ms) n m.def.kind m.def.name m.link (λ l p linked reading piece.
+    record { member = m; at = at; linked = linked; reading = reading; piece = piece })))
 
 -- what holds of each source that satisfies P
 mutual

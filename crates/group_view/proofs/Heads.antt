@@ -102,13 +102,13 @@ module _ (n : ℕ) (s : Source) where
       let leaves = found is_leaf ts in
       elim (is_leaf t) as (λ l. cond (is_number n (member_in (cond l (Some s) None))) (Some 0) (option_map suc rest) ≡ cond (eqb s.member n) (cond l (Some 0) (option_map suc leaves)) None) [
         | true ↦ elim (eqb s.member n) as (λ e. rest ≡ cond e leaves None → cond e (Some 0) (option_map suc rest) ≡ cond e (Some 0) None) [
-            | true ↦ λ _. refl
-            | false ↦ λ ih. ap (option_map suc) ih
-          ] (found_map ts)
+          | true ↦ λ _. refl
+          | false ↦ λ ih. ap (option_map suc) ih
+        ] (found_map ts)
         | false ↦ elim (eqb s.member n) as (λ e. rest ≡ cond e leaves None → option_map suc rest ≡ cond e (option_map suc leaves) None) [
-            | true ↦ λ ih. ap (option_map suc) ih
-            | false ↦ λ ih. ap (option_map suc) ih
-          ] (found_map ts)
+          | true ↦ λ ih. ap (option_map suc) ih
+          | false ↦ λ ih. ap (option_map suc) ih
+        ] (found_map ts)
       ]
 
 module _ (n : ℕ) (head : Tree) where
@@ -120,10 +120,10 @@ module _ (n : ℕ) (head : Tree) where
     slot_head (shows s) h =
         subst (λ o. IsHead head o (numbered (source_tree s))) (sym (found_map n s (numbered (source_tree s))))
         (elim (eqb s.member n) as (λ e. (e ≡ true → IsHead head (found is_leaf (numbered (source_tree s))) (numbered (source_tree s)))
-          → IsHead head (cond e (found is_leaf (numbered (source_tree s))) None) (numbered (source_tree s))) [
-            | true ↦ λ has. has refl
-            | false ↦ λ has. tt
-          ] h)
+        → IsHead head (cond e (found is_leaf (numbered (source_tree s))) None) (numbered (source_tree s))) [
+          | true ↦ λ has. has refl
+          | false ↦ λ has. tt
+        ] h)
     slot_head (level id ss) h = head_suc head (node struct id (slot_fields ss)) (found (is_of n) (sources_among ss)) (numbered_fields (slot_fields ss)) (slots_head ss h)
 
     pub slots_head : (ss : Slots) → EachOfShown HasHead ss → IsHead head (found (is_of n) (sources_among ss)) (numbered_fields (slot_fields ss))
@@ -190,12 +190,12 @@ mutual
       let long = slots_length left v t p.0 in
       elim (cases_lt k (length (numbered t))) [
         | inl lt_n ↦
-          leaf_fits left t v k lt d p.0 (sym (slice_left (numbered t) (numbered_fields fs) k lt_n) ∙ there)
-          (ap known (sym (slice_left (slots t v) (row_slots fs vs) k (omega (arith, lt_n, long)))) ∙ is)
+            leaf_fits left t v k lt d p.0 (sym (slice_left (numbered t) (numbered_fields fs) k lt_n) ∙ there)
+            (ap known (sym (slice_left (slots t v) (row_slots fs vs) k (omega (arith, lt_n, long)))) ∙ is)
         | inr ge ↦
-          let j = k - length (numbered t) in
-          let at : k ≡ length (numbered t) + j = omega (arith, ge) in
-          let at_v : k ≡ length (slots t v) + j = omega (arith, ge, long) in
-          leaf_among left fs vs j lt d p.1 (sym (slice_right (numbered t) (numbered_fields fs) j) ∙ sym (ap (slice_get (numbered t ++ numbered_fields fs)) at) ∙ there)
-          (ap known (sym (slice_right (slots t v) (row_slots fs vs) j)) ∙ sym (ap (λ i. known (slice_get (slots t v ++ row_slots fs vs) i)) at_v) ∙ is)
+            let j = k - length (numbered t) in
+            let at : k ≡ length (numbered t) + j = omega (arith, ge) in
+            let at_v : k ≡ length (slots t v) + j = omega (arith, ge, long) in
+            leaf_among left fs vs j lt d p.1 (sym (slice_right (numbered t) (numbered_fields fs) j) ∙ sym (ap (slice_get (numbered t ++ numbered_fields fs)) at) ∙ there)
+            (ap known (sym (slice_right (slots t v) (row_slots fs vs) j)) ∙ sym (ap (λ i. known (slice_get (slots t v ++ row_slots fs vs) i)) at_v) ∙ is)
       ]

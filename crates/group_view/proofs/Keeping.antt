@@ -110,11 +110,11 @@ reaches_more reach recs i before after within added so_far q =
     added q
     ∙ (elim (eqb_tells rec q) [
       | inl p ↦
-        ap (λ b. cond b (Some (reach rec)) (before q)) p.0 ∙ ap (λ r. Some (reach r)) p.1
-        ∙ sym (ap (λ b. cond b (Some (reach q)) None) (there ∙ ap (λ b. is_in (take i recs) q || b) p.0 ∙ or_more (is_in (take i recs) q) true))
+          ap (λ b. cond b (Some (reach rec)) (before q)) p.0 ∙ ap (λ r. Some (reach r)) p.1
+          ∙ sym (ap (λ b. cond b (Some (reach q)) None) (there ∙ ap (λ b. is_in (take i recs) q || b) p.0 ∙ or_more (is_in (take i recs) q) true))
       | inr p ↦
-        ap (λ b. cond b (Some (reach rec)) (before q)) p.0 ∙ so_far q
-        ∙ sym (ap (λ b. cond b (Some (reach q)) None) (there ∙ ap (λ b. is_in (take i recs) q || b) p.0 ∙ or_more (is_in (take i recs) q) false))
+          ap (λ b. cond b (Some (reach rec)) (before q)) p.0 ∙ so_far q
+          ∙ sym (ap (λ b. cond b (Some (reach q)) None) (there ∙ ap (λ b. is_in (take i recs) q || b) p.0 ∙ or_more (is_in (take i recs) q) false))
     ])
 
 -- a number in rising order is one of those that were given
@@ -129,10 +129,12 @@ in_key q n (k ∷ ks) =
   where
     same : (n k : ℕ) → nat_cmp n k ≡ Equal → n ≡ k
     same n k e = grind (arith, nat_tests)
+
     twice : (a b c : Bool) → a ≡ b → (b || c) ≡ (a || (b || c))
     twice true true c e = refl
     twice false b c e = refl
     twice true false c e = absurd (false≢true (sym e))
+
     swap : (a b c : Bool) → (a || (b || c)) ≡ (b || (a || c))
     swap true true c = refl
     swap true false c = refl
@@ -156,9 +158,9 @@ none_about q (m ∷ ms) h =
     elim m.link as (λ o. is_in (cons_option (option_map (λ l. l.rec) o) recs) q ≡ false → flat_map (λ (x : Member). x.def.trigger) (cond (is_about q o) (m ∷ rest) rest) ≡ []) [
       | None ↦ λ e. none_about q ms e
       | Some l ↦ λ e. elim (eqb l.rec q) as (λ b. (b || is_in recs q) ≡ false → flat_map (λ (x : Member). x.def.trigger) (cond b (m ∷ rest) rest) ≡ []) [
-          | true ↦ λ f. absurd (false≢true (sym f))
-          | false ↦ λ f. none_about q ms f
-        ] e
+        | true ↦ λ f. absurd (false≢true (sym f))
+        | false ↦ λ f. none_about q ms f
+      ] e
     ] h
 
 pub no_record : (g : GroupData) (q : ℕ) → is_in (records_of g.members) q ≡ false → triggered_by g.members q ≡ []
@@ -218,8 +220,8 @@ own_are g own shown long is each n =
     elim (cases_lt n (length g.members)) [
       | inl lt ↦ each n lt ∙ ap (places (is_number n) 0) is ∙ places_seen n 0 (sources (structure_of g))
       | inr ge ↦
-        ap (λ (o : Option (OwnVec ℕ _)). option_map_or (λ v. v.items) o []) (get_past own n (omega (arith, long, ge)))
-        ∙ sym (no_places n 0 (sources (structure_of g)) (each_then (λ o. IfSome o (IsFrom g.members)) (λ o. is_of n o ≡ false) (other_member g.members n ge) (sources (level g.id (slots_of (in_order (entries_of g.members)))))
+          ap (λ (o : Option (OwnVec ℕ _)). option_map_or (λ v. v.items) o []) (get_past own n (omega (arith, long, ge)))
+          ∙ sym (no_places n 0 (sources (structure_of g)) (each_then (λ o. IfSome o (IsFrom g.members)) (λ o. is_of n o ≡ false) (other_member g.members n ge) (sources (level g.id (slots_of (in_order (entries_of g.members)))))
           (each_there (IsFrom g.members) (level g.id (slots_of (in_order (entries_of g.members)))) (from_members g.members))))
     ]
 
@@ -355,6 +357,7 @@ shape_fault_is g slots t fault structure is placed single h = by fault h
         ap (λ b. cond b (Some (faults.BadMember g.name)) (cond (is_doubled g.members) (Some (faults.SameMember g.name)) (option_map faults.Shape (type_fault (group_tree g))))) placed
         ∙ ap (λ b. cond b (Some (faults.SameMember g.name)) (option_map faults.Shape (type_fault (group_tree g)))) single
         ∙ ap (λ (u : Tree). option_map faults.Shape (type_fault u)) (sym (is ∙ tree_is g slots structure))
+
     by : (f : GroupFault) → IsShapeFault t f → IsGroupFault g f
     by faults.NoMemory h = tt
     by (faults.BadJson n) h = whole ∙ h

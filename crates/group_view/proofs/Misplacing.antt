@@ -54,7 +54,7 @@ module _ (names : List (List ℕ)) (name : List ℕ) (i : ℕ) (whole : Bool) (w
   split =
       ap (list_any (is_among names)) (above_at name i within)
       ∙ (elim (eqb (get_or name i 0) 46) as (λ b. list_any (is_among names) (cond b (take i name ∷ above_from (take (i + 1) name) (drop (i + 1) name)) (above_from (take (i + 1) name) (drop (i + 1) name)))
-        ≡ ((b && is_among names (take i name)) || list_any (is_among names) (above_from (take (i + 1) name) (drop (i + 1) name)))) [ true ↦ refl | false ↦ refl ])
+      ≡ ((b && is_among names (take i name)) || list_any (is_among names) (above_from (take (i + 1) name) (drop (i + 1) name)))) [ true ↦ refl | false ↦ refl ])
 
   pub cut_here : is_cut names name i ≡ true → list_any (is_among names) (above_from (take i name) (drop i name)) ≡ whole → true ≡ whole
   cut_here here so_far = sym (split ∙ ap (λ b. b || list_any (is_among names) (above_from (take (i + 1) name) (drop (i + 1) name))) here) ∙ so_far

@@ -48,8 +48,8 @@ mutual
   blank_row_kept mask n (field name t fs) (more b bs) none =
       let len = length-append (numbered t) (numbered_fields fs) in
       λ i. more
-        (blank_kept mask n t b (λ k from to. none k from (omega (arith, to, len))) i)
-        (blank_row_kept mask (n + length (numbered t)) fs bs (λ k from to. none k (omega (arith, from)) (omega (arith, to, len))) i)
+      (blank_kept mask n t b (λ k from to. none k from (omega (arith, to, len))) i)
+      (blank_row_kept mask (n + length (numbered t)) fs bs (λ k from to. none k (omega (arith, from)) (omega (arith, to, len))) i)
 
 pub blank_part : (mask : FinSet nat_cmp) (n : ℕ) (t : Tree) (part whole : Data) → part ≡ blank_of t → Misses (contains mask) n (length (numbered t)) → IsPart mask n t part whole
 blank_part mask n t part whole is none = blank_kept (contains mask) n t part none ∙ sym (blank_kept (contains mask) n t whole none)
@@ -90,7 +90,7 @@ module _ (mask : FinSet nat_cmp) (states : List RecState) (ns : List Named) (i :
   pub part_more : (k next : ℕ) (vs after : List PvValue) (v : PvValue) (start : ℕ) (whole : Slots) → next ≡ k + length (numbered tree) → after ≡ vs ++ v ∷ []
       → IsPart mask k tree (view v) (slot_shown states (branch_seen n.branch))
       → ((r : Row) → IsRowPart mask k (slot_fields (slots_seen (drop i ns))) r (slots_shown states (slots_seen (drop i ns)))
-          → IsRowPart mask start (slot_fields whole) (joined (row_view vs) r) (slots_shown states whole))
+      → IsRowPart mask start (slot_fields whole) (joined (row_view vs) r) (slots_shown states whole))
       → (r : Row) → IsRowPart mask next (slot_fields rest) r (slots_shown states rest) → IsRowPart mask start (slot_fields whole) (joined (row_view after) r) (slots_shown states whole)
   part_more k next vs after v start whole is made first so_far r last =
       let later : IsRowPart mask (k + length (numbered tree)) (slot_fields rest) r (slots_shown states rest) = subst (λ (j : ℕ). IsRowPart mask j (slot_fields rest) r (slots_shown states rest)) is last in

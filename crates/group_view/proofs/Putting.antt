@@ -66,6 +66,7 @@ may_more configs ws i w before after rec action within here is named may linked 
   where
     link : IsLinkOf configs w.link
     link = all_get (λ w. IsLinkOf configs w.link) ws i w within here linked
+
     by : (a : Option Action) → IfSome a (MayBeDone w.link.config) → AllByRecursion (MayBeDoneBy configs) (listed w.link.rec a)
     by None h = tt
     by (Some a) h = (subst (λ o. MatchOption o ⊥ (λ config. MayBeDone config a)) (sym link) h, tt)

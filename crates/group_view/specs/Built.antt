@@ -1,5 +1,6 @@
 -- What a group keeps beside its definition.
-use Rattle.std.specs.Prelude.{◌≡◌, ◌≤◌, ◌==◌, ⊤, ℕ, Bool, List, length, fold, Option, None, Some, option_map, if◌then◌else◌}
+use Rattle.std.specs.Prelude.{◌≡◌, ◌≤◌, ◌==◌, ⊤, ℕ, Bool, List}
+use Rattle.std.specs.Prelude.{length, fold, Option, None, Some, option_map, if◌then◌else◌}
 use Rattle.std.specs.FinSet.{empty, insert}
 use Rattle.std.specs.List.{flat_map, list_any}
 use Rattle.pvd_type.specs.Check.{type_fault}

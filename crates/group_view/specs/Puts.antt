@@ -51,8 +51,8 @@ abbrev pub placed_by : ℕ → Option ℤ → Option Link → Option Writing →
 placed_by n (Some order) (Some link) (Some writing) = Some ((order, n), record { link = link; writing = writing })
 placed_by n _ _ _ = None
 
--- a writable member and its place, where these are the leaves that it shows: the first of them is the one that is put, its
--- value or `value.index`
+-- a writable member and its place, where these are the leaves that it shows: the first of them is the one that is put,
+-- its value or `value.index`
 abbrev pub writer_of : ℕ → Member → List ℕ → Option (Place × Writer)
 writer_of n m leaves = placed_by n m.def.order m.link (writing_of m.def.kind (slice_get leaves 0))
 

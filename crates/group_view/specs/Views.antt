@@ -42,7 +42,8 @@ part_shown g mask states =
 
 -- of a type that is numbered from n: the value has the leaves of the mask as the whole has them
 abbrev pub IsPart : FinSet nat_cmp → ℕ → Tree → Data → Data → Type 0
-IsPart mask n t part whole = merged (contains mask) n t (blank_of t) part ≡ merged (contains mask) n t (blank_of t) whole
+IsPart mask n t part whole =
+    merged (contains mask) n t (blank_of t) part ≡ merged (contains mask) n t (blank_of t) whole
 
 abbrev pub IsRowPart : FinSet nat_cmp → ℕ → Fields → Row → Row → Type 0
 IsRowPart mask n fs part whole =

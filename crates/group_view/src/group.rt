@@ -61,8 +61,8 @@ impl Model for Group {
     ghost use Rattle.group_view.specs.Groups.{GroupData};
     ghost use Rattle.group_view.specs.Built.{IsBuilt};
     ghost use Rattle.rec_kinds.specs.Configs.{Config};
-ghost use Rattle.group_view.specs.Puts.{writers, IsWritten};
-ghost use Rattle.group_view.specs.Seen.{slots_seen};
+    ghost use Rattle.group_view.specs.Puts.{writers, IsWritten};
+    ghost use Rattle.group_view.specs.Seen.{slots_seen};
 
     ghost Value = { GroupData };
 

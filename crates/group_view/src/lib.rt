@@ -20,8 +20,8 @@ mod source;
 mod views;
 mod writer;
 
-pub use group_defs::{GroupDef, GroupFault, MemberDef, MemberKind};
 pub use group::Group;
+pub use group_defs::{GroupDef, GroupFault, MemberDef, MemberKind};
 pub use laws::{
     ready_groups_are_ready_for_parts, valid_states_are_ready, value_reads_footprint,
     value_reads_records,

@@ -36,9 +36,7 @@ fn part_of(
         Branch::Shows(source) => source_part(source, number, mask, states, alloc),
         Branch::Level(_, slots) => {
             *number += 1;
-            Ok(PvValue::Struct(parts_of(
-                slots, number, mask, states, alloc,
-            )?))
+            Ok(PvValue::Struct(parts_of(slots, number, mask, states, alloc)?))
         }
     }
 }

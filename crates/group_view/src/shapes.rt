@@ -30,11 +30,7 @@ pub(crate) fn structure_of(
 
 /// The type of what stands under a name. Adds, under each of its numbers, which member shows the leaf.
 #[cycle(shapes)]
-fn shape_of(
-    branch: &Branch,
-    shown: &mut Vec<Option<u32>>,
-    alloc: Global,
-) -> Result<Shape, NoMemory>
+fn shape_of(branch: &Branch, shown: &mut Vec<Option<u32>>, alloc: Global) -> Result<Shape, NoMemory>
     ensures shape { IfOk result (λ shape. shape_view shape ≡ slot_tree (branch_seen branch.now)) }
     ensures shown { OnOk result (shown.new.items ≡ shown.old.items ++ map member_in (sources (branch_seen branch.now))) }
 {
@@ -69,11 +65,7 @@ fn members_of(
 
 /// Adds that a member shows the leaves of a node, under its numbers.
 #[cycle(nodes)]
-fn add_nodes(
-    shape: &Shape,
-    member: u32,
-    shown: &mut Vec<Option<u32>>,
-) -> Result<(), NoMemory>
+fn add_nodes(shape: &Shape, member: u32, shown: &mut Vec<Option<u32>>) -> Result<(), NoMemory>
     ensures { OnOk result (shown.new.items ≡ shown.old.items ++ map (shown_at member) (numbered (shape_view shape.now))) }
 {
     match shape {

@@ -64,12 +64,7 @@ fn put_behind(
 }
 
 /// Puts an entry under a name behind slots.
-fn put_last(
-    alloc: Global,
-    slots: &mut Vec<Named>,
-    name: &str,
-    entry: Entry,
-) -> Result<(), NoMemory>
+fn put_last(alloc: Global, slots: &mut Vec<Named>, name: &str, entry: Entry) -> Result<(), NoMemory>
     ensures { OnOk result (slots_seen slots.new.items ≡ behind (name.now ∷ []) entry (slots_seen slots.old.items)) }
 {
     match entry {

@@ -40,12 +40,7 @@ impl Model for Source {
 
 impl Source {
     /// What the member of this number shows of its record.
-    pub fn of(
-        alloc: Global,
-        member: u32,
-        piece: Piece,
-        link: &Linked,
-    ) -> Result<Source, NoMemory>
+    pub fn of(alloc: Global, member: u32, piece: Piece, link: &Linked) -> Result<Source, NoMemory>
         ensures { IfOk result (λ s. s ≡ record { member = member; piece = piece; link = link.now }) }
     {
         let ty = piece.ty(alloc, link.config())?;

@@ -402,7 +402,9 @@ fn part_of(
 }
 
 const A: &str = r#"{"G":{"a":{"+type":"scalar","+channel":"VAL","+putorder":2,"+trigger":"*"}}}"#;
+
 const B: &str = r#"{"G":{"b":{"+channel":"VAL","+putorder":0,"+trigger":""}}}"#;
+
 const C: &str = r#"{"G":{"c":{"+channel":"VAL","+putorder":1,"+trigger":""}}}"#;
 
 const LONGOUTS: [Given<'static>; 3] = [
@@ -420,13 +422,18 @@ const PUTS: [Given<'static>; 3] = [
 #[test]
 fn three_longouts_stand_in_the_order_of_their_names(rt: HostRuntime) -> Result<(), Fail> {
     let words = words_of(rt.alloc(), &LONGOUTS)?;
-    assert_eq!(rt; words.as_str(), "{ a:epics:nt/NTScalar:1.0{ value:int alarm:alarm_t timeStamp:time_t } b:epics:nt/NTScalar:1.0{ value:int alarm:alarm_t timeStamp:time_t } c:epics:nt/NTScalar:1.0{ value:int alarm:alarm_t timeStamp:time_t } } = ( ( 1 ( 0 0 '' ) ( 0 0 0 ) ) ( 2 ( 0 0 '' ) ( 0 0 0 ) ) ( 3 ( 0 0 '' ) ( 0 0 0 ) ) )");
+    assert_eq!(rt;
+        words.as_str(),
+        "{ a:epics:nt/NTScalar:1.0{ value:int alarm:alarm_t timeStamp:time_t } b:epics:nt/NTScalar:1.0{ value:int alarm:alarm_t timeStamp:time_t } c:epics:nt/NTScalar:1.0{ value:int alarm:alarm_t timeStamp:time_t } } = ( ( 1 ( 0 0 '' ) ( 0 0 0 ) ) ( 2 ( 0 0 '' ) ( 0 0 0 ) ) ( 3 ( 0 0 '' ) ( 0 0 0 ) ) )"
+    );
     Ok(())
 }
 
 const CHOICE: &str = r#"{"G":{"+id":"top:1.0","m":{"+type":"any","+channel":"VAL"},
 "w.e":{"+channel":"VAL","+id":"none"},"w":{"+type":"structure","+id":"my:w"},"w-e":{"+type":"plain","+channel":"VAL"}}}"#;
-const TEXT: &str = r#"{"G":{"":{"+type":"meta","+channel":"VAL"},"x.y.z":{"+type":"meta","+channel":"VAL"},
+
+const TEXT: &str =
+    r#"{"G":{"":{"+type":"meta","+channel":"VAL"},"x.y.z":{"+type":"meta","+channel":"VAL"},
 "x.p":{"+type":"proc","+channel":"VAL"},"q.p":{"+type":"proc","+channel":"VAL"},"s":{"+type":"structure"}}}"#;
 
 #[test]
@@ -436,17 +443,31 @@ fn each_kind_shows_its_part(rt: HostRuntime) -> Result<(), Fail> {
         (Kind::Stringout, "S", "", TEXT),
     ];
     let words = words_of(rt.alloc(), &given)?;
-    assert_eq!(rt; words.as_str(), "top:1.0{ alarm:alarm_t m:any s:{ } timeStamp:time_t w:my:w{ e:epics:nt/NTEnum:1.0{ value:enum_t{ index:int choices:string[] } alarm:alarm_t timeStamp:time_t } } w-e:int x:{ y:{ z:{ alarm:alarm_t timeStamp:time_t } } } } = ( ( 3 6 'UDF' ) int=1 ( ) ( 0 0 0 ) ( ( ( 1 'Hold''Move' ) ( 0 0 '' ) ( 0 0 0 ) ) ) 1 ( ( ( ( 3 6 'UDF' ) ( 0 0 0 ) ) ) ) )");
+    assert_eq!(rt;
+        words.as_str(),
+        "top:1.0{ alarm:alarm_t m:any s:{ } timeStamp:time_t w:my:w{ e:epics:nt/NTEnum:1.0{ value:enum_t{ index:int choices:string[] } alarm:alarm_t timeStamp:time_t } } w-e:int x:{ y:{ z:{ alarm:alarm_t timeStamp:time_t } } } } = ( ( 3 6 'UDF' ) int=1 ( ) ( 0 0 0 ) ( ( ( 1 'Hold''Move' ) ( 0 0 '' ) ( 0 0 0 ) ) ) 1 ( ( ( ( 3 6 'UDF' ) ( 0 0 0 ) ) ) ) )"
+    );
     Ok(())
 }
 
-const DEEP: &str = r#"{"G":{"a.a.a.a.a.a.a.a.a.a.a.a.a.a.a.a.a.a.a.a.a.a.a.a.a.a.a.a.a.a.a.a":{"+type":"plain","+channel":"VAL"}}}"#;
-const DEEP_TWICE: &str = r#"{"G":{"a.a.a.a.a.a.a.a.a.a.a.a.a.a.a.a.a.a.a.a.a.a.a.a.a.a.a.a.a.a.a.a":{"+type":"plain","+channel":"VAL"},
+const DEEP: &str =
+    r#"{"G":{"a.a.a.a.a.a.a.a.a.a.a.a.a.a.a.a.a.a.a.a.a.a.a.a.a.a.a.a.a.a.a.a":{"+type":"plain","+channel":"VAL"}}}"#;
+
+const DEEP_TWICE: &str =
+    r#"{"G":{"a.a.a.a.a.a.a.a.a.a.a.a.a.a.a.a.a.a.a.a.a.a.a.a.a.a.a.a.a.a.a.a":{"+type":"plain","+channel":"VAL"},
 "":{"+type":"meta","+channel":"VAL"},"timeStamp.t":{"+type":"plain","+channel":"VAL"}}}"#;
-const BELOW: &str = r#"{"G":{"a":{"+channel":"VAL"},"a-b":{"+channel":"VAL"},"a.b.c":{"+channel":"VAL"}}}"#;
-const BELOW_PROC: &str = r#"{"G":{"a.b":{"+type":"proc","+channel":"VAL"},"a.b.c":{"+channel":"VAL"}}}"#;
-const BOTH: &str = r#"{"G":{"":{"+type":"meta","+channel":"VAL"},"alarm":{"+channel":"VAL"},"alarm.b":{"+channel":"VAL"}}}"#;
-const TWICE: &str = r#"{"G":{"":{"+type":"meta","+channel":"VAL"},"alarm":{"+type":"plain","+channel":"VAL"}}}"#;
+
+const BELOW: &str =
+    r#"{"G":{"a":{"+channel":"VAL"},"a-b":{"+channel":"VAL"},"a.b.c":{"+channel":"VAL"}}}"#;
+
+const BELOW_PROC: &str =
+    r#"{"G":{"a.b":{"+type":"proc","+channel":"VAL"},"a.b.c":{"+channel":"VAL"}}}"#;
+
+const BOTH: &str =
+    r#"{"G":{"":{"+type":"meta","+channel":"VAL"},"alarm":{"+channel":"VAL"},"alarm.b":{"+channel":"VAL"}}}"#;
+
+const TWICE: &str =
+    r#"{"G":{"":{"+type":"meta","+channel":"VAL"},"alarm":{"+type":"plain","+channel":"VAL"}}}"#;
 
 #[test]
 fn the_first_fault_is_told(rt: HostRuntime) -> Result<(), Fail> {
@@ -468,7 +489,10 @@ fn the_first_fault_is_told(rt: HostRuntime) -> Result<(), Fail> {
 }
 
 const FIRST: &str = r#"{"G":{"a":{"+type":"plain","+channel":"VAL","+putorder":-1}}}"#;
-const SECOND: &str = r#"{"G":{"c":{"+type":"plain","+channel":"VAL","+putorder":0},"w":{"+channel":"VAL","+putorder":0}}}"#;
+
+const SECOND: &str =
+    r#"{"G":{"c":{"+type":"plain","+channel":"VAL","+putorder":0},"w":{"+channel":"VAL","+putorder":0}}}"#;
+
 const PROC: &str = r#"{"G":{"b":{"+type":"proc","+channel":"VAL","+putorder":0}}}"#;
 
 const CHOICES: [Given<'static>; 3] = [
@@ -538,8 +562,10 @@ fn a_record_triggers_leaves_and_reads_their_records(rt: HostRuntime) -> Result<(
 #[test]
 fn a_part_has_the_marked_leaves_alone(rt: HostRuntime) -> Result<(), Fail> {
     let words = part_words(rt.alloc(), &LONGOUTS, &[0, 2, 21, 22])?;
-    assert_eq!(rt; words.as_str(),
-        "( ( 1 ( 0 0 '' ) ( 0 0 0 ) ) ( 0 ( 0 0 '' ) ( 0 0 0 ) ) ( 3 ( 0 0 '' ) ( 0 0 0 ) ) )");
+    assert_eq!(rt;
+        words.as_str(),
+        "( ( 1 ( 0 0 '' ) ( 0 0 0 ) ) ( 0 ( 0 0 '' ) ( 0 0 0 ) ) ( 3 ( 0 0 '' ) ( 0 0 0 ) ) )"
+    );
     Ok(())
 }
 
@@ -550,7 +576,9 @@ fn wide(alloc: Global, count: u32) -> Result<String, NoMemory> {
         if number > 0 {
             json.push_str(",")?;
         }
-        json.push_str(&format!(in alloc; "\"m{number}\":{{\"+channel\":\"VAL\",\"+putorder\":0}}")?)?;
+        json.push_str(&format!(in alloc;
+            "\"m{number}\":{{\"+channel\":\"VAL\",\"+putorder\":0}}"
+        )?)?;
     }
     json.push_str("}}")?;
     Ok(json)

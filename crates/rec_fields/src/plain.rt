@@ -45,11 +45,7 @@ pub fn plain_view(alloc: Global, config: &RecConfig, datum: &Datum) -> Result<Pv
 
 /// The action that a put of a record's value by itself is, or of the leaf of its structure that is put (`value`, and of an
 /// enum `value.index`). A disabled record refuses, and then the record's kind decides. A list is copied once.
-pub fn leaf_action(
-    alloc: Global,
-    config: &RecConfig,
-    leaf: &PvValue,
-) -> Result<Action, FieldAnswer>
+pub fn leaf_action(alloc: Global, config: &RecConfig, leaf: &PvValue) -> Result<Action, FieldAnswer>
     requires { fits_of 16 (view leaf.now) (plain_tree config.now) ≡ true }
     ensures answer { IsLeafAction config.now (view leaf.now) result }
     ensures may { IfOk result (MayBeDone config.now) }
@@ -61,11 +57,7 @@ pub fn leaf_action(
 }
 
 /// The datum that a record's value by itself brings; none of an index outside 16 bits.
-fn leaf_datum(
-    alloc: Global,
-    config: &RecConfig,
-    leaf: &PvValue,
-) -> Result<Option<Datum>, NoMemory>
+fn leaf_datum(alloc: Global, config: &RecConfig, leaf: &PvValue) -> Result<Option<Datum>, NoMemory>
     requires { fits_of 16 (view leaf.now) (plain_tree config.now) ≡ true }
     ensures same { IfOk result (λ datum. datum ≡ leaf_datum config.now.kind (view leaf.now)) }
     ensures sort { IfOk result (λ datum. IfSome datum (λ d. suits config.now d ≡ true)) }

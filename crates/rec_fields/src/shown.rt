@@ -30,7 +30,11 @@ pub fn view(alloc: Global, config: &RecConfig, state: &RecState) -> Result<PvVal
 }
 
 /// What a record holds.
-pub(crate) fn value_of(alloc: Global, config: &RecConfig, datum: &Datum) -> Result<PvValue, NoMemory>
+pub(crate) fn value_of(
+    alloc: Global,
+    config: &RecConfig,
+    datum: &Datum,
+) -> Result<PvValue, NoMemory>
     requires { suits config.now datum.now ≡ true }
     ensures { IfOk result (λ v. view v ≡ value_shown config.now datum.now) }
 {

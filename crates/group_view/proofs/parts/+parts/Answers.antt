@@ -18,9 +18,13 @@ parts_of-part_of-requires t c =
     let i = c.loop-named.named-index in
     let n = c.named-item.result in
     let here : get_or ns i n ≡ n = search rules in
-    let few : c.loop-named.number + length (numbered_fields (slot_fields (slots_seen (drop i ns)))) ≤ 4096 = omega (arith, c.loop-named.invariant.total, c.requires.few) in
-    (omega (arith, size_within ns i n c.loop-named-test.true here, c.decreases), (few_first c.args.mask.now c.args.states.now ns i n c.loop-named-test.true here c.loop-named.number few,
-    ready_first c.args.mask.now c.args.states.now ns i n c.loop-named-test.true here c.loop-named.number c.loop-named.invariant.ready))
+    let few : c.loop-named.number + length (numbered_fields (slot_fields (slots_seen (drop i ns)))) ≤ 4096 = omega (arith, c.loop-named.invariant.total, c.requires.few) in (
+      omega (arith, size_within ns i n c.loop-named-test.true here, c.decreases),
+      (
+        few_first c.args.mask.now c.args.states.now ns i n c.loop-named-test.true here c.loop-named.number few,
+        ready_first c.args.mask.now c.args.states.now ns i n c.loop-named-test.true here c.loop-named.number c.loop-named.invariant.ready,
+      ),
+    )
 
 pub parts_of-loop-named-preserved : goal.parts_of-loop-named-preserved
 parts_of-loop-named-preserved t c =
@@ -60,7 +64,11 @@ part_of-parts_of-requires t c =
     let is : branch_seen c.args.branch.now ≡ level c.in-Level.field-0 (slots_seen ns) = ap branch_seen c.in-Level.is ∙ level_is c.in-Level.field-0 c.in-Level.slots in
     let same : slots_seen ns ≡ slots_seen c.deref.result.now = sym (ap slots_seen c.deref.ensures.value) in
     let few : c.args.number.now + 1 + length (numbered_fields (slot_fields (slots_seen c.deref.result.now))) ≤ 4096 =
-    omega (arith, c.requires.few, ap (λ s. length (numbered (slot_tree s))) is, ap (λ ss. length (numbered_fields (slot_fields ss))) same) in
-    (omega (arith, c.decreases, ap size_of is, ap sizes_of same), (few,
-    subst (AreReadyUnder c.args.mask.now c.args.states.now (c.args.number.now + 1)) same
-    (subst (IsReadyUnder c.args.mask.now c.args.states.now c.args.number.now) is c.requires.ready)))
+    omega (arith, c.requires.few, ap (λ s. length (numbered (slot_tree s))) is, ap (λ ss. length (numbered_fields (slot_fields ss))) same) in (
+      omega (arith, c.decreases, ap size_of is, ap sizes_of same),
+      (
+        few,
+        subst (AreReadyUnder c.args.mask.now c.args.states.now (c.args.number.now + 1)) same
+            (subst (IsReadyUnder c.args.mask.now c.args.states.now c.args.number.now) is c.requires.ready),
+      ),
+    )

@@ -16,7 +16,7 @@ pub returns-then-misses-clause-part : goal.returns-then-misses-clause-part
 returns-then-misses-clause-part c =
     let long : length (numbered c.ty.result.now) ≡ length (numbered (source_tree c.args.source.now)) = ap (λ (t : Tree). length (numbered t)) c.ty.ensures in
     if_ok c.blank.result (λ v is. blank_part c.args.mask.now c.args.number.now (source_tree c.args.source.now) (view v) (source_shown c.args.states.now c.args.source.now) (is ∙ ap blank_of c.ty-then-misses.ensures)
-      (λ k from to. (c.if-misses.ensures {u = tt}).none refl k from (omega (arith, to, c.node_count-count.ensures.count, long))))
+    (λ k from to. (c.if-misses.ensures {u = tt}).none refl k from (omega (arith, to, c.node_count-count.ensures.count, long))))
     c.blank.ensures.value
 
 pub returns-clause-fits : goal.returns-clause-fits

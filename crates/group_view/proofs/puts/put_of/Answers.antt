@@ -10,4 +10,4 @@ pub leaf_action-requires : goal.leaf_action-requires
 leaf_action-requires c =
     ap (λ (config : Config). fits_of 16 (view c.in-Some.leaf.now) (plain_tree config)) c.config.ensures
     ∙ leaf_fits 16 c.args.ty.now (view c.args.value.now) c.args.number (plain_tree c.args.link.now.config) (view c.in-Some.leaf.now)
-      c.requires.fits c.requires.leaf (sym c.in-Some.ensures.leaf)
+    c.requires.fits c.requires.leaf (sym c.in-Some.ensures.leaf)

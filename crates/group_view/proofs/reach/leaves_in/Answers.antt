@@ -13,6 +13,8 @@ loop-number-preserved c =
     let v = c.index-own-number.result in
     let there : get_or own (get_or ns i 0) v ≡ v = search rules in
     let inside = here_so (λ n. n < length own) ns i 0 within c.loop-number.invariant.1 in
-    let shows = c.deref.ensures.value ∙ sym (own_at own (get_or ns i 0) v inside there) in
-    (leaves_more (leaves_at own) ns i c.loop-number.found _ _ within (c.in_ok-add_leaves.ensures ∙ ap (λ ls. fold set.insert c.loop-number.found ls) shows)
-      c.loop-number.invariant.0, all_more _ c.args.numbers.now c.loop-number.number-index 0 c.loop-number-test.true c.loop-number.invariant.1)
+    let shows = c.deref.ensures.value ∙ sym (own_at own (get_or ns i 0) v inside there) in (
+      leaves_more (leaves_at own) ns i c.loop-number.found _ _ within (c.in_ok-add_leaves.ensures ∙ ap (λ ls. fold set.insert c.loop-number.found ls) shows)
+          c.loop-number.invariant.0,
+      all_more _ c.args.numbers.now c.loop-number.number-index 0 c.loop-number-test.true c.loop-number.invariant.1,
+    )

@@ -38,6 +38,7 @@ pub value_of-values_of-requires : goal.value_of-values_of-requires
 value_of-values_of-requires t c =
     let ns = c.in-Level.slots.items in
     let is : branch_seen c.args.branch.now ≡ level c.in-Level.field-0 (slots_seen ns) = ap branch_seen c.in-Level.is ∙ level_is c.in-Level.field-0 c.in-Level.slots in
-    let same : slots_seen ns ≡ slots_seen c.deref.result.now = sym (ap slots_seen c.deref.ensures.value) in
-    (omega (arith, c.decreases, ap size_of is, ap sizes_of same),
-    subst (EachOfShown (λ s. HasState c.args.states.now s.link)) same (subst (EachShown (λ s. HasState c.args.states.now s.link)) is c.requires))
+    let same : slots_seen ns ≡ slots_seen c.deref.result.now = sym (ap slots_seen c.deref.ensures.value) in (
+      omega (arith, c.decreases, ap size_of is, ap sizes_of same),
+      subst (EachOfShown (λ s. HasState c.args.states.now s.link)) same (subst (EachShown (λ s. HasState c.args.states.now s.link)) is c.requires),
+    )

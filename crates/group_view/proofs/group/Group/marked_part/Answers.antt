@@ -18,8 +18,12 @@ parts_of-requires-clause-few c =
     let slots = slots_seen c.self.inside.slots.items in
     let structure = subst (λ (g : GroupData). level g.id slots ≡ structure_of g) c.self.view_is c.self.invariant.0.structure in
     let tree = subst (λ (g : GroupData). c.self.inside.ty ≡ group_tree g) c.self.view_is c.self.invariant.0.tree in
-    omega (arith, c.self.invariant.0.few, ap (λ (t : Tree). length (numbered t)) (tree ∙ sym (tree_is g slots structure)),
-      ap (λ ns. length (numbered_fields (slot_fields (slots_seen ns)))) c.deref.ensures.value)
+    omega (
+      arith,
+      c.self.invariant.0.few,
+      ap (λ (t : Tree). length (numbered t)) (tree ∙ sym (tree_is g slots structure)),
+      ap (λ ns. length (numbered_fields (slot_fields (slots_seen ns)))) c.deref.ensures.value,
+    )
 
 pub parts_of-requires-clause-ready : goal.parts_of-requires-clause-ready
 parts_of-requires-clause-ready c =

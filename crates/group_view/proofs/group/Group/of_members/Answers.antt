@@ -61,12 +61,13 @@ invariant_of-result c =
     (subst (λ ms. Reaches c.deref-7.result.now (reach_by (leaves_at c.deref-6.result.now) ms) (λ rec. get_by (nat_cmp rec) c.in_ok-reaches.reaches)) c.deref-5.ensures.value
     c.in_ok-reaches.ensures)) in
     let writing = c.in_ok-writers.ensures
-        ∙ (λ i. map (λ e. e.1) (writers_among (leaves_at (c.deref-9.ensures.value i)) [] (enumerate_from 0 (c.deref-8.ensures.value i)))) in
-    (subst (λ (ms : List Member). IsBuilt (record { name = c.args.name; id = c.args.id; atomic = c.args.atomic; members = ms }) c.in-Ok.ty slots
-      c.in_ok-records.records.items (λ rec. get_by (nat_cmp rec) c.in_ok-reaches.reaches) c.in_ok-writers.writers.items) (sym c.from_vec.ensures)
-      (built_is g slots c.in-Ok.ty c.structure_of.new.shown.items own c.in_ok-records.records.items _ c.in_ok-writers.writers.items structure tree c.in-Ok.ensures.few
-      shown long leaves (c.in_ok-records.ensures ∙ ap records_of c.deref-4.ensures.value) reaching writing c.requires.placed c.requires.single c.in-Ok.ensures.faultless),
-    c.new.ensures)
+    ∙ (λ i. map (λ e. e.1) (writers_among (leaves_at (c.deref-9.ensures.value i)) [] (enumerate_from 0 (c.deref-8.ensures.value i)))) in (
+      subst (λ (ms : List Member). IsBuilt (record { name = c.args.name; id = c.args.id; atomic = c.args.atomic; members = ms }) c.in-Ok.ty slots
+          c.in_ok-records.records.items (λ rec. get_by (nat_cmp rec) c.in_ok-reaches.reaches) c.in_ok-writers.writers.items) (sym c.from_vec.ensures)
+          (built_is g slots c.in-Ok.ty c.structure_of.new.shown.items own c.in_ok-records.records.items _ c.in_ok-writers.writers.items structure tree c.in-Ok.ensures.few
+          shown long leaves (c.in_ok-records.ensures ∙ ap records_of c.deref-4.ensures.value) reaching writing c.requires.placed c.requires.single c.in-Ok.ensures.faultless),
+      c.new.ensures,
+    )
 
 pub returns-clause-faultless : goal.returns-clause-faultless
 returns-clause-faultless c =
