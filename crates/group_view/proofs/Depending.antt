@@ -1,7 +1,6 @@
 -- What a group's value depends on.
-use Rattle.std.proofs.Common.{◌≡◌, ℕ, zero, suc, ◌+◌, ◌-◌, ◌<◌, ◌≤◌, Bool, true, false, cond, map, is_some, ◌||◌, eqb, List, [], ◌∷◌, ◌++◌, length, fold, Option, None, Some, option_map, refl, sym, ap, ◌∙◌, subst, arith, inl, inr}
+use Rattle.std.proofs.Common.{◌≡◌, ℕ, zero, suc, ◌+◌, ◌-◌, ◌<◌, Bool, true, false, cond, map, is_some, ◌||◌, eqb, List, [], ◌∷◌, ◌++◌, length, fold, Option, None, Some, option_map, refl, sym, ap, ◌∙◌, subst, arith, inl, inr}
 use Rattle.std.specs.Prelude.{⊤, slice_get, MatchOption}
-use Rattle.std.specs.declared.cmp.Ordering.{Ordering}
 use Rattle.std.specs.declared.cmp.Ordering.TheVariants.{Less, Equal, Greater}
 use Rattle.std.specs.BTreeSet.{insert_key}
 use Rattle.std.specs.FinSet.{FinSet, contains, insert, empty, contains-empty}
@@ -15,22 +14,21 @@ use Rattle.pvd_type.proofs.Sets.{in_insert}
 use Rattle.pvd_type.proofs.Leaves.{leaf_flag}
 use Rattle.pvd_type.specs.Numbers.{numbered, numbered_fields, is_leaf}
 use Rattle.pvd_type.specs.Tree.{Tree}
-use Rattle.pvd_value.specs.Data.{Data, members, Row, end, more}
-use Rattle.pvd_value.specs.Fits.{fits_of, row_fits}
+use Rattle.pvd_value.specs.Data.{Data, members, more}
 use Rattle.pvd_value.specs.Leaves.{known, slots, row_slots, leaf_at}
 use Rattle.pvd_value.proofs.Slots.{slots_length, leaf_known}
 use Rattle.rec_kinds.specs.declared.state.RecState.{RecState}
 use Rattle.group_view.specs.Groups.{GroupData, IsReady, AreReady, HasState}
-use Rattle.group_view.specs.Laws.{Agree, ReadsRecords, ReadsFootprint}
-use Rattle.group_view.specs.Leaves.{sources, sources_among, source_at, member_in, is_number, is_of, places, leaves_of, triggered_by, triggered, reads, read_by, rising, records_read, footprint, records_of}
+use Rattle.group_view.specs.Laws.{ReadsRecords, ReadsFootprint}
+use Rattle.group_view.specs.Leaves.{sources, sources_among, source_at, is_of, places, leaves_of, triggered_by, triggered, read_by, rising, footprint}
 use Rattle.group_view.specs.Links.{Link}
 use Rattle.group_view.specs.Slots.{Slot, shows, level, Slots, no_slots, slot, structure_of, slots_of, in_order, entries_of, EachShown, EachOfShown}
 use Rattle.group_view.specs.Types.{source_tree, slot_tree, slot_fields, group_tree}
 use Rattle.group_view.specs.Views.{shown_or_blank, source_shown, slot_shown, slots_shown, group_shown}
 use Rattle.group_view.specs.declared.member.Member.{Member}
 use Rattle.group_view.specs.Sources.{Source}
-use Rattle.group_view.proofs.Fitting.{source_fits, slot_fits, slots_fit}
-use Rattle.group_view.proofs.Froms.{IsFrom, from_members, each_then, each_of_then}
+use Rattle.group_view.proofs.Fitting.{source_fits, slot_fits}
+use Rattle.group_view.proofs.Froms.{IsFrom, from_members, each_of_then}
 
 -- ---- lists of which each element is so
 

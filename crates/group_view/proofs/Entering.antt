@@ -1,5 +1,5 @@
 -- Entries that stand in a map.
-use Rattle.std.proofs.Common.{◌≡◌, ℕ, ◌+◌, ◌<◌, List, [], ◌∷◌, ◌++◌, length, get_or, drop, map, fold, codes, Some, refl, sym, ap, ◌∙◌, arith, add-one}
+use Rattle.std.proofs.Common.{◌≡◌, ℕ, ◌+◌, ◌<◌, List, [], ◌∷◌, ◌++◌, length, get_or, drop, map, codes, Some, refl, sym, ap, ◌∙◌, arith, add-one}
 use Rattle.std.proofs.lemmas.List.Sums.{fold-append}
 use Rattle.std.proofs.Math.Seq.{drop-cons}
 use Rattle.std.specs.declared.cmp.Ordering.{Ordering}
@@ -16,7 +16,7 @@ use Rattle.group_defs.specs.declared.def.MemberKind.{MemberKind}
 use Rattle.group_defs.specs.declared.def.MemberKind.TheVariants as kinds
 use Rattle.group_view.specs.Links.{Link}
 use Rattle.group_view.specs.Seen.{path_seen, entries_seen}
-use Rattle.group_view.specs.Slots.{Path, path_cmp, alarm_path, time_path, shown_by, added, added_all, entries_by, entries_of, in_order}
+use Rattle.group_view.specs.Slots.{Path, path_cmp, alarm_path, time_path, shown_by, added, added_all, entries_by}
 use Rattle.group_view.specs.declared.entry.Entry.{Entry}
 use Rattle.group_view.specs.declared.entry.Entry.TheVariants.{Shown}
 use Rattle.group_view.specs.declared.piece.Piece.TheVariants as pieces

@@ -1,9 +1,9 @@
 -- What a group shows of valid states fits its type.
-use Rattle.std.proofs.Common.{◌≡◌, ℕ, Bool, true, false, ◌&&◌, pos, List, [], refl, ap, ◌∙◌}
+use Rattle.std.proofs.Common.{◌≡◌, ℕ, Bool, true, ◌&&◌, pos, List, refl, ap, ◌∙◌}
 use Rattle.std.specs.Prelude.{slice_get, MatchOption, Some, None}
 use Rattle.std.proofs.lemmas.Bool.{false≢true}
 use Rattle.pvd_value.specs.Fits.{fits_of, row_fits}
-use Rattle.pvd_value.specs.Data.{Data, single, int, carried}
+use Rattle.pvd_value.specs.Data.{Data, single, int}
 use Rattle.rec_kinds.specs.Configs.{Config}
 use Rattle.rec_kinds.specs.Sorts.{is_of, sort_of}
 use Rattle.rec_kinds.specs.Validity.{IsValid}

@@ -1,7 +1,6 @@
 -- Each source of a group's structure is of one of its members.
-use Rattle.std.proofs.Common.{◌≡◌, ℕ, zero, suc, ◌+◌, ◌<◌, Bool, true, false, cond, List, [], ◌∷◌, ◌++◌, length, fold, Option, None, Some, refl, sym, ap, ◌∙◌, subst, arith}
+use Rattle.std.proofs.Common.{◌≡◌, ℕ, suc, ◌+◌, true, false, cond, List, [], ◌∷◌, ◌++◌, fold, Option, None, Some, refl, subst, arith}
 use Rattle.std.specs.Prelude.{⊤, slice_get}
-use Rattle.std.specs.declared.cmp.Ordering.{Ordering}
 use Rattle.std.specs.declared.cmp.Ordering.TheVariants.{Less, Equal, Greater}
 use Rattle.std.specs.BTreeMap.{insert_entry}
 use Rattle.std.specs.List.{AllByRecursion, flat_map, enumerate_from}
@@ -9,10 +8,9 @@ use Rattle.std.specs.Ordering.{match_ordering}
 use Rattle.std.specs.Str.{bytes_eq}
 use Rattle.group_defs.specs.declared.def.MemberKind.{MemberKind}
 use Rattle.group_defs.specs.declared.def.MemberKind.TheVariants as kinds
-use Rattle.group_view.specs.Groups.{GroupData}
 use Rattle.group_view.specs.Leaves.{reads}
 use Rattle.group_view.specs.Links.{Link}
-use Rattle.group_view.specs.Slots.{Path, path_cmp, Slot, shows, level, Slots, no_slots, slot, with_last, in_last, behind, slots_of, added, added_all, in_order, shown_by, ids_of, entries_by, entries_of, structure_of, EachShown, EachOfShown}
+use Rattle.group_view.specs.Slots.{Path, path_cmp, Slot, shows, level, Slots, no_slots, slot, with_last, in_last, behind, slots_of, added, added_all, in_order, shown_by, ids_of, entries_by, entries_of, EachShown, EachOfShown}
 use Rattle.group_view.specs.declared.entry.Entry.{Entry}
 use Rattle.group_view.specs.declared.entry.Entry.TheVariants.{Shown, WithId}
 use Rattle.group_view.specs.declared.member.Member.{Member}

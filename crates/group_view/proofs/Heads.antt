@@ -1,9 +1,7 @@
 -- The leaf that a put writes: the first that a member shows.
-use Rattle.std.proofs.Common.{◌≡◌, ℕ, zero, suc, ◌+◌, ◌-◌, ◌<◌, ◌≤◌, Bool, true, false, cond, eqb, List, [], ◌∷◌, ◌++◌, length, map, Option, None, Some, option_map, refl, sym, ap, ◌∙◌, subst, arith, inl, inr}
+use Rattle.std.proofs.Common.{◌≡◌, ℕ, zero, suc, ◌+◌, ◌-◌, Bool, true, false, cond, eqb, List, [], ◌∷◌, ◌++◌, length, map, Option, None, Some, option_map, refl, sym, ap, ◌∙◌, subst, arith, inl, inr}
 use Rattle.std.specs.Prelude.{⊤, slice_get}
-use Rattle.std.proofs.lemmas.Bool.{false≢true, cases_lt, eq-eqb}
-use Rattle.std.proofs.lemmas.Bool.Decides.{Decides-eqb}
-use Rattle.std.proofs.lemmas.List.{length-append}
+use Rattle.std.proofs.lemmas.Bool.{false≢true, cases_lt}
 use Rattle.pvd_type.specs.Numbers.{numbered, numbered_fields, is_leaf}
 use Rattle.pvd_type.specs.SameLaws.{both}
 use Rattle.pvd_type.specs.Tree.{Tree, leaf, node, struct, union, struct_list, union_list, Fields, no_fields, field}
@@ -11,19 +9,15 @@ use Rattle.pvd_value.specs.Data.{Data, Row, end, more, gap}
 use Rattle.pvd_value.specs.Fits.{fits_of, row_fits}
 use Rattle.pvd_value.specs.Leaves.{known, row_in, slots, row_slots, leaf_at}
 use Rattle.pvd_value.proofs.Slots.{row_of_struct, slots_length}
-use Rattle.rec_kinds.specs.Configs.{Config}
 use Rattle.rec_kinds.specs.declared.kind.Kind.{Kind}
 use Rattle.rec_kinds.specs.declared.kind.Kind.TheVariants.{Longin, Longout, Int64in, Int64out, Bi, Bo, Mbbi, Mbbo, Stringin, Stringout, Waveform}
 use Rattle.rec_kinds.specs.declared.element.Element.{Element}
-use Rattle.rec_fields.specs.Plain.{value_tree, plain_tree}
-use Rattle.rec_fields.specs.Types.{tree_of, record_tree}
+use Rattle.rec_fields.specs.Plain.{value_tree}
+use Rattle.rec_fields.specs.Types.{tree_of}
 use Rattle.group_view.specs.Leaves.{sources, sources_among, source_at, member_in, is_number, is_of, places}
-use Rattle.group_view.specs.Pieces.{piece_tree}
 use Rattle.group_view.specs.Slots.{Slot, shows, level, Slots, no_slots, slot, EachShown, EachOfShown}
 use Rattle.group_view.specs.Sources.{Source}
 use Rattle.group_view.specs.Types.{source_tree, slot_tree, slot_fields}
-use Rattle.group_view.specs.declared.piece.Piece.{Piece}
-use Rattle.group_view.specs.declared.piece.Piece.TheVariants as pieces
 use Rattle.group_view.proofs.Depending.{slice_left, slice_right, length_sources}
 
 -- the place of the first that passes

@@ -1,22 +1,20 @@
 -- What a group keeps is its definition's.
-use Rattle.std.proofs.Common.{◌≡◌, ℕ, zero, suc, ◌+◌, ◌<◌, ◌≤◌, Bool, true, false, cond, ◌||◌, eqb, ℤ, List, [], ◌∷◌, ◌++◌, length, get_or, take, map, fold, Option, None, Some, option_map, Result, Ok, Err, refl, sym, ap, ◌∙◌, subst, arith, inl, inr, rules}
+use Rattle.std.proofs.Common.{◌≡◌, ℕ, zero, suc, ◌+◌, ◌<◌, ◌≤◌, Bool, true, false, cond, ◌||◌, eqb, ℤ, List, [], ◌∷◌, ◌++◌, length, get_or, take, map, fold, Option, None, Some, option_map, refl, sym, ap, ◌∙◌, subst, arith, inl, inr, rules}
 use Rattle.std.specs.Prelude.{⊤, slice_get, MatchOption}
 use Rattle.std.specs.BTreeMap.{insert_entry}
 use Rattle.std.specs.BTreeSet.{insert_key}
 use Rattle.std.specs.FinSet as set
-use Rattle.std.specs.FinSet.{FinSet, contains}
-use Rattle.std.specs.List.{AllByRecursion, list_any, filter, flat_map, filter_map, cons_option, enumerate_from}
+use Rattle.std.specs.FinSet.{FinSet}
+use Rattle.std.specs.List.{AllByRecursion, filter, flat_map, filter_map, cons_option, enumerate_from}
 use Rattle.std.specs.Option.{IfSome, option_and_then, option_map_or}
 use Rattle.std.specs.Ordering.{nat_cmp, match_ordering}
-use Rattle.std.specs.declared.cmp.Ordering.{Ordering}
 use Rattle.std.specs.declared.cmp.Ordering.TheVariants.{Less, Equal, Greater}
-use Rattle.std.proofs.lemmas.Bool.{false≢true, eq-eqb, cases_lt}
+use Rattle.std.proofs.lemmas.Bool.{false≢true, cases_lt}
 use Rattle.std.proofs.lemmas.Bool.Decides.{eqb_tells, Decides-eqb, nat_tests}
 use Rattle.std.proofs.lemmas.List.{take_more}
 use Rattle.pvd_type.specs.Check.{type_fault}
 use Rattle.pvd_type.specs.Numbers.{numbered, is_leaf}
 use Rattle.pvd_type.specs.Tree.{Tree}
-use Rattle.pvd_value.specs.Blank.{blank_of}
 use Rattle.pvd_value.specs.Data.{Data, members, Row}
 use Rattle.pvd_value.specs.Fits.{fits_of}
 use Rattle.pvd_value.specs.View.{view, row_view}
@@ -33,8 +31,8 @@ use Rattle.group_defs.specs.declared.def.MemberKind.{MemberKind}
 use Rattle.group_defs.specs.declared.def.MemberKind.TheVariants as kinds
 use Rattle.group_view.specs.Built.{reach_by, reach_of, is_in, Reaches, IsShapeFault, IsBuilt}
 use Rattle.group_view.specs.Faults.{is_misplaced, is_doubled, group_fault, IsGroupFault}
-use Rattle.group_view.specs.Groups.{GroupData, link_of, member_of, IsLinkOf, IsOver, IsReady, AreReady, HasState}
-use Rattle.group_view.specs.Leaves.{sources, member_in, is_number, is_of, places, leaves_of, leaves_at, is_about, triggered_by, triggered, rising, records_read, footprint, records_of}
+use Rattle.group_view.specs.Groups.{GroupData, link_of, member_of, IsLinkOf, IsOver, AreReady, HasState}
+use Rattle.group_view.specs.Leaves.{sources, member_in, is_number, is_of, places, leaves_of, leaves_at, is_about, triggered_by, triggered, records_read, footprint, records_of}
 use Rattle.group_view.specs.Links.{Link}
 use Rattle.rec_fields.specs.Plain.{plain_tree}
 use Rattle.group_view.specs.Pieces.{piece_tree}
@@ -42,8 +40,8 @@ use Rattle.group_view.specs.declared.piece.Piece.{Piece}
 use Rattle.group_view.specs.declared.piece.Piece.TheVariants as pieces
 use Rattle.group_view.specs.Puts.{Place, place_cmp, placed_by, writing_of, writer_of, with_writer, writers_among, writers, IsWritten}
 use Rattle.group_view.specs.Slots.{Slot, level, Slots, structure_of, slots_of, in_order, entries_of, EachShown, EachOfShown}
-use Rattle.group_view.specs.Types.{source_tree, slot_tree, group_tree}
-use Rattle.group_view.specs.Views.{slot_shown, slots_shown, group_shown, part_shown, IsPart, IsRowPart, IsReadyUnder, AreReadyUnder, IsReadyFor}
+use Rattle.group_view.specs.Types.{slot_tree, group_tree}
+use Rattle.group_view.specs.Views.{slot_shown, slots_shown, group_shown, IsPart, IsReadyUnder, AreReadyUnder, IsReadyFor}
 use Rattle.group_view.specs.Sources.{Source}
 use Rattle.group_view.specs.declared.member.Member.{Member}
 use Rattle.group_view.specs.declared.reach.Reach.{Reach}

@@ -1,10 +1,10 @@
 -- Members that stand below others.
-use Rattle.std.proofs.Common.{◌≡◌, ℕ, ◌+◌, ◌<◌, Bool, true, false, not, ◌&&◌, ◌||◌, cond, eqb, List, [], ◌∷◌, ◌++◌, length, get_or, take, drop, refl, sym, ap, ◌∙◌, add-one}
+use Rattle.std.proofs.Common.{◌≡◌, ℕ, ◌+◌, ◌<◌, Bool, true, false, not, ◌&&◌, ◌||◌, cond, eqb, List, ◌∷◌, length, get_or, take, drop, refl, sym, ap, ◌∙◌, add-one}
 use Rattle.std.proofs.lemmas.List.{take_more}
 use Rattle.std.proofs.Math.Seq.{drop-cons}
 use Rattle.std.specs.List.{list_any}
 use Rattle.std.specs.Str.{bytes_eq}
-use Rattle.group_view.specs.Faults.{holds_members, closed_names, is_among, is_closed, is_cut, above_from, is_below}
+use Rattle.group_view.specs.Faults.{holds_members, closed_names, is_among, is_closed, is_cut, above_from}
 use Rattle.group_view.specs.declared.member.Member.{Member}
 
 or_swap : (a b c : Bool) → ((a || b) || c) ≡ (b || (a || c))

@@ -1,5 +1,5 @@
 -- The leaves of a mask alone, of what slots show.
-use Rattle.std.proofs.Common.{◌≡◌, ℕ, ◌+◌, ◌<◌, ◌≤◌, Bool, true, false, cond, List, [], ◌∷◌, ◌++◌, length, get_or, drop, Result, Ok, Err, IfOk, refl, sym, ap, ◌∙◌, subst, arith}
+use Rattle.std.proofs.Common.{◌≡◌, ℕ, ◌+◌, ◌<◌, ◌≤◌, Bool, true, cond, List, [], ◌∷◌, ◌++◌, length, get_or, drop, Result, Ok, Err, IfOk, refl, sym, ap, ◌∙◌, subst, arith}
 use Rattle.std.proofs.lemmas.List.{length-append}
 use Rattle.std.specs.FinSet.{FinSet, contains}
 use Rattle.std.specs.Ordering.{nat_cmp}
@@ -17,7 +17,7 @@ use Rattle.pvd_value.proofs.Rows.{joined, joined_push}
 use Rattle.pvd_value.proofs.Unmarked.{Misses}
 use Rattle.rec_kinds.specs.declared.state.RecState.{RecState}
 use Rattle.group_view.specs.Seen.{branch_seen, slots_seen}
-use Rattle.group_view.specs.Slots.{Slot, shows, level, Slots, no_slots, slot}
+use Rattle.group_view.specs.Slots.{Slots, slot}
 use Rattle.group_view.specs.Types.{slot_tree, slot_fields}
 use Rattle.group_view.specs.Views.{slot_shown, slots_shown, IsPart, IsRowPart, IsReadyUnder, AreReadyUnder}
 use Rattle.group_view.specs.declared.slots.Named.{Named}

@@ -1,6 +1,6 @@
 -- Actions of one writable member after another.
 use Rattle.std.proofs.Common.{◌≡◌, ℕ, zero, suc, ◌+◌, ◌<◌, List, [], ◌∷◌, ◌++◌, length, get_or, drop, Option, None, Some, Result, Ok, Err, refl, sym, ap, ◌∙◌, subst, arith, add-one}
-use Rattle.std.specs.Prelude.{⊤, slice_get, MatchOption}
+use Rattle.std.specs.Prelude.{MatchOption}
 use Rattle.std.specs.FinSet.{FinSet}
 use Rattle.std.specs.List.{AllByRecursion}
 use Rattle.std.specs.Option.{IfSome}
@@ -14,7 +14,6 @@ use Rattle.rec_kinds.specs.Validity.{MayBeDone}
 use Rattle.rec_kinds.specs.declared.datum.Action.{Action}
 use Rattle.rec_fields.specs.declared.puts.FieldAnswer.{FieldAnswer}
 use Rattle.group_view.specs.Groups.{IsLinkOf}
-use Rattle.group_view.specs.Links.{Link}
 use Rattle.group_view.specs.Puts.{also, done_by, done_by_all, listed, unless_none, actions_for, writers, Refuses, MayBeDoneBy}
 use Rattle.group_view.specs.Groups.{GroupData}
 use Rattle.group_view.specs.Types.{group_tree}

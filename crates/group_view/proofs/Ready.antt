@@ -1,6 +1,6 @@
 -- Groups that can be viewed.
-use Rattle.std.proofs.Common.{◌≡◌, ℕ, ◌+◌, List, [], ◌∷◌, length, Option, None, Some, refl, sym, ap, subst}
-use Rattle.std.specs.Prelude.{⊤, slice_get, MatchOption}
+use Rattle.std.proofs.Common.{ℕ, ◌+◌, List, [], ◌∷◌, length, Option, None, Some}
+use Rattle.std.specs.Prelude.{⊤, MatchOption}
 use Rattle.std.specs.FinSet.{FinSet}
 use Rattle.std.specs.List.{AllByRecursion}
 use Rattle.std.specs.Ordering.{nat_cmp}

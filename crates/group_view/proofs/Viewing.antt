@@ -1,5 +1,5 @@
 -- What slots show, one after another.
-use Rattle.std.proofs.Common.{◌≡◌, ℕ, ◌+◌, ◌<◌, List, [], ◌∷◌, ◌++◌, length, get_or, drop, sym, ap, ◌∙◌, rules}
+use Rattle.std.proofs.Common.{◌≡◌, ℕ, ◌+◌, ◌<◌, List, [], ◌∷◌, ◌++◌, length, get_or, drop, ap, ◌∙◌}
 use Rattle.pvd_value.specs.Data.{Data, Row, more}
 use Rattle.pvd_value.specs.View.{view, row_view}
 use Rattle.pvd_value.specs.declared.value.PvValue.{PvValue}

@@ -1,6 +1,6 @@
 -- The slots of a group, one after another.
 use Rattle.std.proofs.Common.{◌≡◌, ℕ, zero, suc, ◌+◌, ◌<◌, ◌≤◌, List, [], ◌∷◌, ◌++◌, length, get_or, drop, map, true, if◌then◌else◌, Option, Some, None, refl, sym, ap, ◌∙◌, arith, rules, add-one}
-use Rattle.std.proofs.lemmas.List.{map_push, append_assoc}
+use Rattle.std.proofs.lemmas.List.{append_assoc}
 use Rattle.std.proofs.Math.Seq.{drop-cons}
 use Rattle.std.proofs.Math.ListN.{drop_of_length-le}
 use Rattle.std.specs.Global.{Vec}
@@ -11,12 +11,12 @@ use Rattle.pvd_type.proofs.At.{lone}
 use Rattle.pvd_type.specs.declared.shape.Member.{Member}
 use Rattle.pvd_type.proofs.Walks.{member_is, members_from}
 use Rattle.group_view.specs.Leaves.{sources, sources_among, member_in, shown_at}
-use Rattle.group_view.specs.Seen.{branch_step, named_step, branch_seen, named_seen, slots_in, slots_seen}
+use Rattle.group_view.specs.Seen.{branch_step, named_step, branch_seen, named_seen, slots_seen}
 use Rattle.group_view.specs.Slots.{Slot, shows, level, Slots, no_slots, slot}
 use Rattle.group_view.specs.Types.{slot_tree, slot_fields}
 use Rattle.group_view.specs.Sources.{Source}
 use Rattle.group_view.specs.declared.slots.Named.{Named, fold_out-Named}
-use Rattle.group_view.specs.declared.slots.Branch.{Branch, Shows, Level, the_lemmas}
+use Rattle.group_view.specs.declared.slots.Branch.{Shows, Level, the_lemmas}
 
 pub named_is : (n : Named) → named_seen n ≡ (n.name, branch_seen n.branch)
 named_is n = fold_out-Named Slot (List ℕ × Slot) branch_step named_step n

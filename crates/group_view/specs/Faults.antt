@@ -1,6 +1,6 @@
 -- Which groups have no type, and why (QSRV manual, "Group PV definitions").
 use Rattle.std.specs.Prelude.{◌≡◌, ⊤, ℕ, Bool, true, false, not, ◌&&◌, ◌||◌, ◌==◌, List, [], ◌∷◌, ◌++◌, length}
-use Rattle.std.specs.Prelude.{codes, get_or, take, Option, None, Some, option_map, if◌then◌else◌}
+use Rattle.std.specs.Prelude.{codes, get_or, take, Option, Some, option_map, if◌then◌else◌}
 use Rattle.std.specs.Borrow.{Bor}
 use Rattle.std.specs.BTreeSet.{BTreeSet, contains_by}
 use Rattle.std.specs.Cmp.Lexicographic.{slice_cmp}
@@ -11,12 +11,10 @@ use Rattle.pvd_type.specs.Check.{type_fault}
 use Rattle.pvd_type.specs.Numbers.{path_of}
 use Rattle.group_defs.specs.declared.def.MemberKind.{MemberKind}
 use Rattle.group_defs.specs.declared.def.MemberKind.TheVariants as kinds
-use Rattle.group_defs.specs.declared.def.MemberDef.{MemberDef}
 use Rattle.group_defs.specs.declared.fault.GroupFault.{GroupFault}
 use Rattle.group_defs.specs.declared.fault.GroupFault.TheVariants as faults
 use Rattle.group_view.specs.Groups.{GroupData}
 use Rattle.group_view.specs.declared.member.Member.{Member}
-use Rattle.group_view.specs.Slots.{alarm_path, time_path}
 use Rattle.group_view.specs.Types.{group_tree}
 
 abbrev pub holds_members : MemberKind → Bool

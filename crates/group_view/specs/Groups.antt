@@ -1,5 +1,5 @@
 -- A group as it is served: its definition, and beside each member the record that it is about.
-use Rattle.std.specs.Prelude.{ℕ, Bool, List, map, Option, None, Some, slice_get, option_map, ⊤, ◌≡◌, MatchOption}
+use Rattle.std.specs.Prelude.{ℕ, Bool, List, map, Option, Some, slice_get, option_map, ⊤, ◌≡◌, MatchOption}
 use Rattle.std.specs.Option.{option_and_then}
 use Rattle.std.specs.List.{AllByRecursion}
 use Rattle.rec_kinds.specs.Configs.{Config}

@@ -1,5 +1,5 @@
 -- Which leaves of a group which member shows, what a record triggers, and what is read for it.
-use Rattle.std.specs.Prelude.{ℕ, suc, Bool, false, ◌==◌, ◌&&◌, true, List, [], ◌∷◌, ◌++◌, map, fold, filter}
+use Rattle.std.specs.Prelude.{ℕ, suc, Bool, false, ◌==◌, true, List, [], ◌∷◌, ◌++◌, map, fold, filter}
 use Rattle.std.specs.Prelude.{Option, None, Some, slice_get, option_map, if◌then◌else◌}
 use Rattle.std.specs.Option.{option_and_then, option_map_or}
 use Rattle.std.specs.declared.vec.Vec.{Vec}

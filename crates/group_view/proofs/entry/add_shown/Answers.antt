@@ -1,6 +1,6 @@
-use Rattle.std.proofs.Common.{◌≡◌, [], length, sym, ap, ◌∙◌, rules}
+use Rattle.std.proofs.Common.{◌≡◌, length, rules}
 use Rattle.group_view.proofs.Placing.{on_ok}
-use Rattle.group_view.proofs.Entering.{alarm_is, time_is, meta_added}
+use Rattle.group_view.proofs.Entering.{meta_added}
 use Rattle.group_view.proofs.entry.add_shown.Goals as goal
 
 pub returns-in-Meta : goal.returns-in-Meta

@@ -1,4 +1,4 @@
-use Rattle.std.proofs.Common.{◌≡◌, List, ℕ, Bool, true, false, not, ◌&&◌, ◌||◌, ◌∙◌, sym, ap, cond}
+use Rattle.std.proofs.Common.{List, ℕ, true, not, ◌&&◌, ◌||◌, ◌∙◌, ap, cond}
 use Rattle.std.proofs.lemmas.Map.Text.{is_eq-slice_cmp}
 use Rattle.std.specs.Str.{bytes_eq}
 use Rattle.group_view.specs.Faults.{has_name}

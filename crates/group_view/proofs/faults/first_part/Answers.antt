@@ -1,4 +1,4 @@
-use Rattle.std.proofs.Common.{Some, None, eqb, List, ℕ, ◌∷◌, sym, ap, ◌∙◌, arith}
+use Rattle.std.proofs.Common.{Some, None, eqb, List, ℕ, sym, ap, ◌∙◌, arith}
 use Rattle.std.proofs.lemmas.List.Splits.{slice_split_first}
 use Rattle.std.proofs.lemmas.Str.Pattern.{split_once_first, split_parts}
 use Rattle.std.specs.Str.{bytes_eq}

@@ -1,5 +1,4 @@
-use Rattle.std.proofs.Common.{◌≡◌, true, false, sym, ◌∙◌, rules}
-use Rattle.group_view.specs.Faults.{is_cut}
+use Rattle.std.proofs.Common.{sym, ◌∙◌}
 use Rattle.group_view.proofs.Misplacing.{cut_here, cut_later}
 use Rattle.group_view.proofs.faults.is_below.Goals as goal
 

@@ -1,4 +1,4 @@
-use Rattle.std.proofs.Common.{◌≡◌, ◌++◌, map}
+use Rattle.std.proofs.Common.{◌≡◌, map}
 use Rattle.group_view.specs.Groups.{member_of}
 use Rattle.group_view.specs.Seen.{configs_seen}
 use Rattle.group_view.proofs.member.members_of.Given as goal

@@ -1,11 +1,10 @@
-use Rattle.std.proofs.Common.{◌≡◌, ◌∙◌, ◌+◌, ◌≤◌, sym, ap, subst, get_or, length, drop, refl, true, rules, arith}
+use Rattle.std.proofs.Common.{◌≡◌, ◌∙◌, ◌+◌, ◌≤◌, sym, ap, subst, get_or, length, drop, refl, rules, arith}
 use Rattle.pvd_type.specs.Numbers.{numbered, numbered_fields}
-use Rattle.pvd_value.specs.Data.{Row, end}
+use Rattle.pvd_value.specs.Data.{end}
 use Rattle.pvd_value.specs.Fits.{row_fits}
-use Rattle.pvd_value.specs.View.{view, row_view}
-use Rattle.pvd_value.proofs.Rows.{joined, joined_end}
+use Rattle.pvd_value.proofs.Rows.{joined_end}
 use Rattle.group_view.specs.Seen.{branch_seen, slots_seen}
-use Rattle.group_view.specs.Slots.{Slots, no_slots, level}
+use Rattle.group_view.specs.Slots.{no_slots, level}
 use Rattle.group_view.specs.Types.{slot_tree, slot_fields}
 use Rattle.group_view.specs.Views.{slots_shown, IsRowPart, IsReadyUnder, AreReadyUnder}
 use Rattle.group_view.proofs.Walks.{slots_over, level_is, size_of, sizes_of, size_within}

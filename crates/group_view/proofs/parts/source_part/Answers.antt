@@ -1,8 +1,7 @@
-use Rattle.std.proofs.Common.{◌≡◌, length, arith, refl, sym, ap, ◌∙◌, true, Result, Ok, Err, IfOk}
+use Rattle.std.proofs.Common.{◌≡◌, length, arith, refl, ap, ◌∙◌}
 use Rattle.pvd_value.specs.Blank.{blank_of}
 use Rattle.pvd_value.specs.Fits.{fits_of}
 use Rattle.pvd_value.specs.View.{view}
-use Rattle.pvd_value.specs.declared.value.PvValue.{PvValue}
 use Rattle.pvd_value.specs.Data.{Data}
 use Rattle.pvd_type.specs.Numbers.{numbered}
 use Rattle.pvd_type.specs.Tree.{Tree}

@@ -1,6 +1,5 @@
-use Rattle.std.proofs.Common.{◌≡◌, get_or, sym, ap, ◌∙◌, rules}
+use Rattle.std.proofs.Common.{◌≡◌, get_or, rules}
 use Rattle.pvd_value.specs.View.{view}
-use Rattle.group_view.specs.Puts.{IsWritten}
 use Rattle.group_view.proofs.Putting.{actions_more, may_more, writer_more}
 use Rattle.group_view.proofs.puts.actions_of.Goals as goal
 

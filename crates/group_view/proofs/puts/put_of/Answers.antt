@@ -1,4 +1,4 @@
-use Rattle.std.proofs.Common.{◌≡◌, sym, ap, ◌∙◌}
+use Rattle.std.proofs.Common.{sym, ap, ◌∙◌}
 use Rattle.pvd_value.specs.Fits.{fits_of}
 use Rattle.pvd_value.specs.View.{view}
 use Rattle.rec_kinds.specs.Configs.{Config}

@@ -1,9 +1,6 @@
-use Rattle.std.proofs.Common.{◌≡◌, ◌++◌, ◌∙◌, ◌+◌, sym, ap, get_or, map, drop, rules}
-use Rattle.pvd_type.specs.Numbers.{numbered}
+use Rattle.std.proofs.Common.{◌≡◌, ◌++◌, ◌∙◌, sym, ap, get_or, rules}
 use Rattle.pvd_type.specs.View.{shape_view}
-use Rattle.pvd_type.proofs.At.{lone}
 use Rattle.pvd_type.proofs.Shapes.{unentered}
-use Rattle.group_view.specs.Leaves.{shown_at}
 use Rattle.group_view.proofs.Walks.{nodes_more, lone_shown}
 use Rattle.group_view.proofs.shapes.+nodes.Goals as goal
 

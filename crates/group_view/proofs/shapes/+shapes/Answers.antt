@@ -1,7 +1,5 @@
-use Rattle.std.proofs.Common.{◌≡◌, ◌++◌, ◌∙◌, ◌+◌, sym, ap, get_or, map, drop, rules}
-use Rattle.std.proofs.lemmas.List.{append-nil}
+use Rattle.std.proofs.Common.{◌≡◌, ◌∙◌, sym, ap, get_or, rules}
 use Rattle.pvd_type.specs.View.{members_view}
-use Rattle.group_view.specs.Leaves.{sources_among, member_in}
 use Rattle.group_view.specs.Types.{slot_fields}
 use Rattle.group_view.proofs.Walks.{slots_over, joined, joined_end, members_more, shown_more}
 use Rattle.group_view.proofs.shapes.+shapes.Goals as goal

@@ -1,6 +1,6 @@
-use Rattle.std.proofs.Common.{◌≡◌, List, [], sym, ap, ◌∙◌, arith}
+use Rattle.std.proofs.Common.{◌≡◌, [], sym, ap, ◌∙◌, arith}
 use Rattle.group_view.specs.Seen.{slots_seen}
-use Rattle.group_view.specs.Slots.{Slots, in_last, with_last}
+use Rattle.group_view.specs.Slots.{in_last, with_last}
 use Rattle.group_view.proofs.Placing.{taken_level, taken_none, nothing_left}
 use Rattle.group_view.proofs.slots.take_last.Goals.{in-Some+in-Err+in_ok-push-in-Err, in_default}
 use Rattle.group_view.proofs.slots.take_last.Goals as goal

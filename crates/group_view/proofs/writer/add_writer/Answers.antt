@@ -1,4 +1,4 @@
-use Rattle.std.proofs.Common.{◌≡◌, sym, ap, ◌∙◌, ℕ, ℤ, Some, SFits, w32, to_z-of_z, rules}
+use Rattle.std.proofs.Common.{sym, ap, ◌∙◌, ℤ, Some, SFits, w32, to_z-of_z, rules}
 use Rattle.std.specs.BTreeMap.{insert_entry}
 use Rattle.group_view.specs.Puts.{with_writer, placed_by, place_cmp}
 use Rattle.group_view.proofs.writer.add_writer.Goals as goal

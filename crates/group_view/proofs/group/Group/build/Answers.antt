@@ -1,8 +1,8 @@
-use Rattle.std.proofs.Common.{◌≡◌, ◌<◌, ℕ, List, length, map, true, false, sym, ap, ◌∙◌, subst, arith}
+use Rattle.std.proofs.Common.{◌≡◌, ◌<◌, ℕ, List, length, map, sym, ap, ◌∙◌, subst}
 use Rattle.std.specs.Prelude.{⊤, MatchOption}
 use Rattle.std.specs.List.{AllByRecursion}
 use Rattle.group_view.specs.Faults.{is_misplaced, is_doubled}
-use Rattle.group_view.specs.Groups.{GroupData, member_of, group_of, IsLinkOf, IsOver}
+use Rattle.group_view.specs.Groups.{member_of, group_of, IsLinkOf, IsOver}
 use Rattle.group_view.specs.Seen.{configs_seen}
 use Rattle.group_view.specs.declared.member.Member.{Member}
 use Rattle.group_view.proofs.Keeping.{placed_fault, single_fault, within_of, over_of, length_defs}

@@ -3,11 +3,11 @@ use Rattle.pvd_type.specs.Numbers.{numbered, numbered_fields}
 use Rattle.pvd_type.specs.Tree.{Tree}
 use Rattle.pvd_value.specs.Data.{Data, members}
 use Rattle.pvd_value.specs.Fits.{fits_of, row_fits}
-use Rattle.pvd_value.specs.View.{view, row_view}
+use Rattle.pvd_value.specs.View.{row_view}
 use Rattle.group_view.specs.Groups.{GroupData}
 use Rattle.group_view.specs.Seen.{slots_seen}
 use Rattle.group_view.specs.Slots.{level, structure_of}
-use Rattle.group_view.specs.Types.{group_tree, slot_tree, slot_fields}
+use Rattle.group_view.specs.Types.{group_tree, slot_fields}
 use Rattle.group_view.specs.Views.{slots_shown, group_shown, IsPart, IsRowPart, AreReadyUnder}
 use Rattle.group_view.proofs.Keeping.{view_struct, tree_is, under_is, part_is}
 use Rattle.group_view.proofs.group.Group.marked_part.Goals as goal

@@ -9,7 +9,7 @@ use Rattle.group_view.specs.Groups.{GroupData}
 use Rattle.group_view.specs.Leaves.{sources, member_in, is_number, places, leaves_at, records_of}
 use Rattle.group_view.specs.Puts.{writers_among}
 use Rattle.group_view.specs.Seen.{slots_seen}
-use Rattle.group_view.specs.Slots.{Slots, level, slots_of, in_order, entries_of}
+use Rattle.group_view.specs.Slots.{level, slots_of, in_order, entries_of}
 use Rattle.group_view.specs.Types.{slot_tree}
 use Rattle.group_view.specs.declared.member.Member.{Member}
 use Rattle.group_view.proofs.Keeping.{shown_few, built_is, structure_is, shape_fault_is, fault_free}

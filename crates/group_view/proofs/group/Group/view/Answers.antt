@@ -3,10 +3,9 @@ use Rattle.pvd_value.specs.Data.{Data, members}
 use Rattle.pvd_value.specs.Fits.{fits_of}
 use Rattle.group_view.specs.Groups.{GroupData, HasState}
 use Rattle.group_view.specs.Seen.{slots_seen}
-use Rattle.group_view.specs.Slots.{Slots, level, structure_of, EachOfShown}
+use Rattle.group_view.specs.Slots.{level, structure_of, EachOfShown}
 use Rattle.group_view.specs.Types.{group_tree}
-use Rattle.group_view.specs.Views.{slots_shown, group_shown}
-use Rattle.pvd_value.specs.View.{view}
+use Rattle.group_view.specs.Views.{slots_shown}
 use Rattle.group_view.proofs.Keeping.{view_struct, slots_ready_for, shown_is, shown_fits}
 use Rattle.group_view.proofs.group.Group.view.Goals as goal
 
