@@ -38,7 +38,7 @@ use Rattle.desk_api.specs.declared.mark.Mark.TheVariants.{Read, Entered, Overwei
 
 -- ---- a group's records have states that they may be in
 
-state_for : (configs : List Config) (states : List RecState) (n : ℕ) (config : Config) → AreValid configs states → slice_get configs n ≡ Some config → (s : RecState) × (slice_get states n ≡ Some s)
+pub state_for : (configs : List Config) (states : List RecState) (n : ℕ) (config : Config) → AreValid configs states → slice_get configs n ≡ Some config → (s : RecState) × (slice_get states n ≡ Some s)
 state_for [] states n config valid is = absurd (cc is)
 state_for (c ∷ configs) [] n config valid is = absurd valid
 state_for (c ∷ configs) (s ∷ states) zero config valid is = (s, refl)
@@ -125,11 +125,11 @@ set_same a states rec n s long found same = set_by a states rec n s (eqb rec n) 
 long_set : (a states : List RecState) (rec : ℕ) (s : RecState) → length a ≡ length states → length (set a rec s) ≡ length states
 long_set a states rec s long = length-set a rec s ∙ long
 
-abbrev first_or : {A : Type 0} → A → List A → A
+abbrev pub first_or : {A : Type 0} → A → List A → A
 first_or d [] = d
 first_or d (x ∷ xs) = x
 
-abbrev rest_of : {A : Type 0} → List A → List A
+abbrev pub rest_of : {A : Type 0} → List A → List A
 rest_of [] = []
 rest_of (x ∷ xs) = xs
 

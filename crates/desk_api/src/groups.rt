@@ -111,7 +111,7 @@ fn empty_lists(alloc: Global, count: usize) -> Result<Vec<Vec<u32>>, NoMemory>
     ensures { IfOk result (λ lists. map (λ v. v.items) lists.items ≡ replicate count []) }
 {
     let mut lists = Vec::with_capacity(alloc, count)?;
-    for _ in 0..count {
+    for _rec in 0..count {
         lists.push(Vec::new(alloc))?;
     }
     Ok(lists)
@@ -197,7 +197,8 @@ impl Groups {
 
     /// The number of groups.
     pub(crate) fn len(&self) -> usize
-        ensures { result ≡ length self.now }
+        ensures count { result ≡ length self.now }
+        ensures few { result ≤ 1024 }
     {
         self.groups.len()
     }

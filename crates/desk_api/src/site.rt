@@ -230,10 +230,11 @@ impl Site {
         self.config(rec).port()
     }
 
-    /// A group, by its number.
+    /// A group, by its number. It is over the records of this site.
     pub fn group(&self, number: usize) -> &Group
         requires { number < length self.now.groups }
-        ensures { slice_get self.now.groups number ≡ Some result.now }
+        ensures found { slice_get self.now.groups number ≡ Some result.now }
+        ensures over { IsOver self.now.configs result.now }
     {
         self.groups.at(number)
     }
