@@ -221,6 +221,19 @@ impl Site {
         self.records.opening_at(rec)
     }
 
+    /// The states of all records at the opening, in their order.
+    pub fn opening_states(&self, alloc: Global) -> Result<Vec<RecState>, NoMemory>
+        ensures states { IfOk result (λ states. states.items ≡ self.now.opening) }
+        ensures valid { IfOk result (λ states. AreValid self.now.configs states.items) }
+    {
+        let count = self.records();
+        let mut states = Vec::with_capacity(alloc, count)?;
+        for rec in 0..count {
+            states.push(self.opening(rec).clone_in(alloc)?)?;
+        }
+        Ok(states)
+    }
+
     /// Where the port of a record leads, by the record's number. None exactly where it has none (EPICS record reference, "DTYP",
     /// "OUT").
     pub fn port(&self, rec: usize) -> Option<&str>
