@@ -225,20 +225,15 @@ impl Groups {
     }
 
     /// Adds the records that groups read for the leaves that they post when this record changes.
-    pub(crate) fn add_footprints(
-        &self,
-        alloc: Global,
-        rec: u32,
-        found: &mut Vec<u32>,
-    ) -> Result<(), NoMemory>
+    pub(crate) fn add_footprints(&self, rec: u32, found: &mut Vec<u32>) -> Result<(), NoMemory>
         ensures { OnOk result (grouping.AreRead self.now rec found.old.items found.new.items) }
     {
         let Some(numbers) = self.of_record.get(rec as usize) else {
             return Ok(());
         };
         for number in numbers {
-            let read = self.at(*number as usize).footprint(alloc, rec)?;
-            found.extend_from_slice(read.as_slice())?;
+            let read = self.at(*number as usize).footprint(rec);
+            found.extend_from_slice(read)?;
         }
         Ok(())
     }

@@ -170,18 +170,18 @@ impl Site {
         are_over(self);
         let mut found = Vec::with_capacity(alloc, actions.len())?;
         for (rec, _) in actions {
-            self.add_held(alloc, *rec, &mut found)?;
+            self.add_held(*rec, &mut found)?;
         }
         in_rising_order(&mut found);
         Ok(found)
     }
 
     /// Adds the records that are held with one that is written.
-    fn add_held(&self, alloc: Global, rec: u32, found: &mut Vec<u32>) -> Result<(), NoMemory>
+    fn add_held(&self, rec: u32, found: &mut Vec<u32>) -> Result<(), NoMemory>
         ensures { OnOk result ((r : ℕ) → is_among found.new.items r ≡ (is_among found.old.items r || is_held_with self.now r rec)) }
     {
         found.push(rec)?;
-        self.groups.add_footprints(alloc, rec, found)
+        self.groups.add_footprints(rec, found)
     }
 
     /// Whether gets and puts of the channel are atomic: those of a group as is wanted, or else as its flag says; those of other

@@ -292,10 +292,10 @@ fn a_request_decides_whether_a_group_is_atomic(rt: HostRuntime) -> Result<(), Fa
 }
 
 /// The set of these numbers.
-fn mask_of(alloc: Global, leaves: &[u32]) -> Result<BitSet, NoMemory> {
+fn mask_of(alloc: Global, leaves: &[u16]) -> Result<BitSet, NoMemory> {
     let mut mask = BitSet::new(alloc);
     for leaf in leaves {
-        mask.insert(*leaf)?;
+        mask.insert(u32::from(*leaf))?;
     }
     Ok(mask)
 }
@@ -320,7 +320,7 @@ fn numbers_in(alloc: Global, numbers: &[u32]) -> Result<String, NoMemory> {
 
 /// What a channel reads, what a put of these leaves of its opening value does in which order, and what an entry of it holds:
 /// records by their numbers.
-fn records_by(alloc: Global, site: &Site, name: &str, leaves: &[u32]) -> Result<String, NoMemory> {
+fn records_by(alloc: Global, site: &Site, name: &str, leaves: &[u16]) -> Result<String, NoMemory> {
     let Some(channel) = channel_named(site, name) else {
         return Err(NoMemory);
     };

@@ -20,7 +20,7 @@ build-requires c =
     let defs = c.args.defs.items in
     let road = YieldsList-from_vec defs c.into_iter-def-iterator.ensures.into_iter_gives.0 (c.into_iter-def-iterator.ensures.into_iter_gives.1 ∙ c.args.defs.ok.0) in
     let turn = YieldsList-turn road c.loop-def.yielded c.loop-def.def-iterator c.loop-def.yielded_by c.next.result c.next.new.self c.in-Some.def c.in-Some.is c.next.ensures.steps in
-    record { sound = all_at (IsGroup (length c.args.configs.now)) defs (length c.loop-def.yielded) c.in-Some.def c.requires.all_groups (there defs (length c.loop-def.yielded) c.in-Some.def turn.0 turn.1) }
+    all_at (IsGroup (length c.args.configs.now)) defs (length c.loop-def.yielded) c.in-Some.def c.requires.all_groups (there defs (length c.loop-def.yielded) c.in-Some.def turn.0 turn.1)
 
 pub returns-in-Err-clause-fault : goal.returns-in-Err-clause-fault
 returns-in-Err-clause-fault c =
@@ -39,9 +39,9 @@ loop-def-preserved c =
     let configs = configs_seen c.args.configs.now in
     let built = c.in-Ok.ensures {u = tt} in
     let pushed = (c.in_ok-push-in-Ok.ensures {u = tt}).items in
-    let more : c.push.new.self.items ≡ c.loop-def.groups.items ++ group_of configs c.in-Some.def ∷ [] = pushed ∙ ap (λ (g : GroupData). c.loop-def.groups.items ++ g ∷ []) built.ok in (
+    let more : c.push.new.self.items ≡ c.loop-def.groups.items ++ group_of configs c.in-Some.def ∷ [] = pushed ∙ ap (λ (g : GroupData). c.loop-def.groups.items ++ g ∷ []) built.group in (
       more ∙ ap (λ (l : List GroupData). l ++ group_of configs c.in-Some.def ∷ []) c.loop-def.invariant.0 ∙ sym (map-append (group_of configs) c.loop-def.yielded (c.in-Some.def ∷ [])),
-      ap first_group_fault more ∙ faultless_more c.loop-def.groups.items (group_of configs c.in-Some.def) c.loop-def.invariant.1 built.faultless,
+      ap first_group_fault more ∙ faultless_more c.loop-def.groups.items (group_of configs c.in-Some.def) c.loop-def.invariant.1 (ap group_fault (sym built.group) ∙ built.faultless),
     )
 
 pub returns-clause-ok : goal.returns-clause-ok

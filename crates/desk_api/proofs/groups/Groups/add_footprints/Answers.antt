@@ -64,7 +64,7 @@ loop-number-preserved c = λ n.
     let i = c.loop-number.number-index in
     let at = slice_get-get_or numbers i 0 c.loop-number-test.true in
     let more : c.extend_from_slice.new.self.items ≡ c.loop-number.found.items ++ footprint c.at.result.now c.args.rec =
-    (c.in_ok-extend_from_slice.ensures {u = tt}).items ∙ ap (λ (l : List ℕ). c.loop-number.found.items ++ l) (c.as_slice.ensures.value ∙ (c.in_ok-read.ensures {u = tt})) in
+    (c.in_ok-extend_from_slice.ensures {u = tt}).items ∙ ap (λ (l : List ℕ). c.loop-number.found.items ++ l) c.footprint-read.ensures in
     read_more c.args.self.now c.args.rec n (get_or numbers i 0) (take i numbers) c.args.found.now.items c.loop-number.found.items c.extend_from_slice.new.self.items c.at.result.now c.at.ensures (c.loop-number.invariant n) more
     ∙ ap (λ (l : List ℕ). is_among c.args.found.now.items n || list_any (λ k. is_read (slice_get c.args.self.now k) c.args.rec n) l) (sym (next_taken numbers i _ at))
 
