@@ -78,7 +78,7 @@ slice_kept (y ∷ xs) ys (suc j) x h = slice_kept xs ys j x h
 -- ---- under the first number of a member stands this type
 
 module _ (head : Tree) where
-  abbrev IsHead : Option ℕ → List Tree → Type 0
+  abbrev pub IsHead : Option ℕ → List Tree → Type 0
   IsHead None ts = ⊤
   IsHead (Some j) ts = slice_get ts j ≡ Some head
 

@@ -1,5 +1,5 @@
 -- What a group keeps is its definition's.
-use Rattle.std.proofs.Common.{◌≡◌, ℕ, zero, suc, ◌+◌, ◌<◌, ◌≤◌, Bool, true, false, cond, ◌||◌, eqb, ℤ, List, [], ◌∷◌, ◌++◌, length, get_or, take, map, fold, Option, None, Some, option_map, Result, Ok, Err, refl, sym, ap, ◌∙◌, subst, arith, inl, inr}
+use Rattle.std.proofs.Common.{◌≡◌, ℕ, zero, suc, ◌+◌, ◌<◌, ◌≤◌, Bool, true, false, cond, ◌||◌, eqb, ℤ, List, [], ◌∷◌, ◌++◌, length, get_or, take, map, fold, Option, None, Some, option_map, Result, Ok, Err, refl, sym, ap, ◌∙◌, subst, arith, inl, inr, rules}
 use Rattle.std.specs.Prelude.{⊤, slice_get, MatchOption}
 use Rattle.std.specs.BTreeMap.{insert_entry}
 use Rattle.std.specs.BTreeSet.{insert_key}
@@ -25,13 +25,15 @@ use Rattle.std.specs.Global.{Vec}
 use Rattle.std.specs.declared.vec.Vec.{Vec as OwnVec}
 use Rattle.rec_kinds.specs.Configs.{Config}
 use Rattle.rec_kinds.specs.declared.state.RecState.{RecState}
+use Rattle.group_defs.specs.Sound.{IsMember}
+use Rattle.group_defs.specs.declared.def.MemberDef.{MemberDef}
 use Rattle.group_defs.specs.declared.fault.GroupFault.{GroupFault}
 use Rattle.group_defs.specs.declared.fault.GroupFault.TheVariants as faults
 use Rattle.group_defs.specs.declared.def.MemberKind.{MemberKind}
 use Rattle.group_defs.specs.declared.def.MemberKind.TheVariants as kinds
 use Rattle.group_view.specs.Built.{reach_by, reach_of, is_in, Reaches, IsShapeFault, IsBuilt}
 use Rattle.group_view.specs.Faults.{is_misplaced, is_doubled, group_fault, IsGroupFault}
-use Rattle.group_view.specs.Groups.{GroupData, IsLinkOf, IsOver, IsReady, AreReady, HasState}
+use Rattle.group_view.specs.Groups.{GroupData, link_of, member_of, IsLinkOf, IsOver, IsReady, AreReady, HasState}
 use Rattle.group_view.specs.Leaves.{sources, member_in, is_number, is_of, places, leaves_of, leaves_at, is_about, triggered_by, triggered, rising, records_read, footprint, records_of}
 use Rattle.group_view.specs.Links.{Link}
 use Rattle.rec_fields.specs.Plain.{plain_tree}
@@ -99,11 +101,12 @@ is_in_push [] rec q = or_more (eqb rec q) false
 is_in_push (r ∷ recs) rec q =
     elim (eqb r q) as (λ b. (b || is_in (recs ++ rec ∷ []) q) ≡ ((b || is_in recs q) || eqb rec q)) [ true ↦ refl | false ↦ is_in_push recs rec q ]
 
-pub reaches_more : (reach : ℕ → Reach) (recs : List ℕ) (i rec : ℕ) (before after : ℕ → Option Reach) → i < length recs → get_or recs i rec ≡ rec
-    → ((q : ℕ) → after q ≡ cond (eqb rec q) (Some (reach rec)) (before q)) → Reaches (take i recs) reach before → Reaches (take (i + 1) recs) reach after
-reaches_more reach recs i rec before after within here added so_far q =
+pub reaches_more : (reach : ℕ → Reach) (recs : List ℕ) (i : ℕ) (before after : ℕ → Option Reach) → i < length recs
+    → ((q : ℕ) → after q ≡ cond (eqb (get_or recs i 0) q) (Some (reach (get_or recs i 0))) (before q)) → Reaches (take i recs) reach before → Reaches (take (i + 1) recs) reach after
+reaches_more reach recs i before after within added so_far q =
+    let rec = get_or recs i 0 in
     let there : is_in (take (i + 1) recs) q ≡ (is_in (take i recs) q || eqb rec q) =
-    ap (λ (xs : List ℕ). is_in xs q) (take_more recs i rec within) ∙ is_in_push (take i recs) (get_or recs i rec) q ∙ ap (λ r. is_in (take i recs) q || eqb r q) here in
+    ap (λ (xs : List ℕ). is_in xs q) (take_more recs i 0 within) ∙ is_in_push (take i recs) rec q in
     added q
     ∙ (elim (eqb_tells rec q) [
       | inl p ↦
@@ -142,21 +145,21 @@ in_rising q ks (n ∷ ns) = in_rising q (insert_key nat_cmp ks n) ns ∙ ap (λ 
     swap : (a b c : Bool) → (a || (b || c)) ≡ ((b || a) || c)
     swap true true c = refl
     swap true false c = refl
-    swap false b c = refl
+    swap false true c = refl
+    swap false false c = refl
 
 none_about : (q : ℕ) (ms : List Member) → is_in (filter_map (λ m. option_map (λ l. l.rec) m.link) ms) q ≡ false → triggered_by ms q ≡ []
 none_about q [] h = refl
-none_about q (m ∷ ms) h = by m.link h
-  where
-    by : (o : Option Link) → is_in (cons_option (option_map (λ l. l.rec) o) (filter_map (λ (m : Member). option_map (λ l. l.rec) m.link) ms)) q ≡ false
-        → flat_map (λ (x : Member). x.def.trigger) (cond (is_about q o) (m ∷ filter (λ (x : Member). is_about q x.link) ms) (filter (λ (x : Member). is_about q x.link) ms)) ≡ []
-    by None h = none_about q ms h
-    by (Some l) h =
-        elim (eqb l.rec q) as (λ b. (b || is_in (filter_map (λ (m : Member). option_map (λ l. l.rec) m.link) ms) q) ≡ false
-          → flat_map (λ (x : Member). x.def.trigger) (cond b (m ∷ filter (λ (x : Member). is_about q x.link) ms) (filter (λ (x : Member). is_about q x.link) ms)) ≡ []) [
-            | true ↦ λ e. absurd (false≢true (sym e))
-            | false ↦ λ e. none_about q ms e
-          ] h
+none_about q (m ∷ ms) h =
+    let recs = filter_map (λ (x : Member). option_map (λ l. l.rec) x.link) ms in
+    let rest = filter (λ (x : Member). is_about q x.link) ms in
+    elim m.link as (λ o. is_in (cons_option (option_map (λ l. l.rec) o) recs) q ≡ false → flat_map (λ (x : Member). x.def.trigger) (cond (is_about q o) (m ∷ rest) rest) ≡ []) [
+      | None ↦ λ e. none_about q ms e
+      | Some l ↦ λ e. elim (eqb l.rec q) as (λ b. (b || is_in recs q) ≡ false → flat_map (λ (x : Member). x.def.trigger) (cond b (m ∷ rest) rest) ≡ []) [
+          | true ↦ λ f. absurd (false≢true (sym f))
+          | false ↦ λ f. none_about q ms f
+        ] e
+    ] h
 
 pub no_record : (g : GroupData) (q : ℕ) → is_in (records_of g.members) q ≡ false → triggered_by g.members q ≡ []
 no_record g q h = none_about q g.members (either _ _ (sym (in_rising q [] (filter_map (λ m. option_map (λ l. l.rec) m.link) g.members)) ∙ h))
@@ -215,8 +218,9 @@ own_are g own shown long is each n =
     elim (cases_lt n (length g.members)) [
       | inl lt ↦ each n lt ∙ ap (places (is_number n) 0) is ∙ places_seen n 0 (sources (structure_of g))
       | inr ge ↦
-        ap (λ (o : Option _). option_map_or (λ v. v.items) o []) (get_past own n (omega (arith, long, ge)))
-        ∙ sym (no_places n 0 (sources (structure_of g)) (each_then _ _ (other_member g.members n ge) _ (each_there (IsFrom g.members) _ (from_members g.members))))
+        ap (λ (o : Option (OwnVec ℕ _)). option_map_or (λ v. v.items) o []) (get_past own n (omega (arith, long, ge)))
+        ∙ sym (no_places n 0 (sources (structure_of g)) (each_then (λ o. IfSome o (IsFrom g.members)) (λ o. is_of n o ≡ false) (other_member g.members n ge) (sources (level g.id (slots_of (in_order (entries_of g.members)))))
+          (each_there (IsFrom g.members) (level g.id (slots_of (in_order (entries_of g.members)))) (from_members g.members))))
     ]
 
 -- ---- the writable members
@@ -347,7 +351,6 @@ unfolding group_fault
 shape_fault_is g slots t fault structure is placed single h = by fault h
   where
     whole : group_fault g ≡ option_map faults.Shape (type_fault t)
-    unfolding group_fault
     whole =
         ap (λ b. cond b (Some (faults.BadMember g.name)) (cond (is_doubled g.members) (Some (faults.SameMember g.name)) (option_map faults.Shape (type_fault (group_tree g))))) placed
         ∙ ap (λ b. cond b (Some (faults.SameMember g.name)) (option_map faults.Shape (type_fault (group_tree g)))) single
@@ -383,3 +386,61 @@ pub writers_are : (g : GroupData) (leaves : ℕ → List ℕ) (writable : List W
     → writable ≡ map (λ e. e.1) (writers_among leaves [] (enumerate_from 0 g.members)) → writable ≡ writers g
 unfolding writers
 writers_are g leaves writable same is = is ∙ (λ i. map (λ e. e.1) (writers_among (λ n. same n i) [] (enumerate_from 0 g.members)))
+
+-- ---- what is kept of members is built of them
+
+pub shown_few : (shown : List (Option ℕ)) (t : Slot) (ty : Tree) → shown ≡ map member_in (sources t) → ty ≡ slot_tree t → length (numbered ty) ≤ 4096 → length shown ≤ 4096
+shown_few shown t ty is tree few =
+    let long : length shown ≡ length (sources t) = ap length is ∙ length_map (sources t) in
+    omega (arith, few, long, length_sources t, ap (λ (u : Tree). length (numbered u)) tree)
+  where
+    length_map : (os : List (Option Source)) → length (map member_in os) ≡ length os
+    length_map [] = refl
+    length_map (o ∷ os) = ap suc (length_map os)
+
+pub built_is : {Y : Type 0} (g : GroupData) (slots : Slots) (ty : Tree) (shown : List (Option ℕ)) (own : List (OwnVec ℕ Y)) (records : List ℕ)
+    (reached : ℕ → Option Reach) (writable : List Writer) → level g.id slots ≡ structure_of g → ty ≡ slot_tree (level g.id slots) → length (numbered ty) ≤ 4096
+    → shown ≡ map member_in (sources (level g.id slots)) → length own ≡ length g.members
+    → ((n : ℕ) → n < length g.members → leaves_at own n ≡ places (is_number n) 0 shown) → records ≡ records_of g.members
+    → Reaches records (reach_by (leaves_at own) g.members) reached
+    → writable ≡ map (λ e. e.1) (writers_among (leaves_at own) [] (enumerate_from 0 g.members))
+    → is_misplaced g.members ≡ false → is_doubled g.members ≡ false → type_fault ty ≡ None → IsBuilt g ty slots records reached writable
+built_is g slots ty shown own records reached writable structure tree few is long leaves recs reaching writing placed single none =
+    let same : (n : ℕ) → leaves_at own n ≡ leaves_of g n = own_are g own shown long (is ∙ ap (λ (t : Slot). map member_in (sources t)) structure) leaves in
+    record {
+      tree = tree ∙ tree_is g slots structure;
+      few = few;
+      structure = structure;
+      members = recs;
+      reaching = reaches_are g (leaves_at own) records reached same reaching;
+      writers_are = writers_are g (leaves_at own) writable same writing;
+      faultless = fault_free g slots ty structure tree placed single none;
+    }
+
+pub structure_is : (g : GroupData) (slots : Slots) → slots ≡ slots_of (in_order (entries_of g.members)) → level g.id slots ≡ structure_of g
+unfolding structure_of
+structure_is g slots is = ap (level g.id) is
+
+-- ---- a definition over configured records
+
+module _ (configs : List Config) where
+  pub within_of : (n k : ℕ) (defs : List MemberDef) → AllByRecursion (IsMember n k) defs
+      → AllByRecursion (λ m. AllByRecursion (λ j. j < k) m.def.trigger) (map (member_of configs) defs)
+  within_of n k [] all = tt
+  within_of n k (m ∷ defs) all = (all.0.triggers, within_of n k defs all.1)
+
+  link_over : (rec : ℕ) (o : Option Config) → slice_get configs rec ≡ o → MatchOption (option_map (λ config. record { rec = rec; config = config }) o) ⊤ (IsLinkOf configs)
+  link_over rec None is = tt
+  link_over rec (Some config) is = is
+
+  rec_over : (o : Option ℕ) → MatchOption (option_and_then (link_of configs) o) ⊤ (IsLinkOf configs)
+  rec_over None = tt
+  rec_over (Some rec) = link_over rec (slice_get configs rec) refl
+
+  pub over_of : (defs : List MemberDef) → AllByRecursion (λ m. MatchOption m.link ⊤ (IsLinkOf configs)) (map (member_of configs) defs)
+  over_of [] = tt
+  over_of (m ∷ defs) = (rec_over m.rec, over_of defs)
+
+pub length_defs : (configs : List Config) (defs : List MemberDef) → length (map (member_of configs) defs) ≡ length defs
+length_defs configs [] = refl
+length_defs configs (m ∷ defs) = ap suc (length_defs configs defs)

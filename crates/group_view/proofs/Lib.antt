@@ -11,3 +11,4 @@ pub mod Parting
 pub mod Heads
 pub mod Ready
 pub mod Keeping
+pub mod Putting

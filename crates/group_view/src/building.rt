@@ -5,7 +5,7 @@ ghost use Rattle.std.specs.List.{AllByRecursion};
 ghost use Rattle.std.specs.Ordering.{nat_cmp};
 ghost use Rattle.pvd_type.specs.Check.{type_fault, IsFault};
 ghost use Rattle.pvd_type.specs.Numbers.{numbered};
-ghost use Rattle.pvd_type.specs.Tree.{Tree}
+ghost use Rattle.pvd_type.specs.Tree.{Tree};
 ghost use Rattle.pvd_type.specs.View.{shape_view};
 ghost use Rattle.group_view.specs.Built.{IsShapeFault, reach_by, Reaches};
 ghost use Rattle.group_view.specs.Leaves.{leaves_at};

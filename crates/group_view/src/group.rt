@@ -121,7 +121,10 @@ impl Group {
         let slots = slots_of(alloc, entries_of(alloc, &members)?)?;
         let mut shown = Vec::new(alloc);
         let shape = structure_of(&id, &slots, &mut shown, alloc)?;
-        let ty = checked(alloc, shape)?;
+        let ty = match checked(alloc, shape) {
+            Ok(ty) => ty,
+            Err(fault) => return Err(fault),
+        };
         let own = own_leaves(alloc, &shown, members.len())?;
         let records = records_of(alloc, &members)?;
         let reaches = reaches_of(alloc, &members, &own, &records)?;

@@ -38,7 +38,10 @@ impl Group {
         ensures may { IfOk result (λ actions. (configs : List Config) → IsOver configs self.now → AllByRecursion (MayBeDoneBy configs) actions.items) }
         ensures refusal { IfErr result (IsRefusal self.now (view value.now) mask.now) }
     {
-        let actions = actions_of(alloc, self.writers(), self.type_of(), value, mask)?;
+        let actions = match actions_of(alloc, self.writers(), self.type_of(), value, mask) {
+            Ok(actions) => actions,
+            Err(answer) => return Err(answer),
+        };
         if actions.is_empty() {
             return Err(FieldAnswer::Refused(PutRefusal::NothingWritable));
         }

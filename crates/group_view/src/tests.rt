@@ -420,9 +420,156 @@ const PUTS: [Given<'static>; 3] = [
 #[test]
 fn three_longouts_stand_in_the_order_of_their_names(rt: HostRuntime) -> Result<(), Fail> {
     let words = words_of(rt.alloc(), &LONGOUTS)?;
-    assert!(
-        rt;
-        words == "{ a:epics:nt/NTScalar:1.0{ value:int alarm:alarm_t timeStamp:time_t } b:epics:nt/NTScalar:1.0{ value:int alarm:alarm_t timeStamp:time_t } c:epics:nt/NTScalar:1.0{ value:int alarm:alarm_t timeStamp:time_t } } = ( ( 1 ( 0 0 '' ) ( 0 0 0 ) ) ( 2 ( 0 0 '' ) ( 0 0 0 ) ) ( 3 ( 0 0 '' ) ( 0 0 0 ) ) )"
-    );
+    assert_eq!(rt; words.as_str(), "{ a:epics:nt/NTScalar:1.0{ value:int alarm:alarm_t timeStamp:time_t } b:epics:nt/NTScalar:1.0{ value:int alarm:alarm_t timeStamp:time_t } c:epics:nt/NTScalar:1.0{ value:int alarm:alarm_t timeStamp:time_t } } = ( ( 1 ( 0 0 '' ) ( 0 0 0 ) ) ( 2 ( 0 0 '' ) ( 0 0 0 ) ) ( 3 ( 0 0 '' ) ( 0 0 0 ) ) )");
+    Ok(())
+}
+
+const CHOICE: &str = r#"{"G":{"+id":"top:1.0","m":{"+type":"any","+channel":"VAL"},
+"w.e":{"+channel":"VAL","+id":"none"},"w":{"+type":"structure","+id":"my:w"},"w-e":{"+type":"plain","+channel":"VAL"}}}"#;
+const TEXT: &str = r#"{"G":{"":{"+type":"meta","+channel":"VAL"},"x.y.z":{"+type":"meta","+channel":"VAL"},
+"x.p":{"+type":"proc","+channel":"VAL"},"q.p":{"+type":"proc","+channel":"VAL"},"s":{"+type":"structure"}}}"#;
+
+#[test]
+fn each_kind_shows_its_part(rt: HostRuntime) -> Result<(), Fail> {
+    let given = [
+        (Kind::Mbbo, "E", "ZRST=Hold;ONST=Move;VAL=1", CHOICE),
+        (Kind::Stringout, "S", "", TEXT),
+    ];
+    let words = words_of(rt.alloc(), &given)?;
+    assert_eq!(rt; words.as_str(), "top:1.0{ alarm:alarm_t m:any s:{ } timeStamp:time_t w:my:w{ e:epics:nt/NTEnum:1.0{ value:enum_t{ index:int choices:string[] } alarm:alarm_t timeStamp:time_t } } w-e:int x:{ y:{ z:{ alarm:alarm_t timeStamp:time_t } } } } = ( ( 3 6 'UDF' ) int=1 ( ) ( 0 0 0 ) ( ( ( 1 'Hold''Move' ) ( 0 0 '' ) ( 0 0 0 ) ) ) 1 ( ( ( ( 3 6 'UDF' ) ( 0 0 0 ) ) ) ) )");
+    Ok(())
+}
+
+const DEEP: &str = r#"{"G":{"a.a.a.a.a.a.a.a.a.a.a.a.a.a.a.a.a.a.a.a.a.a.a.a.a.a.a.a.a.a.a.a":{"+type":"plain","+channel":"VAL"}}}"#;
+const DEEP_TWICE: &str = r#"{"G":{"a.a.a.a.a.a.a.a.a.a.a.a.a.a.a.a.a.a.a.a.a.a.a.a.a.a.a.a.a.a.a.a":{"+type":"plain","+channel":"VAL"},
+"":{"+type":"meta","+channel":"VAL"},"timeStamp.t":{"+type":"plain","+channel":"VAL"}}}"#;
+const BELOW: &str = r#"{"G":{"a":{"+channel":"VAL"},"a-b":{"+channel":"VAL"},"a.b.c":{"+channel":"VAL"}}}"#;
+const BELOW_PROC: &str = r#"{"G":{"a.b":{"+type":"proc","+channel":"VAL"},"a.b.c":{"+channel":"VAL"}}}"#;
+const BOTH: &str = r#"{"G":{"":{"+type":"meta","+channel":"VAL"},"alarm":{"+channel":"VAL"},"alarm.b":{"+channel":"VAL"}}}"#;
+const TWICE: &str = r#"{"G":{"":{"+type":"meta","+channel":"VAL"},"alarm":{"+type":"plain","+channel":"VAL"}}}"#;
+
+#[test]
+fn the_first_fault_is_told(rt: HostRuntime) -> Result<(), Fail> {
+    let rows = [
+        (BELOW, "BadMember"),
+        (BELOW_PROC, "BadMember"),
+        (BOTH, "BadMember"),
+        (TWICE, "SameMember"),
+        (DEEP_TWICE, "SameMember"),
+        (DEEP, "TooDeep"),
+        (r#"{"G":{}}"#, "{ } = ( )"),
+    ];
+    for (json, words) in rows {
+        let given = [(Kind::Longout, "A", "VAL=1", json)];
+        let told = words_of(rt.alloc(), &given)?;
+        assert_eq!(rt; told.as_str(), words);
+    }
+    Ok(())
+}
+
+const FIRST: &str = r#"{"G":{"a":{"+type":"plain","+channel":"VAL","+putorder":-1}}}"#;
+const SECOND: &str = r#"{"G":{"c":{"+type":"plain","+channel":"VAL","+putorder":0},"w":{"+channel":"VAL","+putorder":0}}}"#;
+const PROC: &str = r#"{"G":{"b":{"+type":"proc","+channel":"VAL","+putorder":0}}}"#;
+
+const CHOICES: [Given<'static>; 3] = [
+    (Kind::Longout, "A", "VAL=1", FIRST),
+    (Kind::Mbbo, "B", "ZRST=Hold;ONST=Move", SECOND),
+    (Kind::Longout, "C", "DISP=1", PROC),
+];
+
+const CHOSEN: [Given<'static>; 3] = [
+    (Kind::Longout, "A", "VAL=10", FIRST),
+    (Kind::Mbbo, "B", "VAL=1", SECOND),
+    (Kind::Longout, "C", "", PROC),
+];
+
+const CHOSEN_OUTSIDE: [Given<'static>; 3] = [
+    (Kind::Longout, "A", "VAL=10", FIRST),
+    (Kind::Mbbo, "B", "VAL=2", SECOND),
+    (Kind::Longout, "C", "", PROC),
+];
+
+const REFUSING: [Given<'static>; 3] = [
+    (Kind::Longout, "A", "DISP=1", FIRST),
+    (Kind::Mbbo, "B", "ZRST=Hold;ONST=Move", SECOND),
+    (Kind::Longout, "C", "", PROC),
+];
+
+#[test]
+fn members_are_put_in_put_order(rt: HostRuntime) -> Result<(), Fail> {
+    let rows: [(&[Given], &[Given], &[u16], &str); 9] = [
+        (&LONGOUTS, &PUTS, &[2, 12, 22], " 1=20 2=30 0=10"),
+        (&LONGOUTS, &PUTS, &[12], " 1=20"),
+        (&LONGOUTS, &PUTS, &[0, 1, 4], "NothingWritable"),
+        (&CHOICES, &CHOSEN, &[], " 2!"),
+        (&CHOICES, &CHOSEN, &[1, 2, 5], " 0=10 2! 1#1 1#1"),
+        (&CHOICES, &CHOSEN, &[4], " 2!"),
+        (&CHOICES, &CHOSEN_OUTSIDE, &[1, 2], "IndexOutside"),
+        (&REFUSING, &CHOSEN_OUTSIDE, &[1, 2], "Disabled"),
+        (&REFUSING, &CHOSEN_OUTSIDE, &[5], "IndexOutside"),
+    ];
+    for (given, put, marked, words) in rows {
+        let told = put_words(rt.alloc(), given, put, marked)?;
+        assert_eq!(rt; told.as_str(), words);
+    }
+    Ok(())
+}
+
+#[test]
+fn a_record_triggers_leaves_and_reads_their_records(rt: HostRuntime) -> Result<(), Fail> {
+    let rows: [(&[Given], u32, &str); 5] = [
+        (
+            &LONGOUTS,
+            0,
+            " 2 4 5 6 8 9 10 12 14 15 16 18 19 20 22 24 25 26 28 29 30 of 0 1 2 in 0 1 2",
+        ),
+        (&LONGOUTS, 1, " of in 0 1 2"),
+        (&LONGOUTS, 3, " of in 0 1 2"),
+        (&CHOICES, 1, " 2 5 6 8 9 10 12 13 14 of 1 in 0 1 2"),
+        (&CHOICES, 2, " of in 0 1 2"),
+    ];
+    for (given, rec, words) in rows {
+        let told = reach_words(rt.alloc(), given, rec)?;
+        assert_eq!(rt; told.as_str(), words);
+    }
+    Ok(())
+}
+
+#[test]
+fn a_part_has_the_marked_leaves_alone(rt: HostRuntime) -> Result<(), Fail> {
+    let words = part_words(rt.alloc(), &LONGOUTS, &[0, 2, 21, 22])?;
+    assert_eq!(rt; words.as_str(),
+        "( ( 1 ( 0 0 '' ) ( 0 0 0 ) ) ( 0 ( 0 0 '' ) ( 0 0 0 ) ) ( 3 ( 0 0 '' ) ( 0 0 0 ) ) )");
+    Ok(())
+}
+
+/// A group of so many members, each the value of its one record.
+fn wide(alloc: Global, count: u32) -> Result<String, NoMemory> {
+    let mut json = String::from_str(alloc, "{\"G\":{")?;
+    for number in 0..count {
+        if number > 0 {
+            json.push_str(",")?;
+        }
+        json.push_str(&format!(in alloc; "\"m{number}\":{{\"+channel\":\"VAL\",\"+putorder\":0}}")?)?;
+    }
+    json.push_str("}}")?;
+    Ok(json)
+}
+
+#[test]
+fn a_group_has_up_to_256_members(rt: HostRuntime) -> Result<(), Fail> {
+    let alloc = rt.alloc();
+    let json = wide(alloc, 256)?;
+    let texts = texts_of(alloc, &[(Kind::Longout, "A", "VAL=1", json.as_str())])?;
+    let (configs, _) = opened(alloc, &texts)?;
+    let counts = match group_of(alloc, &texts, &configs) {
+        Ok(group) => (
+            group.type_of().node_count(),
+            group.members().len(),
+            group.triggered(0).contains(2560),
+        ),
+        Err(_) => (0, 0, false),
+    };
+    assert!(rt; counts == (2561, 1, true));
     Ok(())
 }
