@@ -18,7 +18,7 @@ use Rattle.desk_api.specs.History.{entries, IsLegal}
 use Rattle.desk_api.specs.Marks.{InOrder, AllHold, deed_of, deeds_of, next_place, place}
 use Rattle.desk_api.specs.Puts.{actions_of, entries_by, footprint_by}
 use Rattle.desk_api.specs.Sites.{footprint_of, is_atomic}
-use Rattle.desk_api.specs.Views.{value_of, laid}
+use Rattle.desk_api.specs.Views.{value_of, laid, AreStatesOf}
 use Rattle.desk_api.specs.declared.channel.Channel.{Channel}
 use Rattle.desk_api.specs.declared.history.Base.{Base}
 use Rattle.desk_api.specs.declared.history.SiteData.{SiteData}
@@ -78,6 +78,18 @@ abbrev pub laid_by : List RecState → List Mark → List RecState
 laid_by states [] = states
 laid_by states (Read at channel footprint found ∷ marks) = laid_by (laid states footprint found) marks
 laid_by states (mark ∷ marks) = laid_by states marks
+
+-- Each mark in turn is a look at these records, which found them in these states.
+
+abbrev pub IsFinding : List RecState → Channel → List ℕ → Mark → Type 0
+IsFinding states channel recs mark =
+    (at : ℕ) × ((found : List RecState) × (mark ≡ Read at channel recs found) × AreStatesOf states recs found)
+
+abbrev pub AreFindings : List RecState → Channel → List (List ℕ) → List Mark → Type 0
+AreFindings states channel [] [] = ⊤
+AreFindings states channel (recs ∷ looks) (mark ∷ marks) =
+    IsFinding states channel recs mark × AreFindings states channel looks marks
+AreFindings states channel looks marks = ⊥
 
 -- A get looks at the channel's records, at all in one place where it is atomic and else at one after another. Its answer is
 -- what the channel shows of them: of states of all records, of which it looks at those found alone.

@@ -1,5 +1,5 @@
 -- What a put to a channel does (pvAccess Protocol Specification, "Channel put").
-use Rattle.std.specs.Prelude.{ℕ, ◌==◌, ◌||◌, Bool, true, false, List, [], ◌∷◌, length, map, Option, None, Some, Result, Ok, Err, slice_get}
+use Rattle.std.specs.Prelude.{◌≡◌, ⊤, ℕ, ◌==◌, ◌||◌, Bool, true, false, List, [], ◌∷◌, length, map, Option, None, Some, Result, Ok, Err, slice_get}
 use Rattle.std.specs.FinSet.{FinSet}
 use Rattle.std.specs.List.{filter, list_any, range_with_len}
 use Rattle.std.specs.Ordering.{nat_cmp}
@@ -9,7 +9,7 @@ use Rattle.rec_kinds.specs.declared.datum.Action.{Action}
 use Rattle.rec_kinds.specs.declared.put.PutRefusal.TheVariants.{NothingWritable}
 use Rattle.rec_fields.specs.Puts.{action_for}
 use Rattle.rec_fields.specs.declared.puts.FieldAnswer.{FieldAnswer}
-use Rattle.rec_fields.specs.declared.puts.FieldAnswer.TheVariants.{Refused}
+use Rattle.rec_fields.specs.declared.puts.FieldAnswer.TheVariants.{Refused, NoMemory}
 use Rattle.group_view.specs.Groups.{GroupData}
 use Rattle.group_view.specs.Leaves.{footprint}
 use Rattle.group_view.specs.Puts as group
@@ -41,10 +41,18 @@ actions_for Group site number mask value = to_group mask value (slice_get site.g
 abbrev pub actions_of : SiteData → Channel → FinSet nat_cmp → Data → Result (List (ℕ × Action)) FieldAnswer
 actions_of site channel mask value = actions_for channel.kind site channel.number mask value
 
+-- what an answer without actions says; want of memory is free
+abbrev pub IsRefusedBy : Result (List (ℕ × Action)) FieldAnswer → FieldAnswer → Type 0
+IsRefusedBy actions NoMemory = ⊤
+IsRefusedBy actions (Refused refusal) = actions ≡ Err (Refused refusal)
+
+abbrev pub IsRefusal : SiteData → Channel → FinSet nat_cmp → Data → FieldAnswer → Type 0
+IsRefusal site channel mask value answer = IsRefusedBy (actions_of site channel mask value) answer
+
 -- whether this record is that one, or is read by a group's leaves that are posted when that one changes
 abbrev pub is_held_with : SiteData → ℕ → ℕ → Bool
 is_held_with site rec written =
-    rec == written || list_any (λ group. list_any (λ r. r == rec) (footprint group written)) site.groups
+    rec == written || list_any (λ g. list_any (λ r. r == rec) (footprint g written)) site.groups
 
 abbrev pub is_held : SiteData → List (ℕ × Action) → ℕ → Bool
 is_held site actions rec = list_any (λ action. is_held_with site rec action.0) actions

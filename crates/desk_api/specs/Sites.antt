@@ -1,11 +1,13 @@
 -- The names of a site, the channels that they stand for, and the records that these read.
 use Rattle.std.specs.Prelude.{ℕ, ℤ, ◌+◌, Bool, true, false, nat_lt, List, [], ◌∷◌, ◌++◌, length, map, Option, None, Some, slice_get, if◌then◌else◌, bytes_eq, codes}
+use Rattle.std.specs.List.{AllByRecursion}
 use Rattle.db_load.specs.Forms.{is_record_name as may_name}
 use Rattle.rec_kinds.specs.Building.{config_of, opening, opening_of}
+use Rattle.rec_kinds.specs.Configs.{Config}
 use Rattle.rec_kinds.specs.declared.datum.Datum.TheVariants.{Num}
 use Rattle.rec_kinds.specs.declared.kind.Kind.TheVariants.{Longout}
 use Rattle.rec_kinds.specs.declared.record_text.RecText.{RecText}
-use Rattle.group_view.specs.Groups.{GroupData}
+use Rattle.group_view.specs.Groups.{GroupData, IsOver}
 use Rattle.group_view.specs.Leaves.{records_of}
 use Rattle.desk_api.specs.declared.channel.Channel.{Channel}
 use Rattle.desk_api.specs.declared.channel.ChannelKind.{ChannelKind}
@@ -52,6 +54,10 @@ is_channel_of Group site number = nat_lt number (length site.groups)
 abbrev pub is_channel : SiteData → Channel → Bool
 is_channel site channel = is_channel_of channel.kind site channel.number
 
+-- Each group is over the site's records, as they are configured.
+abbrev pub AreOver : SiteData → Type 0
+AreOver site = AllByRecursion (IsOver site.configs) site.groups
+
 -- the records of a group, in rising order
 abbrev pub records_in : Option GroupData → List ℕ
 records_in None = []
@@ -81,11 +87,15 @@ is_atomic_for Group site number wanted = is_atomic_group (slice_get site.groups 
 abbrev pub is_atomic : SiteData → Channel → Option Bool → Bool
 is_atomic site channel wanted = is_atomic_for channel.kind site channel.number wanted
 
+-- how these records are configured
+abbrev pub configs_of : List RecText → List Config
+configs_of records = map (λ r. config_of r.kind r.fields) records
+
 -- The site of these records, as a text states them, with these groups.
 abbrev pub site_of : List RecText → List GroupData → SiteData
 site_of records groups = record {
   names = map (λ r. r.name) records;
-  configs = map (λ r. config_of r.kind r.fields) records;
+  configs = configs_of records;
   opening = map (λ r. opening_of r.kind r.fields) records;
   groups = groups;
 }

@@ -39,7 +39,12 @@ pub trait Desk {
     /// history that the seat has then seen: one mark. One of a group that isn't looks at one record after another: a mark for
     /// each, in the order of the records' numbers, and after `NoMemory` the first of them. `atomic` stands for the group's own
     /// flag where it is given; other channels are always got atomically (QSRV manual, "Group PV definitions", `+atomic`).
-    fn get(&mut self, alloc: Global, channel: Channel, atomic: Option<bool>) -> Result<PvValue, NoMemory>
+    fn get(
+        &mut self,
+        alloc: Global,
+        channel: Channel,
+        atomic: Option<bool>,
+    ) -> Result<PvValue, NoMemory>
         requires { IsTrue (sites.is_channel (seat self.old).seen.base.site channel) }
         ensures calls { Calls (seat self.old) (seat self.new) (AreGet (seat self.old).seen.base.site channel atomic result) }
         ensures ends { OnOk result (EndsAtItsMarks (seat self.old) (seat self.new)) }

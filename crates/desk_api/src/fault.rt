@@ -3,7 +3,7 @@ use db_load::LoadFault;
 use group_defs::GroupFault;
 use pvd_type::{Name, NoMemory};
 use rec_kinds::BuildFault;
-use std::alloc::AllocFailed;
+use std::alloc::{AllocError, AllocFailed};
 
 /// Why a database text gives no site.
 #[derive(Debug, Drop)]
@@ -25,6 +25,17 @@ impl From<NoMemory> for SiteFault {
     ghost from_gives = { λ _ e. e ≡ faults.NoMemory };
 
     fn from(_: NoMemory) -> SiteFault {
+        SiteFault::NoMemory
+    }
+}
+
+impl From<AllocError> for SiteFault {
+    ghost use Rattle.std.specs.Prelude.{◌≡◌};
+    ghost use Rattle.desk_api.specs.declared.fault.SiteFault.TheVariants as faults;
+
+    ghost from_gives = { λ _ e. e ≡ faults.NoMemory };
+
+    fn from(_: AllocError) -> SiteFault {
         SiteFault::NoMemory
     }
 }

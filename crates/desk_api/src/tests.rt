@@ -48,6 +48,10 @@ fn name_in(fault: SiteFault) -> Result<Option<Name>, NoMemory> {
             discard(fault);
             Ok(Some(name))
         }
+        SiteFault::Group(fault) => {
+            discard(fault);
+            Ok(None)
+        }
         SiteFault::NoMemory => Err(NoMemory),
     }
 }

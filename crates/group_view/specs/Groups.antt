@@ -7,26 +7,20 @@ use Rattle.rec_kinds.specs.Validity.{IsValid}
 use Rattle.rec_kinds.specs.declared.state.RecState.{RecState}
 use Rattle.group_defs.specs.declared.def.GroupDef.{GroupDef}
 use Rattle.group_defs.specs.declared.def.MemberDef.{MemberDef}
+use Rattle.group_view.specs.Links.{Link}
+use Rattle.group_view.specs.declared.member.Member.{Member}
 
--- a record: its number, and how it is configured
-pub record Link : Type 0 where
-  pub rec : ℕ
-  pub config : Config
-
-pub record MemberData : Type 0 where
-  pub def : MemberDef
-  pub link : Option Link
-
+-- A group, each member with the record that it is about.
 pub record GroupData : Type 0 where
   pub name : List ℕ
   pub id : List ℕ
   pub atomic : Bool
-  pub members : List MemberData
+  pub members : List Member
 
 abbrev pub link_of : List Config → ℕ → Option Link
 link_of configs rec = option_map (λ config. record { rec = rec; config = config }) (slice_get configs rec)
 
-abbrev pub member_of : List Config → MemberDef → MemberData
+abbrev pub member_of : List Config → MemberDef → Member
 member_of configs m = record { def = m; link = option_and_then (link_of configs) m.rec }
 
 -- The group that a definition is, over the records that are so configured.
@@ -45,7 +39,7 @@ IsOver configs g = AllByRecursion (λ m. MatchOption m.link ⊤ (IsLinkOf config
 abbrev pub HasState : List RecState → Link → Type 0
 HasState states l = MatchOption (slice_get states l.rec) ⊥ (IsValid l.config)
 
-abbrev pub IsReady : List RecState → MemberData → Type 0
+abbrev pub IsReady : List RecState → Member → Type 0
 IsReady states m = MatchOption m.link ⊤ (HasState states)
 
 abbrev pub AreReady : List RecState → GroupData → Type 0

@@ -15,7 +15,7 @@ Agree recs a b = AllByRecursion (λ rec. slice_get a rec ≡ slice_get b rec) re
 
 -- The value depends on the group's records alone,
 abbrev pub ReadsRecords : GroupData → Type 0
-ReadsRecords g = (a b : List RecState) → Agree (records_of g) a b → group_shown g a ≡ group_shown g b
+ReadsRecords g = (a b : List RecState) → Agree (records_of g.members) a b → group_shown g a ≡ group_shown g b
 
 -- and the leaves that a record triggers on its footprint alone.
 abbrev pub ReadsFootprint : GroupData → ℕ → Type 0

@@ -2,7 +2,8 @@
 use Rattle.pvd_type.specs.Tree.{Tree, node, struct, Fields, no_fields, field}
 use Rattle.group_view.specs.Groups.{GroupData}
 use Rattle.group_view.specs.Pieces.{piece_tree}
-use Rattle.group_view.specs.Slots.{Source, Slot, shows, level, Slots, no_slots, slot, structure_of}
+use Rattle.group_view.specs.declared.source.Source.{Source}
+use Rattle.group_view.specs.Slots.{Slot, shows, level, Slots, no_slots, slot, structure_of}
 
 abbrev pub source_tree : Source → Tree
 source_tree s = piece_tree s.piece s.link.config

@@ -2,8 +2,20 @@
 //! put to it does (QSRV manual, "Group PV definitions").
 #![tactic(auto)]
 
+mod entry;
+mod faults;
 mod laws;
+mod link;
+mod member;
+mod parts;
+mod paths;
 mod piece;
+mod reach;
+mod shapes;
+mod slots;
+mod source;
+mod views;
+mod writer;
 
 pub use group_defs::{GroupDef, GroupFault, MemberDef, MemberKind};
 pub use laws::{value_reads_footprint, value_reads_records};
