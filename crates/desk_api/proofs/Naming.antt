@@ -2,7 +2,8 @@
 use Rattle.std.specs.Prelude.{◌≡◌, ℕ, ◌+◌, ◌<◌, ◌&&◌, Bool, not, List, [], ◌∷◌, ◌++◌, length, Option, Some, None, IsTrue, bytes_eq, codes, refl}
 use Rattle.std.specs.Bool.{Decides}
 use Rattle.std.specs.List.{list_all}
-use Rattle.std.proofs.Common.{true, false, cond, arith, sym, ◌∙◌, ap, append_assoc}
+use Rattle.std.specs.Option.{option_or}
+use Rattle.std.proofs.Common.{true, false, cond, arith, sym, ◌∙◌, ap, subst, append_assoc}
 use Rattle.std.proofs.lemmas.Bool.{lt-ltb, and_parts, false≢true}
 use Rattle.std.proofs.lemmas.Bool.Decides.{same_from_decides}
 use Rattle.std.proofs.lemmas.List.{append_cancel_right}
@@ -11,36 +12,66 @@ use Rattle.std.proofs.lemmas.Option.{none-some}
 use Rattle.std.proofs.lemmas.Slice.Eq.{bytes_eq-Decides}
 use Rattle.db_load.specs.Forms.{is_special}
 use Rattle.desk_api.specs.Records.{channel_at}
-use Rattle.desk_api.specs.Sites.{is_record_name, channel_of, names_from, first_named, channel_named, is_channel}
+use Rattle.group_view.specs.Groups.{GroupData}
+use Rattle.desk_api.specs.Sites.{is_record_name, channel_of, names_from, group_names_from, first_named, channel_named, is_channel}
 use Rattle.desk_api.specs.declared.channel.Channel.{Channel}
 use Rattle.desk_api.specs.declared.channel.ChannelKind.{ChannelKind}
-use Rattle.desk_api.specs.declared.channel.ChannelKind.TheVariants.{Rec, Desc}
+use Rattle.desk_api.specs.declared.channel.ChannelKind.TheVariants.{Rec, Desc, Group}
 use Rattle.desk_api.specs.declared.history.SiteData.{SiteData}
 
--- the number of a record that was found is one of those counted
+-- what holds of all channels of these records holds of the one that is found
 
-later_within : (test : Bool) (name : List ℕ) (here : Channel) (xs : List (List ℕ × Channel)) (channel : Channel) (most : ℕ)
-    → here.number < most → (first_named name xs ≡ Some channel → channel.number < most)
-    → cond test (Some here) (first_named name xs) ≡ Some channel → channel.number < most
-later_within true name here xs channel most less later is = let same : here ≡ channel = cc in rw (← same) less
-later_within false name here xs channel most less later is = later is
+module _ (P : Channel → Type 0) where
+  later_holds : (test : Bool) (name : List ℕ) (here : Channel) (xs : List (List ℕ × Channel)) (channel : Channel)
+      → P here → (first_named name xs ≡ Some channel → P channel) → cond test (Some here) (first_named name xs) ≡ Some channel → P channel
+  later_holds true name here xs channel holds later is = let same : here ≡ channel = cc in subst P same holds
+  later_holds false name here xs channel holds later is = later is
 
-pub named-within : (n : ℕ) (names : List (List ℕ)) (name : List ℕ) (channel : Channel) → first_named name (names_from n names) ≡ Some channel → channel.number < n + length names
-named-within n [] name channel is = absurd (none-some channel is)
-named-within n (x ∷ names) name channel is =
-    let most = n + length (x ∷ names) in
-    let later : first_named name (names_from (n + 1) names) ≡ Some channel → channel.number < most = λ e. let less = named-within (n + 1) names name channel e in omega (arith, less) in
-    let desc = channel_of Desc n in
-    let own = channel_of Rec n in
-    let rest = names_from (n + 1) names in
-    let desc_or = later_within (bytes_eq name (x ++ codes ".DESC")) name desc rest channel most (omega arith) later in
-    let val_or = later_within (bytes_eq name (x ++ codes ".VAL")) name own ((x ++ codes ".DESC", desc) ∷ rest) channel most (omega arith) desc_or in
-    later_within (bytes_eq name x) name own ((x ++ codes ".VAL", own) ∷ (x ++ codes ".DESC", desc) ∷ rest) channel most (omega arith) val_or is
+  named_holds : (n : ℕ) (names : List (List ℕ)) (name : List ℕ) (channel : Channel) → ((m : ℕ) → m < n + length names → P (channel_of Rec m) × P (channel_of Desc m))
+      → first_named name (names_from n names) ≡ Some channel → P channel
+  named_holds n [] name channel each is = absurd (none-some channel is)
+  named_holds n (x ∷ names) name channel each is =
+      let own = channel_of Rec n in
+      let desc = channel_of Desc n in
+      let rest = names_from (n + 1) names in
+      let first = each n (omega arith) in
+      let later : first_named name rest ≡ Some channel → P channel = λ e. named_holds (n + 1) names name channel (λ m less. each m (omega (arith, less))) e in
+      let desc_or = later_holds (bytes_eq name (x ++ codes ".DESC")) name desc rest channel first.1 later in
+      let val_or = later_holds (bytes_eq name (x ++ codes ".VAL")) name own ((x ++ codes ".DESC", desc) ∷ rest) channel first.0 desc_or in
+      later_holds (bytes_eq name x) name own ((x ++ codes ".VAL", own) ∷ (x ++ codes ".DESC", desc) ∷ rest) channel first.0 val_or is
+
+  group_holds : (n : ℕ) (groups : List GroupData) (name : List ℕ) (channel : Channel) → ((m : ℕ) → m < n + length groups → P (channel_of Group m))
+      → first_named name (group_names_from n groups) ≡ Some channel → P channel
+  group_holds n [] name channel each is = absurd (none-some channel is)
+  group_holds n (g ∷ groups) name channel each is =
+      later_holds (bytes_eq name g.name) name (channel_of Group n) (group_names_from (n + 1) groups) channel (each n (omega arith))
+      (λ e. group_holds (n + 1) groups name channel (λ m less. each m (omega (arith, less))) e) is
+
+-- a name is looked up in one list, and then in another
+
+or_by : {A : Type 0} (test : Bool) (x : A) (o p : Option A) → cond test (Some x) (option_or o p) ≡ option_or (cond test (Some x) o) p
+or_by true x o p = refl
+or_by false x o p = refl
+
+pub first_of_both : (name : List ℕ) (xs ys : List (List ℕ × Channel)) → first_named name (xs ++ ys) ≡ option_or (first_named name xs) (first_named name ys)
+first_of_both name [] ys = refl
+first_of_both name (x ∷ xs) ys =
+    ap (λ (o : Option Channel). cond (bytes_eq name x.0) (Some x.1) o) (first_of_both name xs ys)
+    ∙ or_by (bytes_eq name x.0) x.1 (first_named name xs) (first_named name ys)
+
+either_holds : (P : Channel → Type 0) (o p : Option Channel) (channel : Channel) → (o ≡ Some channel → P channel) → (p ≡ Some channel → P channel) → option_or o p ≡ Some channel → P channel
+either_holds P (Some x) p channel first then is = first is
+either_holds P None p channel first then is = then is
 
 pub found_is_channel : (site : SiteData) (name : List ℕ) (channel : Channel) → channel_named site name ≡ Some channel → IsTrue (is_channel site channel)
 found_is_channel site name channel is =
-    let within = named-within 0 site.names name channel is in
-    lt-ltb channel.number (length site.names) (omega (arith, within))
+    let P : Channel → Type 0 = λ c. IsTrue (is_channel site c) in
+    let records = names_from 0 site.names in
+    let groups = group_names_from 0 site.groups in
+    either_holds P (first_named name records) (first_named name groups) channel
+    (λ e. named_holds P 0 site.names name channel (λ m less. let below : m < length site.names = omega (arith, less) in (lt-ltb m (length site.names) below, lt-ltb m (length site.names) below)) e)
+    (λ e. group_holds P 0 site.groups name channel (λ m less. lt-ltb m (length site.groups) (omega (arith, less))) e)
+    (sym (first_of_both name records groups) ∙ is)
 
 -- texts that are equal or not
 

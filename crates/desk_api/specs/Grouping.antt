@@ -1,13 +1,13 @@
 -- The groups of a site, by their names and by the records that they are about.
-use Rattle.std.specs.Prelude.{◌≡◌, ℕ, ◌+◌, ◌<◌, ◌==◌, true, List, [], ◌∷◌, ◌++◌, set, map, length, bytes_eq, Option, None, Some, Err, slice_get, ⊤}
-use Rattle.std.specs.List.{list_any}
+use Rattle.std.specs.Prelude.{◌≡◌, ℕ, ◌<◌, ◌==◌, ◌||◌, ◌&&◌, Bool, false, List, [], Option, None, Some, Err, slice_get, bytes_eq, ⊤}
+use Rattle.std.specs.List.{AllByRecursion, list_any}
 use Rattle.rec_kinds.specs.Configs.{Config}
 use Rattle.rec_kinds.specs.declared.record_text.RecText.{RecText}
 use Rattle.group_defs.specs.declared.def.GroupDef.{GroupDef}
 use Rattle.group_defs.specs.declared.fault.GroupFault.{GroupFault}
 use Rattle.group_defs.specs.declared.fault.GroupFault.TheVariants as faults
 use Rattle.group_view.specs.Groups.{GroupData}
-use Rattle.group_view.specs.Leaves.{records_of}
+use Rattle.group_view.specs.Leaves.{footprint, records_of}
 use Rattle.desk_api.specs.Loading.{built_over, groups_of}
 use Rattle.desk_api.specs.declared.fault.SiteFault.{SiteFault}
 use Rattle.desk_api.specs.declared.fault.SiteFault.TheVariants.{Load, Build, Group, NoMemory}
@@ -49,16 +49,25 @@ noted (Some numbers) = numbers
 abbrev pub is_noted : List (List ℕ) → ℕ → ℕ → Bool
 is_noted index rec n = is_among (noted (slice_get index rec)) n
 
--- one more number noted for a record
-abbrev pub with_noted : List (List ℕ) → ℕ → ℕ → List (List ℕ)
-with_noted index rec n = set index rec (noted (slice_get index rec) ++ n ∷ [])
+-- whether a record is one of a group's
+abbrev pub has_record : Option GroupData → ℕ → Bool
+has_record None rec = false
+has_record (Some group) rec = is_among (records_of group.members) rec
 
--- The numbers that are noted for records are those of groups, so many.
-abbrev pub AreBelow : List (List ℕ) → ℕ → Type 0
-AreBelow index count = (rec n : ℕ) → is_noted index rec n ≡ true → n < count
-
--- Each group is noted for each of its records.
+-- The numbers that are noted for a record are those of the groups that are about it.
 abbrev pub AreNoted : List (List ℕ) → List GroupData → Type 0
-AreNoted index groups =
-    (rec n : ℕ) (group : GroupData) → slice_get groups n ≡ Some group → is_among (records_of group) rec ≡ true
-    → is_noted index rec n ≡ true
+AreNoted index groups = (rec n : ℕ) → is_noted index rec n ≡ has_record (slice_get groups n) rec
+
+-- Between two lists of notes the group of this number was noted for these records.
+abbrev pub IsNotedFor : List ℕ → ℕ → List (List ℕ) → List (List ℕ) → Type 0
+IsNotedFor recs number old new =
+    (rec n : ℕ) → is_noted new rec n ≡ (is_noted old rec n || (is_among recs rec && number == n))
+
+-- the records of each group are below a count
+abbrev pub AreBelow : ℕ → List GroupData → Type 0
+AreBelow count groups = AllByRecursion (λ group. AllByRecursion (λ rec. rec < count) (records_of group.members)) groups
+
+-- Between two lists of numbers those were added that groups read for the leaves which they post with this record.
+abbrev pub AreRead : List GroupData → ℕ → List ℕ → List ℕ → Type 0
+AreRead groups rec old new =
+    (n : ℕ) → is_among new n ≡ (is_among old n || list_any (λ group. is_among (footprint group rec) n) groups)

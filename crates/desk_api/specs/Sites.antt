@@ -61,7 +61,7 @@ AreOver site = AllByRecursion (IsOver site.configs) site.groups
 -- the records of a group, in rising order
 abbrev pub records_in : Option GroupData → List ℕ
 records_in None = []
-records_in (Some group) = records_of group
+records_in (Some group) = records_of group.members
 
 -- the records that a get of the channel reads, in rising order
 abbrev pub footprint_for : ChannelKind → SiteData → ℕ → List ℕ

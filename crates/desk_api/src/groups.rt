@@ -1,13 +1,13 @@
 // The groups of a site, by number, by name and by record.
-ghost use Rattle.std.specs.Prelude.{◌≡◌, ◌<◌, ◌≤◌, ◌||◌, ◌++◌, ◌∷◌, [], ℕ, false, IfOk, IfErr, OnOk, Ok, Some, fold, length, map, replicate, slice_get, string_bytes};
-ghost use Rattle.std.specs.List.{AllByRecursion, IsDistinct, list_any};
+ghost use Rattle.std.specs.Prelude.{◌≡◌, ◌<◌, ◌≤◌, ◌++◌, ◌∷◌, [], false, IfOk, IfErr, OnOk, Ok, Some, length, map, replicate, slice_get, string_bytes};
+ghost use Rattle.std.specs.List.{AllByRecursion, IsDistinct};
 ghost use Rattle.std.specs.Str.{bytes_eq};
 ghost use Rattle.desk_api.specs.Grouping as grouping;
 ghost use Rattle.desk_api.specs.Loading.{built_over, groups_of};
 ghost use Rattle.desk_api.specs.Sites.{configs_of, first_named, group_names_from};
 ghost use Rattle.group_defs.specs.Checking.{defined};
 ghost use Rattle.group_defs.specs.Sound.{AreGroups};
-ghost use Rattle.group_view.specs.Leaves.{footprint, records_of};
+ghost use Rattle.group_view.specs.Seen.{configs_seen};
 
 use crate::channel::{Channel, ChannelKind};
 use crate::fault::SiteFault;
@@ -49,8 +49,8 @@ fn build_each(
     configs: &[Arc<RecConfig>],
 ) -> Result<Vec<Group>, SiteFault>
     requires { AreGroups (length configs.now) defs.items }
-    ensures ok { IfOk result (λ groups. built_over (map (λ c. c.value) configs.now) defs.items ≡ Ok groups.items) }
-    ensures fault { IfErr result (grouping.IsFaultOver (map (λ c. c.value) configs.now) defs.items) }
+    ensures ok { IfOk result (λ groups. built_over (configs_seen configs.now) defs.items ≡ Ok groups.items) }
+    ensures fault { IfErr result (grouping.IsFaultOver (configs_seen configs.now) defs.items) }
 {
     let mut groups = Vec::with_capacity(alloc, defs.len())?;
     for def in defs {
@@ -74,14 +74,14 @@ pub(crate) struct Groups {
 
 impl Model for Groups {
     ghost use Rattle.std.specs.Prelude.{◌≡◌, ◌≤◌, List, length, map, string_bytes};
-    ghost use Rattle.desk_api.specs.Grouping.{AreBelow, AreNoted};
+    ghost use Rattle.desk_api.specs.Grouping.{AreNoted};
     ghost use Rattle.group_view.specs.Groups.{GroupData};
 
     ghost Value = { List GroupData };
 
     ghost view = { λ g. g.groups.items };
 
-    ghost invariant = { λ g. (length g.groups.items ≤ 1024) × (map string_bytes g.names.keys ≡ map (λ x. x.name) g.groups.items) × AreBelow (map (λ v. v.items) g.of_record.items) (length g.groups.items) × AreNoted (map (λ v. v.items) g.of_record.items) g.groups.items };
+    ghost invariant = { λ g. (length g.groups.items ≤ 1024) × (map string_bytes g.names.keys ≡ map (λ x. x.name) g.groups.items) × AreNoted (map (λ v. v.items) g.of_record.items) g.groups.items };
 }
 
 /// Adds a name that isn't there.
@@ -120,7 +120,7 @@ fn empty_lists(alloc: Global, count: usize) -> Result<Vec<Vec<u32>>, NoMemory>
 /// Notes the number of a group for a record.
 fn note(index: &mut Vec<Vec<u32>>, rec: usize, number: u32) -> Result<(), NoMemory>
     requires { rec < length index.old.items }
-    ensures noted { OnOk result (map (λ v. v.items) index.new.items ≡ grouping.with_noted (map (λ v. v.items) index.old.items) rec number) }
+    ensures noted { OnOk result (grouping.IsNotedFor (rec ∷ []) number (map (λ v. v.items) index.old.items) (map (λ v. v.items) index.new.items)) }
     ensures count { length index.new.items ≡ length index.old.items }
 {
     index[rec].push(number)?;
@@ -130,7 +130,7 @@ fn note(index: &mut Vec<Vec<u32>>, rec: usize, number: u32) -> Result<(), NoMemo
 /// Notes the number of a group for each of its records.
 fn note_each(index: &mut Vec<Vec<u32>>, recs: &[u32], number: u32) -> Result<(), NoMemory>
     requires { AllByRecursion (λ rec. rec < length index.old.items) recs.now }
-    ensures noted { OnOk result (map (λ v. v.items) index.new.items ≡ fold (λ lists rec. grouping.with_noted lists rec number) (map (λ v. v.items) index.old.items) recs.now) }
+    ensures noted { OnOk result (grouping.IsNotedFor recs.now number (map (λ v. v.items) index.old.items) (map (λ v. v.items) index.new.items)) }
     ensures count { length index.new.items ≡ length index.old.items }
 {
     for rec in recs {
@@ -142,13 +142,12 @@ fn note_each(index: &mut Vec<Vec<u32>>, recs: &[u32], number: u32) -> Result<(),
 /// For each of so many records, the numbers of the groups that are about it.
 fn index_of(alloc: Global, groups: &[Group], count: usize) -> Result<Vec<Vec<u32>>, NoMemory>
     requires few { length groups.now ≤ 1024 }
-    requires within { AllByRecursion (λ g. AllByRecursion (λ rec. rec < count) (records_of g)) groups.now }
-    ensures below { IfOk result (λ index. grouping.AreBelow (map (λ v. v.items) index.items) (length groups.now)) }
-    ensures noted { IfOk result (λ index. grouping.AreNoted (map (λ v. v.items) index.items) groups.now) }
+    requires within { grouping.AreBelow count groups.now }
+    ensures { IfOk result (λ index. grouping.AreNoted (map (λ v. v.items) index.items) groups.now) }
 {
     let mut index = empty_lists(alloc, count)?;
-    for (number, group) in groups.iter().enumerate() {
-        note_each(&mut index, group.members(), number as u32)?;
+    for number in 0..groups.len() {
+        note_each(&mut index, groups[number].members(), number as u32)?;
     }
     Ok(index)
 }
@@ -171,7 +170,7 @@ impl Groups {
         texts: &[RecText],
         configs: &[Arc<RecConfig>],
     ) -> Result<Groups, SiteFault>
-        requires { map (λ c. c.value) configs.now ≡ configs_of texts.now }
+        requires { configs_seen configs.now ≡ configs_of texts.now }
         ensures ok { IfOk result (λ groups. groups_of texts.now ≡ Ok groups) }
         ensures fault { IfErr result (grouping.IsFaultOfGroups texts.now) }
     {
@@ -184,7 +183,7 @@ impl Groups {
     fn of_built(alloc: Global, groups: Vec<Group>, count: usize) -> Result<Groups, NoMemory>
         requires few { length groups.items ≤ 1024 }
         requires distinct { IsDistinct bytes_eq (map (λ g. g.name) groups.items) }
-        requires within { AllByRecursion (λ g. AllByRecursion (λ rec. rec < count) (records_of g)) groups.items }
+        requires within { grouping.AreBelow count groups.items }
         ensures { IfOk result (λ g. g ≡ groups.items) }
     {
         let names = names_of(alloc, groups.as_slice())?;
@@ -231,7 +230,7 @@ impl Groups {
         rec: u32,
         found: &mut Vec<u32>,
     ) -> Result<(), NoMemory>
-        ensures { OnOk result ((r : ℕ) → grouping.is_among found.new.items r ≡ (grouping.is_among found.old.items r || list_any (λ g. grouping.is_among (footprint g rec) r) self.now)) }
+        ensures { OnOk result (grouping.AreRead self.now rec found.old.items found.new.items) }
     {
         let Some(numbers) = self.of_record.get(rec as usize) else {
             return Ok(());

@@ -19,6 +19,8 @@ ghost use Rattle.pvd_value.specs.Fits.{fits_of};
 ghost use Rattle.rec_kinds.specs.declared.datum.Action.{Action};
 ghost use Rattle.rec_kinds.specs.declared.state.RecState.{RecState};
 
+use group_view::value_reads_records;
+
 /// What is found may be asked for: a name of a site stands for a channel of it.
 pub fn found_channels()
     ensures { (site : SiteData) (name : List ℕ) (channel : Channel) → channel_named site name ≡ Some channel → IsTrue (is_channel site channel) }
@@ -33,13 +35,17 @@ pub fn values_fit()
 /// records at the read's place.
 pub fn gets_show_their_place()
     ensures { (h : History) (at : ℕ) (channel : Channel) (found : List RecState) → IsTrueRead h at channel (footprint_of h.base.site channel) found → value_of h.base.site channel (laid h.base.site.opening (footprint_of h.base.site channel) found) ≡ value_of h.base.site channel (state_at h at) }
-{}
+{
+    value_reads_records();
+}
 
 /// What a get's looks found of the channel's records, laid over the opening states, shows what the channel shows of any states
 /// in which all of them found these records.
 pub fn looks_show_states()
     ensures { (site : SiteData) (channel : Channel) (atomic : Option Bool) (states : List RecState) (marks : List Mark) → length site.opening ≡ length states → AreFindings states channel (looks_of site channel atomic) marks → value_of site channel (laid_by site.opening marks) ≡ value_of site channel states }
-{}
+{
+    value_reads_records();
+}
 
 /// An entry writes only records that it holds.
 pub fn entries_write_inside()

@@ -1,5 +1,5 @@
 // The records of a site, by number and by name.
-ghost use Rattle.std.specs.Prelude.{◌≡◌, ◌<◌, ◌≤◌, [], true, IfOk, IfErr, OnErr, OnOk, IsTrue, None, Some, length, map, false, slice_get};
+ghost use Rattle.std.specs.Prelude.{◌≡◌, ◌<◌, ◌≤◌, [], true, IfOk, IfErr, OnErr, OnOk, IsTrue, None, Some, length, false, slice_get};
 ghost use Rattle.std.specs.List.{list_all};
 ghost use Rattle.std.specs.String.{string_eq};
 ghost use Rattle.indexmap.specs.IndexMap.{insert_entry};
@@ -9,6 +9,7 @@ ghost use Rattle.desk_api.specs.Records.{AreNew, IsFaultIn, IsFirstFault, channe
 ghost use Rattle.desk_api.specs.Sites as sites;
 ghost use Rattle.desk_api.specs.Sites.{first_named, names_from};
 ghost use Rattle.desk_api.specs.Types.{type_shown};
+ghost use Rattle.group_view.specs.Seen.{configs_seen};
 ghost use Rattle.journal_core.specs.Legality.{AreValid};
 ghost use Rattle.rec_kinds.specs.Building.{IsBuildFault};
 ghost use Rattle.rec_kinds.specs.Validity.{IsValid};
@@ -207,7 +208,7 @@ impl Records {
 
     /// How the records are configured, in their order. The configurations are shared and not copied.
     pub(crate) fn configs(&self, alloc: Global) -> Result<Vec<Arc<RecConfig>>, NoMemory>
-        ensures { IfOk result (λ configs. map (λ c. c.value) configs.items ≡ self.now.configs) }
+        ensures { IfOk result (λ configs. configs_seen configs.items ≡ self.now.configs) }
     {
         let count = self.by_name.len();
         let mut configs = Vec::with_capacity(alloc, count)?;

@@ -1,6 +1,7 @@
 // What gets and puts of a channel read and do, as every desk needs it.
 ghost use Rattle.std.specs.Prelude.{◌≡◌, ◌<◌, ◌||◌, ◌∷◌, [], ℕ, true, IfErr, IfOk, IsTrue, OnOk, Ok, length, slice_get};
 ghost use Rattle.std.specs.List.{AllByRecursion};
+ghost use Rattle.std.specs.List.Sorted.{IsStrictlyIncreasing};
 ghost use Rattle.desk_api.specs.Grouping.{is_among};
 ghost use Rattle.desk_api.specs.Puts.{IsRefusal, IsRefusedBy, actions_of, footprint_by, is_held_with, to_configured};
 ghost use Rattle.desk_api.specs.Sites as sites;
@@ -19,6 +20,15 @@ use pvd_value::PvValue;
 use rec_fields::{FieldAnswer, action_of, desc_view, view};
 use rec_kinds::{Action, PutRefusal, RecState};
 use std::alloc::Global;
+
+/// Sorts numbers, and keeps of equal ones one.
+fn in_rising_order(numbers: &mut Vec<u32>)
+    ensures rises { IsStrictlyIncreasing numbers.new.items }
+    ensures same { (n : ℕ) → is_among numbers.new.items n ≡ is_among numbers.old.items n }
+{
+    numbers.sort_unstable();
+    numbers.dedup();
+}
 
 /// One action, as a list.
 fn one_action(alloc: Global, rec: u32, action: Action) -> Result<Vec<(u32, Action)>, NoMemory>
@@ -140,8 +150,7 @@ impl Site {
         for (rec, _) in actions {
             self.add_held(alloc, *rec, &mut found)?;
         }
-        found.sort_unstable();
-        found.dedup();
+        in_rising_order(&mut found);
         Ok(found)
     }
 

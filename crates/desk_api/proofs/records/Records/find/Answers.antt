@@ -4,7 +4,7 @@ use Rattle.std.proofs.Common.{sym, ◌∙◌, ap}
 use Rattle.desk_api.proofs.Naming.{desc_found, val_found, own_found}
 use Rattle.desk_api.specs.Sites.{first_named, names_from, channel_named}
 use Rattle.desk_api.specs.declared.history.SiteData.{SiteData}
-use Rattle.desk_api.proofs.site.Site.find.Goals as goal
+use Rattle.desk_api.proofs.records.Records.find.Goals as goal
 
 -- what a name was before the suffix was taken off
 whole : (name suffix front : List ℕ) → StripsSuffix (FindsTextSuffix suffix) name front → name ≡ front ++ suffix
