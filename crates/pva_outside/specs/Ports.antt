@@ -1,6 +1,6 @@
 -- What one drive of a port does (EPICS record reference, "OUT").
 use Rattle.std.specs.Prelude.{◌≡◌, ℕ, List, take, Option, None, Some}
-use Rattle.pva_outside.specs.Count.{Rose}
+use Rattle.pva_outside.specs.Count.{Rose, RoseByOne}
 use Rattle.pva_outside.specs.declared.port.DriveStep.{DriveStep}
 use Rattle.pva_outside.specs.declared.port.DriveStep.TheVariants.{Drove, Failed}
 
@@ -16,7 +16,7 @@ pub record PortView : Type 0 where
 
 -- There was one drive more, with this text.
 pub record IsOneMore (old new : Drives) (text : List ℕ) : Type 0 where
-  pub count : Rose old.count new.count
+  pub count : RoseByOne old.count new.count
   pub last : new.last ≡ take 64 text
 
 -- the same, where drives are told

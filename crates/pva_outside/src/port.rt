@@ -1,6 +1,6 @@
 // Where the values of output records go: the trait, the port in memory and the port over a writer.
 ghost use Rattle.std.specs.Prelude.{◌≡◌, ◌≤◌, ◌↔◌, Contains, Some, option_map, length, take};
-ghost use Rattle.pva_outside.specs.Count.{Rose};
+ghost use Rattle.pva_outside.specs.Count.{RoseByOne};
 ghost use Rattle.pva_outside.specs.Ports.{PortView, IsDriven};
 
 use crate::count::raise;
@@ -91,7 +91,7 @@ impl Port for MemoryPort {
     fn drive(&mut self, text: &[u8]) -> DriveStep
         ensures step { IsDriven (memory_port self.old) (memory_port self.new) result text.now }
         ensures failing { failing_drives self.new ≡ failing_drives self.old }
-        ensures counted { Rose self.old.drives self.new.drives }
+        ensures counted { RoseByOne self.old.drives self.new.drives }
         ensures fails { (result ≡ DriveStep.Failed) ↔ Contains (failing_drives self.old) self.new.drives }
     {
         raise(&mut self.drives);

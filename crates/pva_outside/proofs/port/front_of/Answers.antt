@@ -1,4 +1,4 @@
-use Rattle.std.proofs.Common.{ℕ, ◌≡◌, take, length, min, List, sym, ◌∙◌, ap, arith}
+use Rattle.std.proofs.Common.{ℕ, ◌≡◌, take, length, ◌∙◌, ap, arith}
 use Rattle.std.proofs.lemmas.List.{take_at, take_min, length-take}
 use Rattle.pva_outside.proofs.port.front_of.Goals as goal
 
