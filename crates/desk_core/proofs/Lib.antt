@@ -1,5 +1,4 @@
-pub mod Cells
+pub mod Listing
 pub mod Ported
 pub mod Marking
-pub mod Soloing
-pub mod Putting
+pub mod Doing

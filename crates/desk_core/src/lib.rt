@@ -1,9 +1,12 @@
 //! The desks that a server reads its records through.
 #![tactic(auto)]
 
+mod cells;
 mod draft;
 mod driving;
+mod entering;
 mod log;
+mod looks;
 mod solo;
 #[cfg(test)]
 mod tests;
