@@ -1,10 +1,12 @@
 -- Actions that were done, one after another.
 use Rattle.std.proofs.Common.{◌≡◌, ◌==◌, ℕ, ◌+◌, ◌*◌, ◌≤◌, ◌<◌, zero, suc, Bool, List, [], ◌∷◌, ◌++◌, length, take, drop, set, Option, None, Some, MatchOption, Result, Ok, Err, OnErr, OnOk, inl, inr, refl, sym, ◌∙◌, ap, subst, arith, length-append}
 use Rattle.std.specs.List.{slice_get, AllByRecursion, All, filter, range_with_len, sum_by}
-use Rattle.std.specs.Prelude.{◌^◌, ◌||◌, true, is_some}
-use Rattle.std.proofs.lemmas.List.{append-nil, length-set}
+use Rattle.std.specs.Prelude.{◌^◌, ◌||◌, true, false, if◌then◌else◌, is_some}
+use Rattle.std.proofs.Math.Seq.{take-length}
+use Rattle.std.proofs.lemmas.List.{length-set}
 use Rattle.std.proofs.lemmas.List.Elements.{All-same, All-cons, All-nil}
 use Rattle.std.proofs.lemmas.List.Sums.{fold-append, sum_by-append, sum_by-cons}
+use Rattle.std.proofs.lemmas.List.FromFn.{length-range_with_len}
 use Rattle.std.proofs.lemmas.Option.{none-some, slice_get_within}
 use Rattle.rec_kinds.specs.Configs.{Config}
 use Rattle.rec_kinds.specs.Texts.{text_of_datum}
@@ -16,7 +18,10 @@ use Rattle.rec_kinds.proofs.Keeping.{valid_after}
 use Rattle.journal_core.specs.Histories.{written, WritesWithin}
 use Rattle.journal_core.specs.Legality.{AreProcessed, AreValid, IsDone}
 use Rattle.journal_core.specs.Moments.{Moment}
-use Rattle.journal_core.specs.Weights.{action_weight}
+use Rattle.journal_core.specs.Weights.{action_weight, weight}
+use Rattle.journal_core.specs.declared.entry.Entry.{Entry}
+use Rattle.desk_api.specs.Puts.{footprint_by, is_held}
+use Rattle.desk_api.specs.declared.history.SiteData.{SiteData}
 use Rattle.journal_core.proofs.Keeping.{valid_at, valid_set}
 use Rattle.desk_core.specs.Effects.{restored, IsWritten, IsNextOf, AreDone, IsBroken}
 use Rattle.desk_core.specs.Ports.{Ports, AreDriven, IsDrivenAt, IsTriedAt, ports_there}
@@ -179,8 +184,8 @@ on_err (Ok x) p = tt
 on_err (Err e) p = p
 
 pub on_ok : {A E : Type 0} (r : Result A E) {P Q : Type 0} → OnOk r P → (P → Q) → OnOk r Q
-on_ok (Ok x) p then = then p
-on_ok (Err e) p then = tt
+on_ok (Ok x) p step = step p
+on_ok (Err e) p step = tt
 
 -- in an action
 module _ (configs : List Config) (was : List RecState) (rec : ℕ) (action : Action) (moment : Moment) (config : Config) (state : RecState)
@@ -200,6 +205,17 @@ module _ (configs : List Config) (was : List RecState) (rec : ℕ) (action : Act
   pub tried_broken : (old new : Ports) → ((drove : Bool) (text : List ℕ) → IsDrivenAt old new rec drove text → (drove || is_some config.port) ≡ true) → IsTriedAt old new rec (text_of_datum (datum_after config state action)) → IsBroken configs was old new ((rec, action) ∷ []) moment
   tried_broken old new told (inl same) = none_broken configs was old new ((rec, action) ∷ []) moment same
   tried_broken old new told (inr (drove, driven)) = one_broken old new drove (told drove (text_of_datum (datum_after config state action)) driven) driven
+
+-- behind all of them
+pub done_broken : (configs : List Config) (moment : Moment) (was cells : List RecState) (old new : Ports) (actions : List (ℕ × Action)) (drives : List Bool) (writes before : List (ℕ × RecState))
+    → AreDone configs moment was cells old new actions drives writes before → IsBroken configs was old new actions moment
+done_broken configs moment was cells old new actions drives writes before d = record {
+  drives = drives;
+  writes = writes;
+  processed = subst (λ (l : List (ℕ × Action)). AreProcessed configs was moment l drives writes)
+      (sym (ap (λ (n : ℕ). take n actions) (as_many_writes configs was moment actions drives writes d.processed) ∙ take-length actions)) d.processed;
+  driven = d.driven;
+}
 
 -- behind others
 one_of : (configs : List Config) (was : List RecState) (moment : Moment) (action : ℕ × Action) (drives : List Bool) (writes : List (ℕ × RecState)) → AreProcessed configs was moment (take (length writes) (action ∷ [])) drives writes
@@ -250,9 +266,21 @@ more_broken configs moment was cells old mid new actions i action drives writes 
 
 -- ---- what was drafted is light
 
-pub more_light : (actions : List (ℕ × Action)) (i : ℕ) (action : ℕ × Action) → slice_get actions i ≡ Some action → sum_by action_weight (take i actions) ≤ i * 2 ^ 39 → action_weight action ≤ 2 ^ 39 → sum_by action_weight (take (suc i) actions) ≤ suc i * 2 ^ 39
+pub more_light : (actions : List (ℕ × Action)) (i : ℕ) (action : ℕ × Action) → slice_get actions i ≡ Some action → sum_by action_weight (take i actions) ≤ i * 2 ^ 39 → action_weight action ≤ 2 ^ 39 → sum_by action_weight (take (i + 1) actions) ≤ (i + 1) * 2 ^ 39
 more_light actions i action is light one =
     omega (arith, light, one, ap (sum_by action_weight) (next_taken actions i action is), sum_by-append action_weight (take i actions) (action ∷ []), sum_by-cons action_weight action [])
 
 pub may_be : (configured : Option Config) (config : Config) (action : Action) → configured ≡ Some config → MatchOption configured ⊥ (λ (k : Config). MayBeDone k action) → MayBeDone config action
 may_be configured config action is may = subst (λ (o : Option Config). MatchOption o ⊥ (λ (k : Config). MayBeDone k action)) is may
+
+kept_by : (p : ℕ → Bool) (ns : List ℕ) → length (filter p ns) ≤ length ns
+kept_by p [] = omega arith
+kept_by p (n ∷ ns) = kept_if (p n) (filter p ns) (length ns) (kept_by p ns) where
+  kept_if : (b : Bool) (more : List ℕ) (count : ℕ) → length more ≤ count → length (if b then n ∷ more else more) ≤ suc count
+  kept_if true more count le = omega (arith, le)
+  kept_if false more count le = omega (arith, le)
+
+pub entry_light : (site : SiteData) (actions : List (ℕ × Action)) (entry : Entry) → entry.footprint ≡ footprint_by site actions → entry.actions ≡ actions → length site.configs < 4001 → length actions ≤ 256
+    → sum_by action_weight actions ≤ length actions * 2 ^ 39 → weight entry < 2 ^ 64
+entry_light site actions entry footprint_is actions_are few_configs few light =
+    omega (arith, few_configs, few, light, ap length footprint_is, kept_by (is_held site actions) (range_with_len 0 (length site.configs)), length-range_with_len 0 (length site.configs), ap (sum_by action_weight) actions_are)

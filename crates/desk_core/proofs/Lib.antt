@@ -2,3 +2,5 @@ pub mod Listing
 pub mod Ported
 pub mod Marking
 pub mod Doing
+pub mod Soloing
+pub mod Beginning

@@ -1,5 +1,5 @@
 -- Elements of lists, the cells of records, and what actions weigh.
-use Rattle.std.proofs.Common.{◌≡◌, ◌==◌, ℕ, ◌+◌, ◌*◌, ◌≤◌, ◌<◌, zero, suc, Bool, true, false, if◌then◌else◌, List, [], ◌∷◌, ◌++◌, length, take, drop, get_or, Option, None, Some, refl, sym, ap, subst, arith}
+use Rattle.std.proofs.Common.{◌≡◌, ◌==◌, ℕ, ◌+◌, ◌*◌, ◌≤◌, ◌<◌, zero, suc, Bool, true, false, if◌then◌else◌, List, [], ◌∷◌, ◌++◌, length, take, drop, get_or, Option, None, Some, refl, sym, ◌∙◌, ap, subst, arith}
 use Rattle.std.specs.List.{slice_get, AllByRecursion, list_all, sum_by}
 use Rattle.std.specs.Prelude.{◌^◌, ◌||◌, IsTrue, is_some, nat_le}
 use Rattle.std.proofs.lemmas.Bool.{eq-eqb, leb-true, and_parts}
@@ -72,10 +72,16 @@ pub action_light : (rec : ℕ) (config : Config) (action : Action) → config.ne
 action_light rec config action few may = omega (arith, few, payload_small config action may)
 
 -- one element more
-pub next_taken : {X : Type 0} (xs : List X) (n : ℕ) (x : X) → slice_get xs n ≡ Some x → take (suc n) xs ≡ take n xs ++ x ∷ []
-next_taken [] n x is = absurd (none-some x is)
-next_taken {X} (y ∷ xs) zero x is = let same : y ≡ x = cc in ap (λ (z : X). z ∷ []) same
-next_taken {X} (y ∷ xs) (suc n) x is = ap (λ (l : List X). y ∷ l) (next_taken xs n x is)
+next : {X : Type 0} (xs : List X) (n : ℕ) (x : X) → slice_get xs n ≡ Some x → take (suc n) xs ≡ take n xs ++ x ∷ []
+next [] n x is = absurd (none-some x is)
+next {X} (y ∷ xs) zero x is = let same : y ≡ x = cc in ap (λ (z : X). z ∷ []) same
+next {X} (y ∷ xs) (suc n) x is = ap (λ (l : List X). y ∷ l) (next xs n x is)
+
+one_more : (n : ℕ) → n + 1 ≡ suc n
+one_more n = omega arith
+
+pub next_taken : {X : Type 0} (xs : List X) (n : ℕ) (x : X) → slice_get xs n ≡ Some x → take (n + 1) xs ≡ take n xs ++ x ∷ []
+next_taken xs n x is = ap (λ (k : ℕ). take k xs) (one_more n) ∙ next xs n x is
 
 pub all_at : {X : Type 0} (P : X → Type 0) (xs : List X) (n : ℕ) (x : X) → AllByRecursion P xs → slice_get xs n ≡ Some x → P x
 all_at P [] n x all is = absurd (none-some x is)

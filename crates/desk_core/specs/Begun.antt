@@ -1,5 +1,5 @@
 -- What the entries of a put came to, on a desk that nobody shares.
-use Rattle.std.specs.Prelude.{◌≡◌, ℕ, ◌+◌, ◌<◌, ◌≤◌, ⊤, ⊥, List, [], ◌∷◌, ◌++◌, length, map, take, Some, slice_get, Result, Ok, Err}
+use Rattle.std.specs.Prelude.{◌≡◌, ℕ, ◌+◌, ◌<◌, ◌≤◌, ⊤, List, [], ◌∷◌, ◌++◌, length, map, take, Some, slice_get, Result, Ok, Err}
 use Rattle.rec_kinds.specs.declared.datum.Action.{Action}
 use Rattle.journal_core.specs.Histories.{Journal, kept}
 use Rattle.journal_core.specs.Moments.{Moment}

@@ -15,7 +15,7 @@ use crate::log::{Log, Terms};
 use crate::looks::note_looks;
 use desk_api::{
     Action, Channel, Desk, Done, FieldAnswer, Moment, NoMemory, PutAnswer, PvType, PvValue,
-    Site, looks_show_states,
+    Site, entries_write_inside, looks_show_states,
 };
 use journal_core::History;
 use pva_outside::Port;
@@ -126,6 +126,7 @@ impl<P: Port> SoloDesk<P> {
         ensures put { IsPutNow self.old.terms.site moment actions.items done self.old.log self.new.log (ports_of P.port self.old) (ports_of P.port self.new) result }
         ensures terms { self.new.terms ≡ self.old.terms }
     {
+        entries_write_inside();
         let Ok(entry) = self.cells.draft(alloc, &self.terms.site, actions, moment) else {
             return Err(PutAnswer::NoMemory { done });
         };

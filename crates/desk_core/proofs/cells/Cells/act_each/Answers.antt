@@ -6,7 +6,7 @@ use Rattle.rec_kinds.specs.declared.state.RecState.{RecState}
 use Rattle.journal_core.specs.Legality.{AreValid}
 use Rattle.desk_core.specs.Effects.{AreDone}
 use Rattle.desk_core.proofs.Doing.{on_err, more_broken, more_done, more_light, none_done, valid_next, within_now}
-use Rattle.desk_core.proofs.Listing.{next_taken, there}
+use Rattle.desk_core.proofs.Listing.{next_taken, got}
 use Rattle.desk_core.proofs.Ported.{ported, stay_at}
 use Rattle.desk_core.proofs.cells.Cells.act_each.Goals as goal
 
@@ -15,7 +15,7 @@ returns-in_err-act-clause-broken g c =
     let i = c.loop-rec.rec-index in
     on_err c.from_residual.result
     (more_broken c.args.site.now.configs c.args.moment c.args.self.now.states.items c.loop-rec.self.states.items _ _ _ c.args.actions.now i _ _ _ _
-    (there c.args.actions.now i _ c.loop-rec-test.true c.loop-rec-item.is) c.loop-rec.invariant.done (c.in_err-act.ensures {u = tt}).broken)
+    (got c.args.actions.now i _ c.loop-rec-test.true c.loop-rec-item.is) c.loop-rec.invariant.done (c.in_err-act.ensures {u = tt}).broken)
 
 pub returns-in_err-act-clause-within : goal.returns-in_err-act-clause-within
 returns-in_err-act-clause-within g c =
@@ -29,7 +29,7 @@ loop-rec-preserved g c =
     let i = c.loop-rec.rec-index in
     let actions = c.args.actions.now in
     let configs = c.args.site.now.configs in
-    let at = there actions i c.loop-rec-item.result c.loop-rec-test.true c.loop-rec-item.is in
+    let at = got actions i c.loop-rec-item.result c.loop-rec-test.true c.loop-rec-item.is in
     let done = c.in_ok-act.ensures {u = tt} in
     let n = done.next in record {
       done = subst (λ (l : List (ℕ × Action)). AreDone configs c.args.moment c.args.self.now.states.items c.act.new.self.states.items (map (option_map g.P.Port.port) c.args.self.now.ports.items) (map (option_map g.P.Port.port) c.act.new.self.ports.items) l c.act.new.effects.drove.items c.act.new.effects.writes.items c.act.new.self.before.items)
