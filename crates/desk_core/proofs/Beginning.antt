@@ -1,8 +1,9 @@
 -- The entries of a put, one after another.
-use Rattle.std.proofs.Common.{◌≡◌, ℕ, ◌+◌, ◌≤◌, ◌<◌, zero, suc, Bool, true, false, List, [], ◌∷◌, ◌++◌, length, take, drop, map, Option, Some, None, Result, Ok, Err, inl, inr, refl, sym, ◌∙◌, ap, subst, arith, length-append, append_assoc}
+use Rattle.std.proofs.Common.{◌≡◌, ℕ, ◌+◌, ◌≤◌, ◌<◌, zero, suc, Bool, true, false, List, [], ◌∷◌, ◌++◌, length, take, drop, map, option_map, Option, Some, None, Result, Ok, Err, inl, inr, refl, sym, ◌∙◌, ap, subst, arith, length-append, append_assoc}
 use Rattle.std.specs.List.{slice_get}
 use Rattle.std.proofs.Math.Seq.{take-length}
-use Rattle.std.proofs.lemmas.List.{append-nil, length-map, map-append}
+use Rattle.std.proofs.lemmas.List.{append-nil, length-map, map-append, take-map}
+use Rattle.std.proofs.lemmas.Option.{slice_get-map}
 use Rattle.rec_kinds.specs.declared.datum.Action.{Action}
 use Rattle.rec_kinds.specs.declared.state.RecState.{RecState}
 use Rattle.rec_fields.specs.declared.puts.FieldAnswer.{FieldAnswer}
@@ -125,6 +126,20 @@ module _ (site : SiteData) (moment : Moment) where
 
   pub whole_ends : (actions : List (ℕ × Action)) (s t : Seat) (old new : Ports) → IsLegal s.seen → (answer : PutAnswer) → IsPutNow site moment actions 0 s t old new (Err answer) → ArePutInTurn site moment (actions ∷ []) s t old new (Err answer)
   whole_ends actions s t old new legal answer i = ends_after (actions ∷ []) 0 actions s s t old old new (none_begun s old legal) refl refl answer i
+
+-- an entry for each action, of which some were put
+abbrev pub alone : ℕ × Action → List (ℕ × Action)
+alone action = action ∷ []
+
+module _ (actions done : List (ℕ × Action)) (count : ℕ) (count_is : count ≡ length done) (so_far : done ≡ take (length done) actions) (action : ℕ × Action) (at : slice_get actions (length done) ≡ Some action) where
+  pub alone_taken : take count (map alone actions) ≡ map alone done
+  alone_taken = ap (λ (n : ℕ). take n (map alone actions)) count_is ∙ take-map alone (length done) actions ∙ ap (map alone) (sym so_far)
+
+  pub alone_many : length (take count (map alone actions)) ≡ count
+  alone_many = ap length alone_taken ∙ length-map done alone ∙ sym count_is
+
+  pub alone_next : slice_get (map alone actions) count ≡ Some (action ∷ [])
+  alone_next = ap (slice_get (map alone actions)) count_is ∙ slice_get-map alone actions (length done) ∙ ap (option_map alone) at
 
 -- ---- what a put is for every desk
 

@@ -182,10 +182,10 @@ impl<P: Port> SoloDesk<P> {
             let Ok(actions) = one_action(alloc, action) else {
                 return Err(PutAnswer::NoMemory { done: count });
             };
-            if let Err(answer) = self.put_entry(alloc, actions, moment, count) {
-                return Err(answer);
+            match self.put_entry(alloc, actions, moment, count) {
+                Ok(_) => count += 1,
+                Err(answer) => return Err(answer),
             }
-            count += 1;
         }
         Ok(Done { first, count })
     }
