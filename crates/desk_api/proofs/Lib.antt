@@ -6,3 +6,7 @@ pub mod Showing
 pub mod Rising
 pub mod Noting
 pub mod Holding
+pub mod Reaching
+pub mod Building
+pub mod Reading
+pub mod Acting

@@ -1,12 +1,17 @@
 -- What the names of a site stand for.
-use Rattle.std.specs.Prelude.{◌≡◌, ℕ, ◌+◌, ◌<◌, ◌&&◌, Bool, not, List, [], ◌∷◌, ◌++◌, length, Option, Some, None, IsTrue, bytes_eq, codes, refl}
+use Rattle.std.specs.Prelude.{◌≡◌, ℕ, zero, suc, ◌+◌, ◌<◌, ◌&&◌, ◌||◌, Bool, not, List, [], ◌∷◌, ◌++◌, length, map, Option, Some, None, IsTrue, slice_get, bytes_eq, codes, string_bytes, string_eq, String, option_map, refl}
 use Rattle.std.specs.Bool.{Decides}
-use Rattle.std.specs.List.{list_all}
+use Rattle.std.specs.List.{AllByRecursion, IsDistinct, list_all, list_any, position_from}
 use Rattle.std.specs.Option.{option_or}
-use Rattle.std.proofs.Common.{true, false, cond, arith, sym, ◌∙◌, ap, subst, append_assoc}
+use Rattle.std.proofs.Common.{true, false, cond, arith, sym, ◌∙◌, ap, subst, append_assoc, take, Global}
 use Rattle.std.proofs.lemmas.Bool.{lt-ltb, and_parts, false≢true}
 use Rattle.std.proofs.lemmas.Bool.Decides.{same_from_decides}
-use Rattle.std.proofs.lemmas.List.{append_cancel_right}
+use Rattle.std.proofs.lemmas.List.{append_cancel_right, map-append}
+use Rattle.std.proofs.lemmas.Map.Keys.{IsDistinct-head, IsDistinct-tail}
+use Rattle.indexmap.specs.IndexSet.{insert_key}
+use Rattle.desk_api.proofs.Showing.{first_or, rest_of}
+use Rattle.desk_api.proofs.Recording.{turned}
+use Rattle.desk_api.specs.Grouping.{is_one_of}
 use Rattle.std.proofs.lemmas.List.Folds.{list_all-append}
 use Rattle.std.proofs.lemmas.Option.{none-some}
 use Rattle.std.proofs.lemmas.Slice.Eq.{bytes_eq-Decides}
@@ -134,3 +139,50 @@ pub own_found : (n : ℕ) (names : List (List ℕ)) (name : List ℕ) → ((fron
 own_found n [] name no_val no_desc = refl
 own_found n (x ∷ names) name no_val no_desc =
     rw (differ name (x ++ codes ".VAL") (no_val x), differ name (x ++ codes ".DESC") (no_desc x), own_found (n + 1) names name no_val no_desc) refl
+
+-- ---- names that are all different
+
+all_of : {A : Type 0} (P : A → Type 0) (xs : List A) (n : ℕ) (x : A) → AllByRecursion P xs → slice_get xs n ≡ Some x → P x
+all_of P [] n x all is = absurd (none-some x is)
+all_of P (y ∷ xs) zero x all is = let same : y ≡ x = cc is in subst P same all.0
+all_of P (y ∷ xs) (suc n) x all is = all_of P xs n x all.1 is
+
+-- a name stands only once among names that are all different
+pub distinct_before : (xs : List (List ℕ)) (n : ℕ) (x : List ℕ) → IsDistinct bytes_eq xs → slice_get xs n ≡ Some x → is_one_of (take n xs) x ≡ false
+distinct_before [] n x distinct is = absurd (none-some x is)
+distinct_before (y ∷ xs) zero x distinct is = refl
+distinct_before (y ∷ xs) (suc n) x distinct is =
+    let apart : bytes_eq y x ≡ false = all_of (λ z. bytes_eq y z ≡ false) xs n x (IsDistinct-head bytes_eq y xs distinct) is in
+    rw (turned x y ∙ apart) (distinct_before xs n x (IsDistinct-tail bytes_eq y xs distinct) is)
+
+none_equal : (keys : List (String Global)) (k : String Global) → is_one_of (map string_bytes keys) (string_bytes k) ≡ false → list_any (string_eq k) keys ≡ false
+none_equal [] k is = refl
+none_equal (x ∷ keys) k is = both_false (bytes_eq (string_bytes k) (string_bytes x)) (is_one_of (map string_bytes keys) (string_bytes k)) (list_any (string_eq k) keys) (none_equal keys k) is where
+  both_false : (a b c : Bool) → (b ≡ false → c ≡ false) → (a || b) ≡ false → (a || c) ≡ false
+  both_false true b c later is = is
+  both_false false b c later is = later is
+
+pub pushed_new : (old new : List (String Global)) (k : String Global) (name : List ℕ) → string_bytes k ≡ name → is_one_of (map string_bytes old) name ≡ false → new ≡ insert_key string_eq old k
+    → map string_bytes new ≡ map string_bytes old ++ name ∷ []
+pushed_new old new k name bytes fresh is =
+    let none_same = none_equal old k (ap (is_one_of (map string_bytes old)) bytes ∙ fresh) in
+    ap (map string_bytes) (is ∙ ap (λ (b : Bool). cond b old (old ++ k ∷ [])) none_same)
+    ∙ map-append string_bytes old (k ∷ [])
+    ∙ ap (λ (b : List ℕ). map string_bytes old ++ b ∷ []) bytes
+
+-- the number under which a set has a name is that of its group
+pub group_place : (n : ℕ) (name : List ℕ) (keys : List (String Global)) (groups : List GroupData) → map string_bytes keys ≡ map (λ (g : GroupData). g.name) groups
+    → first_named name (group_names_from n groups) ≡ option_map (channel_of Group) (position_from (λ k. bytes_eq name (string_bytes k)) n keys)
+group_place n name [] [] same = refl
+group_place n name [] (g ∷ groups) same = absurd (cc same)
+group_place n name (k ∷ keys) [] same = absurd (cc same)
+group_place n name (k ∷ keys) (g ∷ groups) same =
+    let first : string_bytes k ≡ g.name = ap (λ (l : List (List ℕ)). first_or [] l) same in
+    let rest : map string_bytes keys ≡ map (λ (x : GroupData). x.name) groups = ap (λ (l : List (List ℕ)). rest_of l) same in
+    ap (λ (b : List ℕ). cond (bytes_eq name b) (Some (channel_of Group n)) (first_named name (group_names_from (n + 1) groups))) (sym first)
+    ∙ here_or_later (bytes_eq name (string_bytes k)) (group_place (n + 1) name keys groups rest)
+  where
+    here_or_later : (b : Bool) → first_named name (group_names_from (n + 1) groups) ≡ option_map (channel_of Group) (position_from (λ k. bytes_eq name (string_bytes k)) (n + 1) keys)
+        → cond b (Some (channel_of Group n)) (first_named name (group_names_from (n + 1) groups)) ≡ option_map (channel_of Group) (cond b (Some n) (position_from (λ k. bytes_eq name (string_bytes k)) (n + 1) keys))
+    here_or_later true later = refl
+    here_or_later false later = later

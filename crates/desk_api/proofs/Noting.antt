@@ -1,5 +1,5 @@
 -- Numbers that are noted for others.
-use Rattle.std.specs.Prelude.{◌≡◌, ℕ, zero, suc, ◌+◌, ◌<◌, ◌≤◌, ◌==◌, ◌||◌, ◌&&◌, Bool, List, replicate, [], ◌∷◌, ◌++◌, length, fold, set, take, slice_get, Option, Some, None, refl, ⊤}
+use Rattle.std.specs.Prelude.{◌≡◌, ℕ, zero, suc, ◌+◌, ◌<◌, ◌≤◌, ◌==◌, ◌||◌, ◌&&◌, Bool, List, replicate, [], ◌∷◌, ◌++◌, length, fold, set, take, slice_get, map, option_map, Option, Some, None, refl, ⊤}
 use Rattle.std.specs.BTreeSet.{insert_key}
 use Rattle.std.specs.List.{list_any, AllByRecursion}
 use Rattle.std.specs.Ordering.{nat_cmp, match_ordering}
@@ -9,10 +9,12 @@ use Rattle.std.proofs.Common.{true, false, cond, arith, sym, ◌∙◌, ap, subs
 use Rattle.std.proofs.lemmas.Bool.{false≢true, eqb-true, eqb-false, ne_eqb}
 use Rattle.std.proofs.lemmas.Map.Lookups.{exact_unsigned}
 use Rattle.std.proofs.lemmas.List.Folds.{list_any-append}
-use Rattle.std.proofs.lemmas.Option.{none-some, slice_get_past}
+use Rattle.std.proofs.lemmas.Option.{none-some, slice_get_within, slice_get-map}
+use Rattle.std.proofs.lemmas.List.{length-map, map-set}
+use Rattle.std.proofs.lemmas.Map.Keys.{any_passes_from_place}
 use Rattle.group_view.specs.Groups.{GroupData}
-use Rattle.group_view.specs.Leaves.{records_of, rising}
-use Rattle.desk_api.specs.Grouping.{is_among, noted, is_noted, has_record}
+use Rattle.group_view.specs.Leaves.{footprint, records_of, rising}
+use Rattle.desk_api.specs.Grouping.{is_among, noted, is_noted, has_record, AreNoted}
 
 -- ---- what is among numbers
 
@@ -57,7 +59,7 @@ module _ (P : ℕ → Type 0) where
   all_from_each [] each = tt
   all_from_each (m ∷ ns) each = (each m (here m ns), all_from_each ns (λ n is. each n (later m ns n is)))
 
-or_false : (b : Bool) → (b || false) ≡ b
+pub or_false : (b : Bool) → (b || false) ≡ b
 or_false true = refl
 or_false false = refl
 
@@ -143,6 +145,16 @@ note_by index rec n r m false less is =
 pub noted_more : (index : List (List ℕ)) (rec n r m : ℕ) → rec < length index → is_noted (with_noted index rec n) r m ≡ (is_noted index r m || (rec == r && n == m))
 noted_more index rec n r m less = note_by index rec n r m (rec == r) less refl
 
+-- one more number pushed into the list of a record
+pub noted_pushed : {V : Type 0} (items : V → List ℕ) (xs : List V) (rec n : ℕ) (old new : V) → slice_get xs rec ≡ Some old → items new ≡ items old ++ n ∷ []
+    → (r m : ℕ) → is_noted (map items (set xs rec new)) r m ≡ (is_noted (map items xs) r m || (is_among (rec ∷ []) r && n == m))
+noted_pushed {V} items xs rec n old new is more r m =
+    let index = map items xs in
+    let less : rec < length index = omega (arith, slice_get_within xs rec old is, length-map xs items) in
+    let was : noted (slice_get index rec) ≡ items old = ap noted (slice_get-map items xs rec ∙ ap (option_map items) is) in
+    let now : map items (set xs rec new) ≡ with_noted index rec n = map-set items xs rec new ∙ ap (set index rec) (more ∙ ap (λ (l : List ℕ). l ++ n ∷ []) (sym was)) in
+    ap (λ (l : List (List ℕ)). is_noted l r m) now ∙ noted_more index rec n r m less ∙ ap (λ (b : Bool). is_noted index r m || (b && n == m)) (sym (or_false (rec == r)))
+
 more_cases : (a b c d : Bool) → ((a || (b && d)) || (c && d)) ≡ (a || ((b || c) && d))
 more_cases true b c d = refl
 more_cases false true true true = refl
@@ -152,13 +164,13 @@ more_cases false true false false = refl
 more_cases false false c d = refl
 
 -- notes for some records, and then for one more
-pub noted_each : (index now next : List (List ℕ)) (recs : List ℕ) (rec n r m : ℕ)
-    → is_noted now r m ≡ (is_noted index r m || (is_among recs r && n == m)) → is_noted next r m ≡ (is_noted now r m || (rec == r && n == m))
-    → is_noted next r m ≡ (is_noted index r m || (is_among (recs ++ rec ∷ []) r && n == m))
-noted_each index now next recs rec n r m before step =
-    step ∙ ap (λ (b : Bool). b || (rec == r && n == m)) before
-    ∙ more_cases (is_noted index r m) (is_among recs r) (rec == r) (n == m)
-    ∙ ap (λ (b : Bool). is_noted index r m || (b && n == m)) (sym (among_last recs rec r))
+pub noted_each : (index now next : List (List ℕ)) (recs more : List ℕ) (n r m : ℕ)
+    → is_noted now r m ≡ (is_noted index r m || (is_among recs r && n == m)) → is_noted next r m ≡ (is_noted now r m || (is_among more r && n == m))
+    → is_noted next r m ≡ (is_noted index r m || (is_among (recs ++ more) r && n == m))
+noted_each index now next recs more n r m before step =
+    step ∙ ap (λ (b : Bool). b || (is_among more r && n == m)) before
+    ∙ more_cases (is_noted index r m) (is_among recs r) (is_among more r) (n == m)
+    ∙ ap (λ (b : Bool). is_noted index r m || (b && n == m)) (sym (among_both recs more r))
 
 taken_elsewhere : {A : Type 0} (xs : List A) (n m : ℕ) (x : A) → slice_get xs n ≡ Some x → (n ≡ m → ⊥) → slice_get (take (suc n) xs) m ≡ slice_get (take n xs) m
 taken_elsewhere [] n m x is apart = absurd (none-some x is)
@@ -214,3 +226,55 @@ none_noted count r m index is = ap (λ (l : List (List ℕ)). is_noted l r m) is
   empty zero r = refl
   empty (suc count) zero = refl
   empty (suc count) (suc r) = empty count r
+
+-- what is noted is a group's
+pub noted_within : (index : List (List ℕ)) (groups : List GroupData) (rec n : ℕ) → AreNoted index groups → is_noted index rec n ≡ true → n < length groups
+noted_within index groups rec n are is = within_by (slice_get groups n) refl (sym (are rec n) ∙ is) where
+  within_by : (o : Option GroupData) → slice_get groups n ≡ o → has_record o rec ≡ true → n < length groups
+  within_by None found has = absurd (false≢true has)
+  within_by (Some g) found has = slice_get_within groups n g found
+
+-- ---- what is read
+
+abbrev pub is_read : Option GroupData → ℕ → ℕ → Bool
+is_read None rec n = false
+is_read (Some group) rec n = is_among (footprint group rec) n
+
+read_more_cases : (a b c : Bool) → ((a || b) || c) ≡ (a || (b || c))
+read_more_cases true b c = refl
+read_more_cases false b c = refl
+
+-- what one more group reads
+pub read_more : (groups : List GroupData) (rec n k : ℕ) (ks before now next : List ℕ) (g : GroupData) → slice_get groups k ≡ Some g
+    → is_among now n ≡ (is_among before n || list_any (λ j. is_read (slice_get groups j) rec n) ks) → next ≡ now ++ footprint g rec
+    → is_among next n ≡ (is_among before n || list_any (λ j. is_read (slice_get groups j) rec n) (ks ++ k ∷ []))
+read_more groups rec n k ks before now next g is so_far more =
+    let test : ℕ → Bool = λ j. is_read (slice_get groups j) rec n in
+    let own : test k ≡ is_among (footprint g rec) n = ap (λ (o : Option GroupData). is_read o rec n) is in
+    ap (λ (l : List ℕ). is_among l n) more ∙ among_both now (footprint g rec) n
+    ∙ ap (λ (b : Bool). b || is_among (footprint g rec) n) so_far
+    ∙ read_more_cases (is_among before n) (list_any test ks) (is_among (footprint g rec) n)
+    ∙ ap (λ (b : Bool). is_among before n || (list_any test ks || b)) (sym own ∙ sym (or_false (test k)))
+    ∙ ap (λ (b : Bool). is_among before n || b) (sym (list_any-append test ks (k ∷ [])))
+
+-- the groups that are noted for a record read what all groups read
+
+pub some_place : {A : Type 0} (test : A → Bool) (xs : List A) → list_any test xs ≡ true → (k : ℕ) × (x : A) × (slice_get xs k ≡ Some x) × (test x ≡ true)
+some_place test [] is = absurd (false≢true is)
+some_place {A} test (x ∷ xs) is = here_or_there (test x) refl (λ e. some_place test xs e) is where
+  here_or_there : (b : Bool) → test x ≡ b → (list_any test xs ≡ true → (k : ℕ) × (y : A) × (slice_get xs k ≡ Some y) × (test y ≡ true)) → (b || list_any test xs) ≡ true
+      → (k : ℕ) × (y : A) × (slice_get (x ∷ xs) k ≡ Some y) × (test y ≡ true)
+  here_or_there true passes more is = (0, x, refl, passes)
+  here_or_there false passes more is = let found = more is in (suc found.0, found.1, found.2, found.3)
+
+pub passes_there : {A : Type 0} (test : A → Bool) (xs : List A) (k : ℕ) (x : A) → slice_get xs k ≡ Some x → test x ≡ true → list_any test xs ≡ true
+passes_there test xs k x is passes = any_passes_from_place test xs k x is passes
+
+read_there : (groups : List GroupData) (rec n k : ℕ) (o : Option GroupData) → slice_get groups k ≡ o → is_read o rec n ≡ true → list_any (λ g. is_among (footprint g rec) n) groups ≡ true
+read_there groups rec n k None there reads = absurd (false≢true reads)
+read_there groups rec n k (Some g) there reads = passes_there (λ g. is_among (footprint g rec) n) groups k g there reads
+
+pub read_by_noted : (groups : List GroupData) (ks : List ℕ) (rec n : ℕ) → list_any (λ j. is_read (slice_get groups j) rec n) ks ≡ true → list_any (λ g. is_among (footprint g rec) n) groups ≡ true
+read_by_noted groups ks rec n is =
+    let found = some_place (λ j. is_read (slice_get groups j) rec n) ks is in
+    read_there groups rec n found.1 (slice_get groups found.1) refl found.3

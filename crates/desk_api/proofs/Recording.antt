@@ -61,7 +61,7 @@ shows_type es rec e is types =
     same ∙ ap type_shown (sym config)
 
 -- a name that none of the records has isn't in the map
-turned : (xs ys : List ℕ) → bytes_eq xs ys ≡ bytes_eq ys xs
+pub turned : (xs ys : List ℕ) → bytes_eq xs ys ≡ bytes_eq ys xs
 turned xs ys =
     let back = bytes_eq-Decides ys xs in
     same_from_decides (bytes_eq xs ys) (bytes_eq ys xs) (bytes_eq-Decides xs ys) ((λ e. sym (back.0 e)), (λ e. back.1 (sym e)))

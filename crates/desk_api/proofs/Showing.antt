@@ -14,6 +14,8 @@ use Rattle.rec_fields.proofs.Shows.{shown_fits}
 use Rattle.group_view.specs.Groups.{GroupData, IsOver, IsReady, AreReady, HasState, IsLinkOf}
 use Rattle.group_view.specs.Links.{Link}
 use Rattle.group_view.specs.Laws.{Agree, ReadsRecords}
+use Rattle.group_view.proofs.Keeping.{shown_fits as group_shown_fits}
+use Rattle.group_view.specs.Slots.{entries_of, in_order, slots_of, structure_of}
 use Rattle.group_view.specs.Types.{group_tree}
 use Rattle.group_view.specs.Views.{group_shown}
 use Rattle.journal_core.specs.Legality.{AreValid}
@@ -38,7 +40,7 @@ use Rattle.desk_api.specs.declared.mark.Mark.TheVariants.{Read, Entered, Overwei
 
 -- ---- a group's records have states that they may be in
 
-state_for : (configs : List Config) (states : List RecState) (n : ℕ) (config : Config) → AreValid configs states → slice_get configs n ≡ Some config → (s : RecState) × (slice_get states n ≡ Some s)
+pub state_for : (configs : List Config) (states : List RecState) (n : ℕ) (config : Config) → AreValid configs states → slice_get configs n ≡ Some config → (s : RecState) × (slice_get states n ≡ Some s)
 state_for [] states n config valid is = absurd (cc is)
 state_for (c ∷ configs) [] n config valid is = absurd valid
 state_for (c ∷ configs) (s ∷ states) zero config valid is = (s, refl)
@@ -78,22 +80,23 @@ described_fits : (config : Option Config) → fits_of 16 (described config) (sca
 described_fits (Some config) = refl
 described_fits None = blank_fits 16 (scalar_tree Text) (omega arith)
 
-abbrev pub GroupsFit : Type 0
-GroupsFit = (g : GroupData) (states : List RecState) → AreReady states g → fits_of 16 (group_shown g states) (group_tree g) ≡ true
+group_fits : (g : GroupData) (states : List RecState) → AreReady states g → fits_of 16 (group_shown g states) (group_tree g) ≡ true
+unfolding structure_of
+group_fits g states ready = group_shown_fits g (slots_of (in_order (entries_of g.members))) refl states ready
 
-grouped_fits : GroupsFit → (configs : List Config) (states : List RecState) (groups : List GroupData) (n : ℕ) (group : Option GroupData) → AllByRecursion (IsOver configs) groups → AreValid configs states → slice_get groups n ≡ group
+grouped_fits : (configs : List Config) (states : List RecState) (groups : List GroupData) (n : ℕ) (group : Option GroupData) → AllByRecursion (IsOver configs) groups → AreValid configs states → slice_get groups n ≡ group
     → fits_of 16 (grouped group states) (group_type group) ≡ true
-grouped_fits group_fits configs states groups n None over valid is = blank_fits 16 (group_type None) (omega arith)
-grouped_fits group_fits configs states groups n (Some g) over valid is = group_fits g states (are_ready configs states g valid (over_at configs groups n g over is))
+grouped_fits configs states groups n None over valid is = blank_fits 16 (group_type None) (omega arith)
+grouped_fits configs states groups n (Some g) over valid is = group_fits g states (are_ready configs states g valid (over_at configs groups n g over is))
 
-fits_for : GroupsFit → (kind : ChannelKind) (site : SiteData) (states : List RecState) (n : ℕ) → AreOver site → AreValid site.configs states
+fits_for : (kind : ChannelKind) (site : SiteData) (states : List RecState) (n : ℕ) → AreOver site → AreValid site.configs states
     → fits_of 16 (value_for kind site n states) (type_for kind site n) ≡ true
-fits_for group_fits Rec site states n over valid = or_blank_fits site.configs states n (slice_get site.configs n) (slice_get states n) valid refl refl
-fits_for group_fits Desc site states n over valid = described_fits (slice_get site.configs n)
-fits_for group_fits Group site states n over valid = grouped_fits group_fits site.configs states site.groups n (slice_get site.groups n) over valid refl
+fits_for Rec site states n over valid = or_blank_fits site.configs states n (slice_get site.configs n) (slice_get states n) valid refl refl
+fits_for Desc site states n over valid = described_fits (slice_get site.configs n)
+fits_for Group site states n over valid = grouped_fits site.configs states site.groups n (slice_get site.groups n) over valid refl
 
-pub value_fits : GroupsFit → (site : SiteData) (channel : Channel) (states : List RecState) → AreOver site → AreValid site.configs states → fits_of 16 (value_of site channel states) (type_of site channel) ≡ true
-value_fits group_fits site channel states over valid = fits_for group_fits channel.kind site states channel.number over valid
+pub value_fits : (site : SiteData) (channel : Channel) (states : List RecState) → AreOver site → AreValid site.configs states → fits_of 16 (value_of site channel states) (type_of site channel) ≡ true
+value_fits site channel states over valid = fits_for channel.kind site states channel.number over valid
 
 -- ---- what was found, laid over other states
 
@@ -125,11 +128,11 @@ set_same a states rec n s long found same = set_by a states rec n s (eqb rec n) 
 long_set : (a states : List RecState) (rec : ℕ) (s : RecState) → length a ≡ length states → length (set a rec s) ≡ length states
 long_set a states rec s long = length-set a rec s ∙ long
 
-abbrev first_or : {A : Type 0} → A → List A → A
+abbrev pub first_or : {A : Type 0} → A → List A → A
 first_or d [] = d
 first_or d (x ∷ xs) = x
 
-abbrev rest_of : {A : Type 0} → List A → List A
+abbrev pub rest_of : {A : Type 0} → List A → List A
 rest_of [] = []
 rest_of (x ∷ xs) = xs
 

@@ -77,7 +77,7 @@ there [] n x less is = absurd (omega (arith, less))
 there (y ∷ xs) zero x less is = ap Some (sym is)
 there (y ∷ xs) (suc n) x less is = there xs n x (omega (arith, less)) is
 
-split_at : {X : Type 0} (xs : List X) (n : ℕ) (x : X) → slice_get xs n ≡ Some x → xs ≡ take n xs ++ x ∷ drop (suc n) xs
+pub split_at : {X : Type 0} (xs : List X) (n : ℕ) (x : X) → slice_get xs n ≡ Some x → xs ≡ take n xs ++ x ∷ drop (suc n) xs
 split_at [] n x is = absurd (none-some x is)
 split_at {X} (y ∷ xs) zero x is = let same : y ≡ x = cc in ap (λ (z : X). z ∷ xs) same
 split_at {X} (y ∷ xs) (suc n) x is = ap (λ (l : List X). y ∷ l) (split_at xs n x is)

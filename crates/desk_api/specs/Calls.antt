@@ -1,5 +1,6 @@
 -- What the calls of a desk add, and what they answer.
-use Rattle.std.specs.Prelude.{◌≡◌, ◌⊎◌, ℕ, Bool, true, false, List, [], ◌∷◌, ◌++◌, length, map, take, Option, None, Some, Result, Ok, Err, slice_get, ⊤}
+use Rattle.std.specs.Prelude.{◌≡◌, ◌⊎◌, ℕ, Bool, true, false, List, [], ◌∷◌, ◌++◌, length, map, take, Option, None}
+use Rattle.std.specs.Prelude.{Some, Result, Ok, Err, slice_get, ⊤}
 use Rattle.std.specs.FinSet.{FinSet}
 use Rattle.std.specs.Ordering.{nat_cmp}
 use Rattle.pvd_type.specs.declared.memory.NoMemory.{NoMemory}
@@ -91,9 +92,10 @@ AreFindings states channel (recs ∷ looks) (mark ∷ marks) =
     IsFinding states channel recs mark × AreFindings states channel looks marks
 AreFindings states channel looks marks = ⊥
 
--- A get looks at the channel's records, at all in one place where it is atomic and else at one after another. Its answer is
--- what the channel shows of them: of states of all records, of which it looks at those found alone.
-pub record IsGet (site : SiteData) (channel : Channel) (atomic : Option Bool) (value : Data) (marks : List Mark) : Type 0 where
+-- A get looks at the channel's records, at all in one place where it is atomic and else at one after another. Its
+-- answer is what the channel shows of them: of states of all records, of which it looks at those found alone.
+pub record IsGet (site : SiteData) (channel : Channel) (atomic : Option Bool) (value : Data)
+    (marks : List Mark) : Type 0 where
   pub looks : AreLooks channel (looks_of site channel atomic) marks
   pub value_is : value ≡ value_of site channel (laid_by site.opening marks)
 
@@ -119,7 +121,8 @@ asked_actions a = actions_of a.site a.channel a.mask a.value
 
 -- The entries that it asks for, each by its actions.
 
-abbrev pub entries_of_actions : Bool → Result (List (ℕ × Action)) FieldAnswer → Result (List (List (ℕ × Action))) FieldAnswer
+abbrev pub entries_of_actions : Bool → Result (List (ℕ × Action)) FieldAnswer
+    → Result (List (List (ℕ × Action))) FieldAnswer
 entries_of_actions atomic (Ok actions) = Ok (entries_by atomic actions)
 entries_of_actions atomic (Err answer) = Err answer
 

@@ -1,5 +1,6 @@
 -- The groups of a site, by their names and by the records that they are about.
-use Rattle.std.specs.Prelude.{◌≡◌, ℕ, ◌<◌, ◌==◌, ◌||◌, ◌&&◌, Bool, false, List, [], Option, None, Some, Err, slice_get, bytes_eq, ⊤}
+use Rattle.std.specs.Prelude.{◌≡◌, ℕ, ◌<◌, ◌==◌, ◌||◌, ◌&&◌, Bool, false, List, [], Option, None, Some, Err}
+use Rattle.std.specs.Prelude.{slice_get, bytes_eq, ⊤}
 use Rattle.std.specs.List.{AllByRecursion, list_any}
 use Rattle.rec_kinds.specs.Configs.{Config}
 use Rattle.rec_kinds.specs.declared.record_text.RecText.{RecText}

@@ -42,8 +42,8 @@ unless_faulty (Some fault) groups = Err fault
 abbrev pub built_over : List Config → List GroupDef → Result (List GroupData) GroupFault
 built_over configs defs = unless_faulty (first_group_fault (map (group_of configs) defs)) (map (group_of configs) defs)
 
--- The groups that these records define, or the first fault: of their texts, and then of the groups in order (QSRV manual,
--- "Group PV definitions").
+-- The groups that these records define, or the first fault: of their texts, and then of the groups in order (QSRV
+-- manual, "Group PV definitions").
 abbrev pub groups_of : List RecText → Result (List GroupData) GroupFault
 groups_of records = defined records >>= built_over (configs_of records)
 
@@ -69,8 +69,8 @@ pub record IsUngrouped (macros : Macros) (text : List ℕ) (fault : GroupFault) 
   pub faultless : first_fault records ≡ None
   pub fault_is : groups_of records ≡ Err fault
 
--- The site that a text with these macros gives, or its first fault: that of the text, then of its records in order, then of
--- its groups. Want of memory has an answer of its own, and is free.
+-- The site that a text with these macros gives, or its first fault: that of the text, then of its records in order,
+-- then of its groups. Want of memory has an answer of its own, and is free.
 abbrev pub Builds : Macros → List ℕ → Result SiteData SiteFault → Type 0
 Builds macros text (Ok site) = IsBuilt macros text site
 Builds macros text (Err (Group faults.NoMemory)) = ⊥

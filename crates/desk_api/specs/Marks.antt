@@ -55,8 +55,8 @@ IsLookOf site channel footprint =
     (footprint ≡ footprint_of site channel)
     ⊎ ((rec : ℕ) × (list_any (λ r. r == rec) (footprint_of site channel) ≡ true) × (footprint ≡ rec ∷ []))
 
--- What makes a read true: its place is within the history, its footprint is the channel's or one record of it, and it found
--- the records as they are there.
+-- What makes a read true: its place is within the history, its footprint is the channel's or one record of it, and it
+-- found the records as they are there.
 pub record IsTrueRead (h : History) (at : ℕ) (channel : Channel) (footprint : List ℕ)
     (found : List RecState) : Type 0 where
   pub within : at ≤ length (entries h)

@@ -1,5 +1,6 @@
 -- What a put to a channel does (pvAccess Protocol Specification, "Channel put").
-use Rattle.std.specs.Prelude.{◌≡◌, ⊤, ℕ, ◌==◌, ◌||◌, Bool, true, false, List, [], ◌∷◌, length, map, Option, None, Some, Result, Ok, Err, slice_get}
+use Rattle.std.specs.Prelude.{◌≡◌, ⊤, ℕ, ◌==◌, ◌||◌, Bool, true, false, List, [], ◌∷◌, length, map, Option, None}
+use Rattle.std.specs.Prelude.{Some, Result, Ok, Err, slice_get}
 use Rattle.std.specs.FinSet.{FinSet}
 use Rattle.std.specs.List.{filter, list_any, range_with_len}
 use Rattle.std.specs.Ordering.{nat_cmp}
@@ -57,8 +58,8 @@ is_held_with site rec written =
 abbrev pub is_held : SiteData → List (ℕ × Action) → ℕ → Bool
 is_held site actions rec = list_any (λ action. is_held_with site rec action.0) actions
 
--- The records that an entry with these actions holds, in rising order: those that it writes, and those that groups post with
--- them.
+-- The records that an entry with these actions holds, in rising order: those that it writes, and those that groups
+-- post with them.
 abbrev pub footprint_by : SiteData → List (ℕ × Action) → List ℕ
 footprint_by site actions = filter (is_held site actions) (range_with_len 0 (length site.configs))
 

@@ -1,5 +1,6 @@
 -- Records of a site, one more at a time.
-use Rattle.std.specs.Prelude.{◌≡◌, ℕ, ◌+◌, false, IsTrue, List, [], ◌∷◌, ◌++◌, Option, None, Some, if◌then◌else◌, bytes_eq, ⊤}
+use Rattle.std.specs.Prelude.{◌≡◌, ℕ, ◌+◌, false, IsTrue, List, [], ◌∷◌, ◌++◌, Option, None, Some, if◌then◌else◌}
+use Rattle.std.specs.Prelude.{bytes_eq, ⊤}
 use Rattle.rec_kinds.specs.Building.{config_of, opening_of}
 use Rattle.rec_kinds.specs.Configs.{Config}
 use Rattle.rec_kinds.specs.declared.fault.BuildFault.{BuildFault}
@@ -61,7 +62,8 @@ IsFirstFault records NoMemory = ⊤
 -- Each record may have its name, which none before it has and none of these is.
 abbrev pub AreNew : List (List ℕ) → List RecText → Type 0
 AreNew taken [] = ⊤
-AreNew taken (r ∷ records) = IsTrue (is_record_name r.name) × (is_among r.name taken ≡ false) × AreNew (r.name ∷ taken) records
+AreNew taken (r ∷ records) =
+    IsTrue (is_record_name r.name) × (is_among r.name taken ≡ false) × AreNew (r.name ∷ taken) records
 
 -- why a site can't be built whose text can't be loaded
 abbrev pub unloaded : LoadFault → SiteFault

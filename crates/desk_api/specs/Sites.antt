@@ -1,5 +1,6 @@
 -- The names of a site, the channels that they stand for, and the records that these read.
-use Rattle.std.specs.Prelude.{ℕ, ℤ, ◌+◌, Bool, true, false, nat_lt, List, [], ◌∷◌, ◌++◌, length, map, Option, None, Some, slice_get, if◌then◌else◌, bytes_eq, codes}
+use Rattle.std.specs.Prelude.{ℕ, ℤ, ◌+◌, Bool, true, false, nat_lt, List, [], ◌∷◌, ◌++◌, length, map, Option, None}
+use Rattle.std.specs.Prelude.{Some, slice_get, if◌then◌else◌, bytes_eq, codes}
 use Rattle.std.specs.List.{AllByRecursion}
 use Rattle.db_load.specs.Forms.{is_record_name as may_name}
 use Rattle.rec_kinds.specs.Building.{config_of, opening, opening_of}
@@ -22,8 +23,8 @@ is_record_name = may_name
 abbrev pub channel_of : ChannelKind → ℕ → Channel
 channel_of kind number = record { kind = kind; number = number }
 
--- The names of channels, in order, of the records whose names these are, counted from n: of each record its name, alone or
--- with its field VAL, and its description (EPICS Channel Access Reference Manual, "Channel names").
+-- The names of channels, in order, of the records whose names these are, counted from n: of each record its name,
+-- alone or with its field VAL, and its description (EPICS Channel Access Reference Manual, "Channel names").
 abbrev pub names_from : ℕ → List (List ℕ) → List (List ℕ × Channel)
 names_from n [] = []
 names_from n (x ∷ names) =
@@ -72,8 +73,8 @@ footprint_for Group site number = records_in (slice_get site.groups number)
 abbrev pub footprint_of : SiteData → Channel → List ℕ
 footprint_of site channel = footprint_for channel.kind site channel.number
 
--- Whether gets and puts of the channel are atomic: those of a group as the request says, and else as the group's flag says;
--- those of other channels always (QSRV manual, "Group PV definitions", `+atomic`).
+-- Whether gets and puts of the channel are atomic: those of a group as the request says, and else as the group's flag
+-- says; those of other channels always (QSRV manual, "Group PV definitions", `+atomic`).
 abbrev pub is_atomic_group : Option GroupData → Option Bool → Bool
 is_atomic_group group (Some wanted) = wanted
 is_atomic_group (Some group) None = group.atomic

@@ -111,7 +111,7 @@ fn empty_lists(alloc: Global, count: usize) -> Result<Vec<Vec<u32>>, NoMemory>
     ensures { IfOk result (λ lists. map (λ v. v.items) lists.items ≡ replicate count []) }
 {
     let mut lists = Vec::with_capacity(alloc, count)?;
-    for _ in 0..count {
+    for _rec in 0..count {
         lists.push(Vec::new(alloc))?;
     }
     Ok(lists)
@@ -197,7 +197,8 @@ impl Groups {
 
     /// The number of groups.
     pub(crate) fn len(&self) -> usize
-        ensures { result ≡ length self.now }
+        ensures count { result ≡ length self.now }
+        ensures few { result ≤ 1024 }
     {
         self.groups.len()
     }
@@ -224,20 +225,15 @@ impl Groups {
     }
 
     /// Adds the records that groups read for the leaves that they post when this record changes.
-    pub(crate) fn add_footprints(
-        &self,
-        alloc: Global,
-        rec: u32,
-        found: &mut Vec<u32>,
-    ) -> Result<(), NoMemory>
+    pub(crate) fn add_footprints(&self, rec: u32, found: &mut Vec<u32>) -> Result<(), NoMemory>
         ensures { OnOk result (grouping.AreRead self.now rec found.old.items found.new.items) }
     {
         let Some(numbers) = self.of_record.get(rec as usize) else {
             return Ok(());
         };
         for number in numbers {
-            let read = self.at(*number as usize).footprint(alloc, rec)?;
-            found.extend_from_slice(read.as_slice())?;
+            let read = self.at(*number as usize).footprint(rec);
+            found.extend_from_slice(read)?;
         }
         Ok(())
     }

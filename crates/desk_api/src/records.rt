@@ -174,6 +174,7 @@ impl Records {
         ensures names { result ≡ length self.now.names }
         ensures opening { result ≡ length self.now.opening }
         ensures valid { AreValid self.now.configs self.now.opening }
+        ensures few { result ≤ 4000 }
     {
         self.by_name.len()
     }

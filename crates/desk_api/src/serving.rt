@@ -1,11 +1,11 @@
 // What gets and puts of a channel read and do, as every desk needs it.
-ghost use Rattle.std.specs.Prelude.{◌≡◌, ◌<◌, ◌||◌, ◌∷◌, [], ℕ, true, IfErr, IfOk, IsTrue, OnOk, Ok, length, slice_get};
+ghost use Rattle.std.specs.Prelude.{◌≡◌, ◌<◌, ◌||◌, ◌∷◌, [], ℕ, true, IfErr, IfOk, IsTrue, OnOk, Ok, Some, drop, length, slice_get, take};
 ghost use Rattle.std.specs.List.{AllByRecursion};
 ghost use Rattle.std.specs.List.Sorted.{IsStrictlyIncreasing};
 ghost use Rattle.desk_api.specs.Grouping.{is_among};
 ghost use Rattle.desk_api.specs.Puts.{IsRefusal, IsRefusedBy, actions_of, footprint_by, is_held_with, to_configured};
 ghost use Rattle.desk_api.specs.Sites as sites;
-ghost use Rattle.desk_api.specs.Sites.{footprint_of, is_channel};
+ghost use Rattle.desk_api.specs.Sites.{AreOver, footprint_of, is_channel};
 ghost use Rattle.desk_api.specs.Types.{type_of, type_shown};
 ghost use Rattle.desk_api.specs.Views.{shown_or_blank, value_of};
 ghost use Rattle.group_view.specs.Puts.{MayBeDoneBy};
@@ -20,6 +20,29 @@ use pvd_value::PvValue;
 use rec_fields::{FieldAnswer, action_of, desc_view, view};
 use rec_kinds::{Action, PutRefusal, RecState};
 use std::alloc::Global;
+
+/// One of these numbers, as a list.
+fn one_of(numbers: &[u32], at: usize) -> &[u32]
+    requires { at < length numbers.now }
+    ensures { result.now ≡ take 1 (drop at numbers.now) }
+{
+    &numbers[at..at + 1]
+}
+
+/// The state of a record, by its number.
+fn state_of(states: &[RecState], rec: usize) -> &RecState
+    requires { rec < length states.now }
+    ensures { slice_get states.now rec ≡ Some result.now }
+{
+    &states[rec]
+}
+
+/// Nothing is done. It tells that the groups of a site are over its records.
+fn are_over(site: &Site)
+    ensures { AreOver site.now }
+{
+    let _ = site.groups();
+}
 
 /// Sorts numbers, and keeps of equal ones one.
 fn in_rising_order(numbers: &mut Vec<u32>)
@@ -71,9 +94,7 @@ impl Site {
         ensures shown { IfOk result (λ v. view v ≡ shown_or_blank (slice_get self.now.configs rec) (slice_get states.now rec)) }
         ensures fits { IfOk result (λ v. fits_of 16 (view v) (type_shown (slice_get self.now.configs rec)) ≡ true) }
     {
-        let config = self.config(rec);
-        let state = &states[rec];
-        view(alloc, config, state)
+        view(alloc, self.config(rec), state_of(states, rec))
     }
 
     /// The actions that a put of the marked leaves of a value asks for, in put order, each with its record; there is at least one.
@@ -130,7 +151,7 @@ impl Site {
     {
         let number = channel.number as usize;
         match channel.kind {
-            ChannelKind::Rec => &self.numbers[number..number + 1],
+            ChannelKind::Rec => one_of(self.numbers.as_slice(), number),
             ChannelKind::Desc => &self.numbers[..0],
             ChannelKind::Group => self.group(number).members(),
         }
@@ -146,20 +167,21 @@ impl Site {
         requires { AllByRecursion (λ a. a.0 < length self.now.configs) actions.now }
         ensures { IfOk result (λ recs. recs.items ≡ footprint_by self.now actions.now) }
     {
+        are_over(self);
         let mut found = Vec::with_capacity(alloc, actions.len())?;
         for (rec, _) in actions {
-            self.add_held(alloc, *rec, &mut found)?;
+            self.add_held(*rec, &mut found)?;
         }
         in_rising_order(&mut found);
         Ok(found)
     }
 
     /// Adds the records that are held with one that is written.
-    fn add_held(&self, alloc: Global, rec: u32, found: &mut Vec<u32>) -> Result<(), NoMemory>
+    fn add_held(&self, rec: u32, found: &mut Vec<u32>) -> Result<(), NoMemory>
         ensures { OnOk result ((r : ℕ) → is_among found.new.items r ≡ (is_among found.old.items r || is_held_with self.now r rec)) }
     {
         found.push(rec)?;
-        self.groups.add_footprints(alloc, rec, found)
+        self.groups.add_footprints(rec, found)
     }
 
     /// Whether gets and puts of the channel are atomic: those of a group as is wanted, or else as its flag says; those of other

@@ -221,6 +221,19 @@ impl Site {
         self.records.opening_at(rec)
     }
 
+    /// The states of all records at the opening, in their order.
+    pub fn opening_states(&self, alloc: Global) -> Result<Vec<RecState>, NoMemory>
+        ensures states { IfOk result (λ states. states.items ≡ self.now.opening) }
+        ensures valid { IfOk result (λ states. AreValid self.now.configs states.items) }
+    {
+        let count = self.records();
+        let mut states = Vec::with_capacity(alloc, count)?;
+        for rec in 0..count {
+            states.push(self.opening(rec).clone_in(alloc)?)?;
+        }
+        Ok(states)
+    }
+
     /// Where the port of a record leads, by the record's number. None exactly where it has none (EPICS record reference, "DTYP",
     /// "OUT").
     pub fn port(&self, rec: usize) -> Option<&str>
@@ -230,10 +243,11 @@ impl Site {
         self.config(rec).port()
     }
 
-    /// A group, by its number.
+    /// A group, by its number. It is over the records of this site.
     pub fn group(&self, number: usize) -> &Group
         requires { number < length self.now.groups }
-        ensures { slice_get self.now.groups number ≡ Some result.now }
+        ensures found { slice_get self.now.groups number ≡ Some result.now }
+        ensures over { IsOver self.now.configs result.now }
     {
         self.groups.at(number)
     }

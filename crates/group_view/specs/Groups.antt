@@ -1,5 +1,5 @@
 -- A group as it is served: its definition, and beside each member the record that it is about.
-use Rattle.std.specs.Prelude.{ℕ, Bool, List, map, Option, None, Some, slice_get, option_map, ⊤, ⊥, ◌≡◌, MatchOption}
+use Rattle.std.specs.Prelude.{ℕ, Bool, List, map, Option, None, Some, slice_get, option_map, ⊤, ◌≡◌, MatchOption}
 use Rattle.std.specs.Option.{option_and_then}
 use Rattle.std.specs.List.{AllByRecursion}
 use Rattle.rec_kinds.specs.Configs.{Config}
@@ -44,3 +44,8 @@ IsReady states m = MatchOption m.link ⊤ (HasState states)
 
 abbrev pub AreReady : List RecState → GroupData → Type 0
 AreReady states g = AllByRecursion (IsReady states) g.members
+
+-- Each configured record has a state that it may be in.
+abbrev pub AreConfigured : List Config → List RecState → Type 0
+AreConfigured configs states =
+    (n : ℕ) (config : Config) → slice_get configs n ≡ Some config → MatchOption (slice_get states n) ⊥ (IsValid config)

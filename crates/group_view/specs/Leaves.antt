@@ -14,7 +14,7 @@ use Rattle.group_defs.specs.declared.def.MemberKind.TheVariants as kinds
 use Rattle.group_view.specs.Groups.{GroupData}
 use Rattle.group_view.specs.Links.{Link}
 use Rattle.group_view.specs.declared.member.Member.{Member}
-use Rattle.group_view.specs.declared.source.Source.{Source}
+use Rattle.group_view.specs.Sources.{Source}
 use Rattle.group_view.specs.Slots.{Slot, shows, level, Slots, no_slots, slot, structure_of}
 use Rattle.group_view.specs.Types.{source_tree}
 

@@ -1,6 +1,7 @@
 pub mod Pieces
 pub mod Links
 pub mod Groups
+pub mod Sources
 pub mod Slots
 pub mod Seen
 pub mod Types

@@ -1,23 +1,21 @@
 -- What a put to a group does (QSRV manual, "Group PV definitions", `+putorder`).
-use Rattle.std.specs.Prelude.{◌≡◌, ⊤, ⊥, ℕ, ℤ, List, [], ◌∷◌, ◌++◌, map, fold, Option, None, Some, option_map}
+use Rattle.std.specs.Prelude.{◌≡◌, ⊤, ℕ, ℤ, List, [], ◌∷◌, ◌++◌, map, fold, Option, None, Some, option_map}
 use Rattle.std.specs.Prelude.{Result, Ok, Err, MatchOption, slice_get, if◌then◌else◌}
 use Rattle.std.specs.declared.cmp.Ordering.{Ordering}
-use Rattle.std.specs.Option.{option_and_then}
 use Rattle.std.specs.Ordering.{nat_cmp, int_cmp, ordering_then}
 use Rattle.std.specs.BTreeMap.{insert_entry}
 use Rattle.std.specs.FinSet.{FinSet, contains}
 use Rattle.std.specs.List.{enumerate_from}
+use Rattle.pvd_type.specs.Numbers.{numbered}
+use Rattle.pvd_type.specs.Tree.{Tree}
 use Rattle.pvd_value.specs.Data.{Data}
 use Rattle.pvd_value.specs.Leaves.{leaf_at}
 use Rattle.rec_kinds.specs.Configs.{Config}
 use Rattle.rec_kinds.specs.Validity.{MayBeDone}
-use Rattle.rec_kinds.specs.declared.kind.Kind.{Kind}
-use Rattle.rec_kinds.specs.declared.datum.Datum.{Datum}
 use Rattle.rec_kinds.specs.declared.datum.Action.{Action}
 use Rattle.rec_kinds.specs.declared.datum.Action.TheVariants.{Process}
 use Rattle.rec_kinds.specs.declared.put.PutRefusal.TheVariants.{NothingWritable}
-use Rattle.rec_fields.specs.Puts.{put_of}
-use Rattle.rec_fields.specs.Plain.{leaf_datum}
+use Rattle.rec_fields.specs.Plain.{plain_tree, leaf_action}
 use Rattle.rec_fields.specs.declared.puts.FieldAnswer.{FieldAnswer}
 use Rattle.rec_fields.specs.declared.puts.FieldAnswer.TheVariants.{Refused, NoMemory}
 use Rattle.group_defs.specs.declared.def.MemberKind.{MemberKind}
@@ -72,24 +70,18 @@ writers g = map (λ e. e.1) (writers_among (leaves_of g) [] (enumerate_from 0 g.
 
 -- ---- what a put does
 
--- the datum that stands there for a record of this kind
-abbrev pub datum_at : Kind → Option Data → Option Datum
-datum_at kind leaf = option_and_then (leaf_datum kind) leaf
-
 abbrev pub with_record : ℕ → Result Action FieldAnswer → Result (List (ℕ × Action)) FieldAnswer
 with_record rec (Ok action) = Ok ((rec, action) ∷ [])
 with_record rec (Err answer) = Err answer
 
--- a put of a leaf, where it is marked
-abbrev pub written : GroupData → Data → FinSet nat_cmp → Link → ℕ → Result (List (ℕ × Action)) FieldAnswer
-written g value mask link leaf =
-    if contains mask leaf then
-      with_record link.rec (put_of link.config (datum_at link.config.kind (leaf_at leaf (group_tree g) value)))
-    else Ok []
+abbrev pub put_to : Link → Option Data → Result (List (ℕ × Action)) FieldAnswer
+put_to link None = Ok []
+put_to link (Some leaf) = with_record link.rec (leaf_action link.config leaf)
 
-abbrev pub done_by : GroupData → Data → FinSet nat_cmp → Link → Writing → Result (List (ℕ × Action)) FieldAnswer
-done_by g value mask link (Writes leaf) = written g value mask link leaf
-done_by g value mask link Processes = Ok ((link.rec, Process) ∷ [])
+-- Of a value of a group's type: a put of the leaf, where it is marked; or the record is processed.
+abbrev pub done_by : Tree → Data → FinSet nat_cmp → Link → Writing → Result (List (ℕ × Action)) FieldAnswer
+done_by t value mask link (Writes leaf) = if contains mask leaf then put_to link (leaf_at leaf t value) else Ok []
+done_by t value mask link Processes = Ok ((link.rec, Process) ∷ [])
 
 abbrev pub also : Result (List (ℕ × Action)) FieldAnswer → Result (List (ℕ × Action)) FieldAnswer
     → Result (List (ℕ × Action)) FieldAnswer
@@ -98,9 +90,9 @@ also (Ok actions) (Err answer) = Err answer
 also (Ok actions) (Ok more) = Ok (actions ++ more)
 
 -- the actions of members, or the first refusal among them
-abbrev pub done_by_all : GroupData → Data → FinSet nat_cmp → List Writer → Result (List (ℕ × Action)) FieldAnswer
-done_by_all g value mask [] = Ok []
-done_by_all g value mask (w ∷ ws) = also (done_by g value mask w.link w.writing) (done_by_all g value mask ws)
+abbrev pub done_by_all : Tree → Data → FinSet nat_cmp → List Writer → Result (List (ℕ × Action)) FieldAnswer
+done_by_all t value mask [] = Ok []
+done_by_all t value mask (w ∷ ws) = also (done_by t value mask w.link w.writing) (done_by_all t value mask ws)
 
 abbrev pub unless_none : Result (List (ℕ × Action)) FieldAnswer → Result (List (ℕ × Action)) FieldAnswer
 unless_none (Ok []) = Err (Refused NothingWritable)
@@ -108,13 +100,26 @@ unless_none answer = answer
 
 -- The actions of a put of a value with these marked leaves, or why it is refused.
 unfoldable pub actions_for : GroupData → Data → FinSet nat_cmp → Result (List (ℕ × Action)) FieldAnswer
-actions_for g value mask = unless_none (done_by_all g value mask (writers g))
+actions_for g value mask = unless_none (done_by_all (group_tree g) value mask (writers g))
 
 -- what an answer without actions says; want of memory is free
-abbrev pub IsRefusal : GroupData → Data → FinSet nat_cmp → FieldAnswer → Type 0
-IsRefusal g value mask NoMemory = ⊤
-IsRefusal g value mask answer = actions_for g value mask ≡ Err answer
+abbrev pub Refuses : Result (List (ℕ × Action)) FieldAnswer → FieldAnswer → Type 0
+Refuses told NoMemory = ⊤
+Refuses told answer = told ≡ Err answer
 
--- Each action may be done to its record, wherever the group is over so configured records.
+abbrev pub IsRefusal : GroupData → Data → FinSet nat_cmp → FieldAnswer → Type 0
+IsRefusal g value mask answer = Refuses (actions_for g value mask) answer
+
+-- at most one action of a record
+abbrev pub listed : ℕ → Option Action → List (ℕ × Action)
+listed rec None = []
+listed rec (Some action) = (rec, action) ∷ []
+
+-- Each action may be done to its record, where the records are so configured.
 abbrev pub MayBeDoneBy : List Config → ℕ × Action → Type 0
 MayBeDoneBy configs a = MatchOption (slice_get configs a.0) ⊥ (λ config. MayBeDone config a.1)
+
+-- The leaf that a member writes has the type of its record's value.
+abbrev pub IsWritten : Tree → Link → Writing → Type 0
+IsWritten t link (Writes leaf) = slice_get (numbered t) leaf ≡ Some (plain_tree link.config)
+IsWritten t link Processes = ⊤

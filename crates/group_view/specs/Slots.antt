@@ -14,7 +14,7 @@ use Rattle.group_view.specs.Groups.{GroupData}
 use Rattle.group_view.specs.declared.member.Member.{Member}
 use Rattle.group_view.specs.declared.entry.Entry.{Entry}
 use Rattle.group_view.specs.declared.entry.Entry.TheVariants.{Shown, WithId}
-use Rattle.group_view.specs.declared.source.Source.{Source}
+use Rattle.group_view.specs.Sources.{Source}
 use Rattle.group_view.specs.declared.piece.Piece.{Piece}
 use Rattle.group_view.specs.declared.piece.Piece.TheVariants as pieces
 

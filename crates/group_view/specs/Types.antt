@@ -2,7 +2,7 @@
 use Rattle.pvd_type.specs.Tree.{Tree, node, struct, Fields, no_fields, field}
 use Rattle.group_view.specs.Groups.{GroupData}
 use Rattle.group_view.specs.Pieces.{piece_tree}
-use Rattle.group_view.specs.declared.source.Source.{Source}
+use Rattle.group_view.specs.Sources.{Source}
 use Rattle.group_view.specs.Slots.{Slot, shows, level, Slots, no_slots, slot, structure_of}
 
 abbrev pub source_tree : Source → Tree

@@ -10,7 +10,7 @@ use Rattle.pvd_value.specs.Merge.{merged, merged_row}
 use Rattle.rec_kinds.specs.declared.state.RecState.{RecState}
 use Rattle.group_view.specs.Groups.{GroupData, HasState}
 use Rattle.group_view.specs.Pieces.{piece_shown}
-use Rattle.group_view.specs.declared.source.Source.{Source}
+use Rattle.group_view.specs.Sources.{Source}
 use Rattle.group_view.specs.Slots.{Slot, shows, level, Slots, no_slots, slot, structure_of}
 use Rattle.group_view.specs.Types.{source_tree, slot_tree, group_tree}
 
@@ -47,6 +47,13 @@ IsPart mask n t part whole = merged (contains mask) n t (blank_of t) part ≡ me
 abbrev pub IsRowPart : FinSet nat_cmp → ℕ → Fields → Row → Row → Type 0
 IsRowPart mask n fs part whole =
     merged_row (contains mask) n fs (blank_row fs) part ≡ merged_row (contains mask) n fs (blank_row fs) whole
+
+-- a number of the mask, among so many from a start on
+pub record HasNumber (mask : FinSet nat_cmp) (start count : ℕ) : Type 0 where
+  pub number : ℕ
+  pub from : start ≤ number
+  pub to : number < start + count
+  pub marked : contains mask number ≡ true
 
 -- Each record that is shown under a number of the mask has a state that it may be in.
 abbrev mutual

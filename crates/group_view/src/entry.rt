@@ -1,9 +1,9 @@
 // What the members of a group put where in its structure.
-ghost use Rattle.std.specs.Prelude.{◌≡◌, ◌≤◌, ◌<◌, ◌^◌, fold, length, IfOk, OnOk};
-ghost use Rattle.std.specs.BTreeMap.{insert_entry};
-ghost use Rattle.group_view.specs.Seen.{entries_seen, path_seen};
-ghost use Rattle.group_view.specs.Slots.{path_cmp, entries_by, entries_of, in_order, shown_by, added, added_all};
-ghost use Rattle.group_view.specs.declared.entry.Entry.TheVariants.{Shown};
+ghost use Rattle.std.specs.Prelude.{◌≡◌, ◌≤◌, Some, length, IfOk, OnOk};
+ghost use Rattle.pvd_type.specs.Numbers as numbers;
+ghost use Rattle.group_view.specs.Seen.{entries_seen};
+ghost use Rattle.group_view.specs.Slots.{entries_by, entries_of, in_order, shown_by, added, added_all};
+ghost use Rattle.group_view.specs.declared.entry.Entry.TheVariants.{Shown, WithId};
 
 use crate::link::Linked;
 use crate::member::Member;
@@ -49,11 +49,40 @@ fn add_member<'a>(
     ensures { OnOk result (entries_seen entries.new.entries ≡ added_all (entries_seen entries.old.entries) (entries_by (number, member.now))) }
 {
     let name = member.def.name.as_str();
-    if member.def.kind == MemberKind::Structure {
-        let id = member.def.id.clone_in(alloc)?;
-        entries.insert(path_of(alloc, name)?, Entry::WithId(id))?;
-        return Ok(());
+    match member.def.kind {
+        MemberKind::Structure => add_id(alloc, entries, name, &member.def.id),
+        MemberKind::Whole | MemberKind::Plain | MemberKind::Any => {
+            add_link(alloc, entries, number, member, name)
+        }
+        MemberKind::Meta | MemberKind::Proc => add_link(alloc, entries, number, member, name),
     }
+}
+
+/// Adds the id of the structure under a dotted name.
+fn add_id<'a>(
+    alloc: Global,
+    entries: &mut Entries<'a>,
+    name: &'a str,
+    id: &Name,
+) -> Result<(), NoMemory>
+    ensures { OnOk result (entries_seen entries.new.entries ≡ added (entries_seen entries.old.entries) (numbers.path_of name.now, WithId id.now)) }
+{
+    let path = path_of(alloc, name)?;
+    let id = id.clone_in(alloc)?;
+    entries.insert(path, Entry::WithId(id))?;
+    Ok(())
+}
+
+/// Adds what a member shows of its record, if it has one.
+fn add_link<'a>(
+    alloc: Global,
+    entries: &mut Entries<'a>,
+    number: u32,
+    member: &'a Member,
+    name: &'a str,
+) -> Result<(), NoMemory>
+    ensures { OnOk result (entries_seen entries.new.entries ≡ added_all (entries_seen entries.old.entries) (shown_by number member.now.def.kind name.now member.now.link)) }
+{
     match &member.link {
         Some(link) => add_shown(alloc, entries, number, member.def.kind, name, link),
         None => Ok(()),
@@ -94,14 +123,10 @@ fn add_piece<'a>(
     piece: Piece,
     link: &Linked,
 ) -> Result<(), NoMemory>
-    ensures { OnOk result (entries_seen entries.new.entries ≡ added (entries_seen entries.old.entries) (path_of name.now, Shown (record { member = number; piece = piece; link = link.now }))) }
+    ensures { OnOk result (entries_seen entries.new.entries ≡ added (entries_seen entries.old.entries) (numbers.path_of name.now, Shown (record { member = number; piece = piece; link = link.now }))) }
 {
     let path = path_of(alloc, name)?;
-    let source = Source {
-        member: number,
-        piece,
-        link: link.share()?,
-    };
+    let source = Source::of(alloc, number, piece, link)?;
     entries.insert(path, Entry::Shown(source))?;
     Ok(())
 }

@@ -2,14 +2,17 @@
 //! put to it does (QSRV manual, "Group PV definitions").
 #![tactic(auto)]
 
+mod building;
 mod entry;
 mod faults;
+mod group;
 mod laws;
 mod link;
 mod member;
 mod parts;
 mod paths;
 mod piece;
+mod puts;
 mod reach;
 mod shapes;
 mod slots;
@@ -18,5 +21,12 @@ mod views;
 mod writer;
 
 pub use group_defs::{GroupDef, GroupFault, MemberDef, MemberKind};
-pub use laws::{value_reads_footprint, value_reads_records};
+pub use group::Group;
+pub use laws::{
+    ready_groups_are_ready_for_parts, valid_states_are_ready, value_reads_footprint,
+    value_reads_records,
+};
 pub use rec_fields::FieldAnswer;
+
+#[cfg(test)]
+mod tests;

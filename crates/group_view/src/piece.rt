@@ -3,6 +3,7 @@ ghost use Rattle.std.specs.Prelude.{◌≡◌, IfOk};
 ghost use Rattle.pvd_type.specs.View.{shape_view};
 ghost use Rattle.pvd_value.specs.View.{view};
 ghost use Rattle.rec_kinds.specs.Validity.{IsValid};
+ghost use Rattle.rec_fields.specs.Plain.{plain_tree};
 ghost use Rattle.group_view.specs.Pieces.{piece_tree, piece_shown, meta_tree, meta_shown};
 
 use nt_types::{alarm, time};
@@ -31,16 +32,16 @@ pub(crate) enum Piece {
 
 impl Piece {
     /// The type of what is shown of a record.
-    pub fn shape(self, alloc: Global, config: &RecConfig) -> Result<Shape, NoMemory>
-        ensures { IfOk result (λ shape. shape_view shape ≡ piece_tree self config.now) }
+    pub fn ty(self, alloc: Global, config: &RecConfig) -> Result<PvType, NoMemory>
+        ensures { IfOk result (λ ty. ty ≡ piece_tree self config.now) }
     {
         match self {
-            Piece::Whole => type_of(alloc, config)?.shape().clone_in(alloc),
-            Piece::Plain => Ok(plain_shape(config)),
-            Piece::Any => Ok(Shape::Variant),
-            Piece::Meta => meta_shape(alloc),
-            Piece::Alarm => alarm(alloc),
-            Piece::Time => time(alloc),
+            Piece::Whole => type_of(alloc, config),
+            Piece::Plain => plain_type(alloc, config),
+            Piece::Any => PvType::of_checked(alloc, Shape::Variant),
+            Piece::Meta => PvType::of_checked(alloc, meta_shape(alloc)?),
+            Piece::Alarm => PvType::of_checked(alloc, alarm(alloc)?),
+            Piece::Time => PvType::of_checked(alloc, time(alloc)?),
         }
     }
 
@@ -63,6 +64,13 @@ impl Piece {
             Piece::Time => time_view(alloc, state),
         }
     }
+}
+
+/// The type of a record's value by itself.
+fn plain_type(alloc: Global, config: &RecConfig) -> Result<PvType, NoMemory>
+    ensures { IfOk result (λ ty. ty ≡ plain_tree config.now) }
+{
+    PvType::of_checked(alloc, plain_shape(config))
 }
 
 /// A structure of an alarm and a time stamp, without an id.
@@ -96,6 +104,6 @@ fn any_view(alloc: Global, config: &RecConfig, state: &RecState) -> Result<PvVal
     ensures { IfOk result (λ v. view v ≡ piece_shown Piece.Any config.now state.now) }
 {
     let value = plain_view(alloc, config, &state.datum)?;
-    let ty = PvType::of_checked(alloc, plain_shape(config))?;
+    let ty = plain_type(alloc, config)?;
     Ok(PvValue::Variant(Some((ty, Box::new(alloc, value)?))))
 }

@@ -1,9 +1,8 @@
 // What the records of a group trigger, and what is read for it.
-ghost use Rattle.std.specs.Prelude.{◌≡◌, ◌≤◌, ◌<◌, ℕ, Some, List, [], length, map, fold, slice_get, IfOk, OnOk};
-ghost use Rattle.std.specs.BTreeSet.{insert_key};
+ghost use Rattle.std.specs.Prelude.{◌≡◌, ◌≤◌, ◌<◌, ◌==◌, ◌++◌, ◌∷◌, [], if◌then◌else◌, ℕ, length, fold, slice_get, option_and_then, IfOk, OnOk};
 ghost use Rattle.std.specs.FinSet as set;
 ghost use Rattle.std.specs.List.{AllByRecursion, flat_map};
-ghost use Rattle.group_view.specs.Leaves.{places, is_number, leaves_at, is_about, read_by, reads, triggered_by, records_read, records_of};
+ghost use Rattle.group_view.specs.Leaves.{places, is_number, leaves_at, is_about, read_by, triggered_by, records_read, records_of};
 
 use crate::member::Member;
 use group_defs::MemberKind;
@@ -65,6 +64,8 @@ pub(crate) fn own_leaves(
 
 /// Adds a leaf to those that a member shows.
 fn add_leaf(own: &mut Vec<Vec<u16>>, member: u32, number: u16) -> Result<(), NoMemory>
+    ensures count { length own.new.items ≡ length own.old.items }
+    ensures leaves { OnOk result ((n : ℕ) → n < length own.old.items → leaves_at own.new.items n ≡ (if member == n then leaves_at own.old.items n ++ number ∷ [] else leaves_at own.old.items n)) }
 {
     if let Some(leaves) = own.get_mut(member as usize) {
         leaves.push(number)?;
@@ -160,8 +161,9 @@ pub(crate) fn records_of(alloc: Global, members: &[Member]) -> Result<Vec<u32>, 
 fn in_order(alloc: Global, numbers: BTreeSet<u32>) -> Result<Vec<u32>, NoMemory>
     ensures { IfOk result (λ list. list.items ≡ numbers.keys) }
 {
-    let mut list = Vec::with_capacity(alloc, numbers.len())?;
-    for number in numbers {
+    let mut left = numbers;
+    let mut list = Vec::with_capacity(alloc, left.len())?;
+    while let Some(number) = left.pop_first() {
         list.push(number)?;
     }
     Ok(list)

@@ -4,11 +4,29 @@ ghost use Rattle.pvd_type.specs.Numbers.{numbered, numbered_fields};
 ghost use Rattle.pvd_type.specs.View.{shape_view, members_view};
 ghost use Rattle.group_view.specs.Leaves.{sources, sources_among, member_in, shown_at};
 ghost use Rattle.group_view.specs.Seen.{branch_seen, slots_seen};
+ghost use Rattle.group_view.specs.Slots.{level};
 ghost use Rattle.group_view.specs.Types.{slot_tree, slot_fields};
 
 use crate::slots::{Branch, Named};
-use pvd_type::{Member, NoMemory, Node, Shape};
+use pvd_type::{Member, Name, NoMemory, Node, Shape};
 use std::alloc::Global;
+
+/// The type of a group with this id. Adds, under each of its numbers, which member shows the leaf.
+#[cycle(shapes)]
+pub(crate) fn structure_of(
+    id: &Name,
+    slots: &[Named],
+    shown: &mut Vec<Option<u32>>,
+    alloc: Global,
+) -> Result<Shape, NoMemory>
+    ensures shape { IfOk result (λ shape. shape_view shape ≡ slot_tree (level id.now (slots_seen slots.now))) }
+    ensures shown { OnOk result (shown.new.items ≡ shown.old.items ++ map member_in (sources (level id.now (slots_seen slots.now)))) }
+{
+    let id = id.clone_in(alloc)?;
+    shown.push(None)?;
+    let members = members_of(slots, shown, alloc)?;
+    Ok(Shape::Struct(Node::of(alloc, id, members)?))
+}
 
 /// The type of what stands under a name. Adds, under each of its numbers, which member shows the leaf.
 #[cycle(shapes)]
@@ -22,22 +40,17 @@ fn shape_of(
 {
     match branch {
         Branch::Shows(source) => {
-            let shape = source.shape(alloc)?;
-            add_nodes(&shape, source.member, shown)?;
-            Ok(shape)
+            let shape = source.ty().shape();
+            add_nodes(shape, source.member(), shown)?;
+            shape.clone_in(alloc)
         }
-        Branch::Level(id, slots) => {
-            let id = id.clone_in(alloc)?;
-            shown.push(None)?;
-            let members = members_of(slots, shown, alloc)?;
-            Ok(Shape::Struct(Node::of(alloc, id, members)?))
-        }
+        Branch::Level(id, slots) => structure_of(id, slots, shown, alloc),
     }
 }
 
 /// The members that slots make. Adds, under each of their numbers, which member of the group shows the leaf.
 #[cycle(shapes)]
-pub(crate) fn members_of(
+fn members_of(
     slots: &[Named],
     shown: &mut Vec<Option<u32>>,
     alloc: Global,

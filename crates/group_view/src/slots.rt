@@ -1,6 +1,6 @@
 // The structure of a group as a tree.
-ghost use Rattle.std.specs.Prelude.{◌≡◌, ◌×◌, ℕ, List, [], map, IfOk, IfErr, OnOk};
-ghost use Rattle.group_view.specs.Seen.{entries_seen, slots_seen, named_seen};
+ghost use Rattle.std.specs.Prelude.{◌≡◌, ℕ, List, [], ◌∷◌, map, IfOk, IfErr, OnOk};
+ghost use Rattle.group_view.specs.Seen.{entries_seen, slots_seen, branch_seen, named_seen};
 ghost use Rattle.group_view.specs.Slots.{Slot, Slots, level, no_slots, slot, with_last, in_last, behind, slots_of};
 
 use crate::entry::Entry;
@@ -32,7 +32,7 @@ pub(crate) fn slots_of(
     alloc: Global,
     entries: BTreeMap<Vec<&str>, Entry>,
 ) -> Result<Vec<Named>, NoMemory>
-    ensures { IfOk result (λ slots. slots_seen slots.items ≡ slots_of (entries_seen entries.entries)) }
+    ensures { IfOk result (λ slots. slots_seen slots.items ≡ slots_of (entries_seen entries.entry.entries)) }
 {
     let mut left = entries;
     let mut slots = Vec::new(alloc);
@@ -100,7 +100,7 @@ fn take_last(
 {
     if let Some(last) = slots.pop() {
         match opened(last, name) {
-            Ok(structure) => return Ok(structure),
+            Ok((id, inner)) => return Ok((id, inner)),
             Err(other) => slots.push(other)?,
         }
     }
@@ -113,13 +113,20 @@ fn opened(last: Named, name: &str) -> Result<(Name, Vec<Named>), Named>
     ensures other { IfErr result (λ other. named_seen other ≡ named_seen last) }
     ensures apart { IfErr result (λ other. (make : List ℕ → Slots → Slot) → in_last name.now make (slot (named_seen last).0 (named_seen last).1 no_slots) ≡ slot (named_seen last).0 (named_seen last).1 (slot name.now (make [] no_slots) no_slots)) }
 {
-    if last.name.as_str() != name {
-        return Err(last);
+    let Named {
+        name: found,
+        branch,
+    } = last;
+    if found.as_str() != name {
+        return Err(Named {
+            name: found,
+            branch,
+        });
     }
-    match last.branch {
+    match branch {
         Branch::Level(id, inner) => Ok((id, inner)),
         Branch::Shows(source) => Err(Named {
-            name: last.name,
+            name: found,
             branch: Branch::Shows(source),
         }),
     }

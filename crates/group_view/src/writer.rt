@@ -1,5 +1,5 @@
 // The writable members of a group.
-ghost use Rattle.std.specs.Prelude.{◌≡◌, ◌≤◌, length, map, slice_get, OnOk, IfOk};
+ghost use Rattle.std.specs.Prelude.{◌≡◌, ◌≤◌, [], length, map, slice_get, OnOk, IfOk};
 ghost use Rattle.std.specs.List.{enumerate_from};
 ghost use Rattle.group_view.specs.Leaves.{leaves_at};
 ghost use Rattle.group_view.specs.Puts.{writing_of, writer_of, with_writer, writers_among};
