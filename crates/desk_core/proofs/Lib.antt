@@ -4,3 +4,4 @@ pub mod Marking
 pub mod Doing
 pub mod Soloing
 pub mod Beginning
+pub mod Reading
