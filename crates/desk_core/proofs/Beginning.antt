@@ -187,7 +187,10 @@ module _ (s t : Seat) (at : ℕ) (added : List Entry) (at_is : at ≡ now s) (nu
 pub asks : (a : Asked) (actions : List (ℕ × Action)) → asked_actions a ≡ Ok actions → asked_entries a ≡ Ok (entries_by (is_atomic a.site a.channel a.atomic) actions)
 asks a actions is = ap (entries_of_actions (is_atomic a.site a.channel a.atomic)) is
 
-some_entries : (whole : Bool) (actions : List (ℕ × Action)) → 0 < length actions → 0 < length (entries_by whole actions)
+pub put_of : (a : Asked) (actions : List (ℕ × Action)) (whole : Bool) → asked_actions a ≡ Ok actions → whole ≡ is_atomic a.site a.channel a.atomic → asked_entries a ≡ Ok (entries_by whole actions)
+put_of a actions whole is whole_is = asks a actions is ∙ ap (λ (w : Bool). Ok (entries_by w actions)) (sym whole_is)
+
+pub some_entries : (whole : Bool) (actions : List (ℕ × Action)) → 0 < length actions → 0 < length (entries_by whole actions)
 some_entries true actions some = omega arith
 some_entries false actions some = omega (arith, some, length-map actions (λ (action : ℕ × Action). action ∷ []))
 
@@ -282,6 +285,9 @@ module _ (a : Asked) (asked : List (List (ℕ × Action))) (is : asked_entries a
 pub stops_put : (a : Asked) (answer : FieldAnswer) → IsRefusedBy (asked_actions a) answer → ArePut a (Err (answer_of answer)) []
 stops_put a (Refused refusal) is = record { refusal_is = is; marks_are = refl }
 stops_put a NoMemory is = record { added = tt; done_is = refl }
+
+pub refused_calls : (s : Seat) → IsLegal s.seen → (a : Asked) (answer : FieldAnswer) → IsRefusedBy (asked_actions a) answer → Calls s s (ArePut a (Err (answer_of answer)))
+refused_calls s legal a answer is = record { marks = []; adds = adds_nothing s legal; named = stops_put a answer is }
 
 pub stopped_drives : (s : Seat) (ports : Ports) (a : Asked) (answer : FieldAnswer) → DrivesPorts s s ports ports a (Err (answer_of answer))
 stopped_drives s ports a (Refused refusal) = refl

@@ -1,18 +1,25 @@
 -- What a get adds, on a desk that nobody shares.
-use Rattle.std.proofs.Common.{◌≡◌, ◌==◌, ◌||◌, ℕ, ◌≤◌, ◌<◌, Bool, true, false, List, [], ◌∷◌, ◌++◌, length, map, take, Option, None, Some, IsTrue, inl, inr, refl, sym, ◌∙◌, ap, subst, arith}
-use Rattle.std.specs.List.{slice_get, list_any, fold, AllByRecursion}
-use Rattle.std.specs.Prelude.{nat_lt, MatchOption, ◌⊎◌}
-use Rattle.std.proofs.lemmas.Bool.{eq-eqb, lt-from_ltb}
-use Rattle.std.proofs.lemmas.Option.{none-some, slice_get_within}
+use Rattle.std.proofs.Common.{◌≡◌, ◌==◌, ◌||◌, ℕ, ◌≤◌, ◌<◌, Bool, true, false, List, [], ◌∷◌, ◌++◌, length, map, take, Option, None, Some, Ok, Err, IsTrue, zero, suc, inl, inr, refl, sym, ◌∙◌, ap, subst, arith}
+use Rattle.std.specs.List.{slice_get, list_any, AllByRecursion}
+use Rattle.std.proofs.lemmas.Bool.{eq-eqb, ltb-true}
+use Rattle.std.proofs.lemmas.Option.{none-some}
 use Rattle.rec_kinds.specs.Configs.{Config}
 use Rattle.rec_kinds.specs.declared.state.RecState.{RecState}
 use Rattle.journal_core.specs.Histories.{Journal}
-use Rattle.desk_api.specs.History.{History, entries, state_at, IsLegal}
+use Rattle.desk_api.specs.History.{History, commits, entries, state_at, IsLegal}
 use Rattle.desk_api.specs.Marks.{IsLookOf}
-use Rattle.desk_api.specs.Calls.{Adds, AreFindings, AreLooks, EndsAtItsMarks, EndsAtLastMark, looks_by, looks_of, now}
+use Rattle.desk_api.specs.Calls.{Adds, Calls, AreGet, AreFindings, AreLooks, EndsAtItsMarks, EndsAtLastMark, laid_by, looks_by, looks_of, now}
 use Rattle.desk_api.specs.Sites.{AreOver, footprint_for, footprint_of, is_atomic, is_channel, is_channel_of, records_in}
-use Rattle.desk_api.specs.Views.{AreStatesOf, before_found, found_in}
+use Rattle.desk_api.specs.Views.{AreStatesOf, before_found, found_in, value_of}
 use Rattle.desk_api.proofs.Adding.{adds_nothing, adds_more}
+use Rattle.desk_api.proofs.Reaching.{group_below}
+use Rattle.desk_api.proofs.Showing.{over_at}
+use Rattle.group_view.specs.Groups.{GroupData}
+use Rattle.group_view.specs.Leaves.{records_of}
+use Rattle.journal_core.proofs.Growing.{replayed_count}
+use Rattle.pvd_type.specs.declared.memory.NoMemory as pvd
+use Rattle.pvd_value.specs.View.{view}
+use Rattle.pvd_value.specs.declared.value.PvValue.{PvValue}
 use Rattle.desk_api.specs.declared.channel.Channel.{Channel}
 use Rattle.desk_api.specs.declared.channel.ChannelKind.{ChannelKind}
 use Rattle.desk_api.specs.declared.channel.ChannelKind.TheVariants.{Rec, Desc, Group}
@@ -137,3 +144,60 @@ all_looks site channel false = each_look site channel (footprint_of site channel
 
 pub looks_of_get : (site : SiteData) (channel : Channel) (atomic : Option Bool) → AllByRecursion (IsLookOf site channel) (looks_of site channel atomic)
 looks_of_get site channel atomic = all_looks site channel (is_atomic site channel atomic)
+
+-- ---- the records of a channel have cells
+
+below_for : (kind : ChannelKind) (site : SiteData) (number count : ℕ) → AreOver site → length site.names ≡ length site.configs → length site.configs ≡ count → IsTrue (is_channel_of kind site number) → Within count (footprint_for kind site number)
+below_for Rec site number count over named configured is = (omega (arith, ltb-true number (length site.names) is, named, configured), tt)
+below_for Desc site number count over named configured is = tt
+below_for Group site number count over named configured is = below_in (slice_get site.groups number) refl where
+  below_in : (o : Option GroupData) → slice_get site.groups number ≡ o → Within count (records_in o)
+  below_in None found = tt
+  below_in (Some g) found = subst (λ (n : ℕ). Within n (records_of g.members)) configured (group_below site.configs g (over_at site.configs site.groups number g over found))
+
+pub below : (site : SiteData) (channel : Channel) (count : ℕ) → AreOver site → length site.names ≡ length site.configs → length site.configs ≡ count → IsTrue (is_channel site channel) → Within count (footprint_of site channel)
+below site channel count over named configured is = below_for channel.kind site channel.number count over named configured is
+
+-- ---- a get
+
+-- what a get's looks found shows what the channel shows of the states that they found
+abbrev pub LooksShow : Type 0
+LooksShow = (site : SiteData) (channel : Channel) (atomic : Option Bool) (states : List RecState) (marks : List Mark) → length site.opening ≡ length states → AreFindings states channel (looks_of site channel atomic) marks
+    → value_of site channel (laid_by site.opening marks) ≡ value_of site channel states
+
+module _ (base : Base) (cells : List RecState) (journal : Journal) (channel : Channel) (atomic : Option Bool) (s t : Seat) (x : Stands base cells journal s) (legal : IsLegal s.seen)
+    (noted : t ≡ looked_by channel cells s (looks_of base.site channel atomic)) where
+  abbrev ls : List (List ℕ)
+  ls = looks_of base.site channel atomic
+
+  pub get_stands : Stands base cells journal t
+  get_stands = subst (Stands base cells journal) (sym noted) (looks_stand channel s x legal ls)
+
+  pub get_legal : IsLegal t.seen
+  get_legal = subst (λ (z : Seat). IsLegal z.seen) (sym noted) (looks_legal channel s x legal ls)
+
+  pub get_ends : EndsAtItsMarks s t
+  get_ends = subst (EndsAtItsMarks s) (sym noted) (looks_ends channel s x legal ls)
+
+  pub get_base : t.seen.base ≡ s.seen.base
+  get_base = ap (λ (z : Seat). z.seen.base) noted ∙ ap (λ (h : History). h.base) (looks_seen channel s x legal ls)
+
+  pub gets : LooksShow → Within (length cells) (footprint_of base.site channel) → (value : PvValue) → view value ≡ value_of base.site channel cells → Calls s t (AreGet s.seen.base.site channel atomic (Ok value))
+  gets shows within value is =
+      let each = all_within (length cells) (is_atomic base.site channel atomic) (footprint_of base.site channel) within in
+      let marks = marks_of channel s ls in
+      let long : length base.site.opening ≡ length cells =
+      omega (arith, ap length x.cells_are, replayed_count s.seen.base.site.opening (take (now s) (commits s.seen)), ap (λ (b : Base). length b.site.opening) x.base_is) in
+      let here : Calls s (looked_by channel cells s ls) (AreGet base.site channel atomic (Ok value)) = record {
+        marks = marks;
+        adds = looks_add channel s x legal ls (looks_of_get base.site channel atomic) each;
+        named = record {
+          looks = looks_are channel s ls;
+          value_is = is ∙ sym (shows base.site channel atomic cells marks long (looks_find channel s ls each));
+        };
+      } in
+      subst (λ (b : Base). Calls s t (AreGet b.site channel atomic (Ok value))) (sym x.base_is) (subst (λ (z : Seat). Calls s z (AreGet base.site channel atomic (Ok value))) (sym noted) here)
+
+-- memory ran out before any look
+pub no_get : (site : SiteData) (channel : Channel) (atomic : Option Bool) (s : Seat) → IsLegal s.seen → (e : pvd.NoMemory) → Calls s s (AreGet site channel atomic (Err e))
+no_get site channel atomic s legal e = record { marks = []; adds = adds_nothing s legal; named = record { looks = tt } }

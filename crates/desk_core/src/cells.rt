@@ -1,5 +1,6 @@
 // The present states of the records, and their ports.
 ghost use Rattle.std.specs.Prelude.{◌≡◌, ◌<◌, ◌^◌, IfOk, Some, length, slice_get};
+ghost use Rattle.desk_api.specs.Sites.{AreOver};
 ghost use Rattle.journal_core.specs.Legality.{AreValid};
 ghost use Rattle.rec_kinds.specs.Validity.{IsValid};
 
@@ -55,6 +56,13 @@ pub(crate) fn names_and_configs(site: &Site)
     ensures few { length site.now.configs < 4001 }
 {
     let _ = site.records();
+}
+
+/// Nothing is done. It tells that the groups of a site are over its records.
+pub(crate) fn groups_over_records(site: &Site)
+    ensures { AreOver site.now }
+{
+    let _ = site.groups();
 }
 
 /// Nothing is done. It tells that the record's field NELM is a number of 32 bits.

@@ -9,7 +9,7 @@ ghost use Rattle.journal_core.specs.Legality.{AreValid};
 ghost use Rattle.pvd_value.specs.Fits.{fits_of};
 ghost use Rattle.pvd_value.specs.View.{view};
 
-use crate::cells::{Cells, names_and_configs, opening_of};
+use crate::cells::{Cells, groups_over_records, names_and_configs, opening_of};
 use crate::entering::enter;
 use crate::log::{Log, Terms};
 use crate::looks::note_looks;
@@ -229,9 +229,10 @@ impl<P: Port> Desk for SoloDesk<P> {
         let Ok(value) = site.view(alloc, channel, cells) else {
             return Err(NoMemory);
         };
-        note_looks(&mut self.log, site, channel, atomic, cells);
-        site.groups();
+        names_and_configs(site);
+        groups_over_records(site);
         looks_show_states();
+        note_looks(&mut self.log, site, channel, atomic, cells);
         Ok(value)
     }
 
