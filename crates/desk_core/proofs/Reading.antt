@@ -52,8 +52,12 @@ found_all cells (rec ∷ recs) within = found_before (slice_get cells rec) rec c
 
 -- ---- looks
 
-among : List ℕ → ℕ → Bool
+abbrev among : List ℕ → ℕ → Bool
 among recs rec = list_any (λ r. r == rec) recs
+
+abbrev pub marks_of : Channel → List RecState → Seat → List (List ℕ) → List Mark
+marks_of channel cells s [] = []
+marks_of channel cells s (recs ∷ ls) = look_of channel cells recs (now s) ∷ marks_of channel cells (looked channel cells s recs) ls
 
 module _ {base : Base} {cells : List RecState} {journal : Journal} (channel : Channel) where
   -- a look leaves the desk standing, and the history as it was
@@ -97,20 +101,17 @@ module _ {base : Base} {cells : List RecState} {journal : Journal} (channel : Ch
   looks_ends s x legal [] = inl refl
   looks_ends s x legal (recs ∷ ls) = inr (last_ends (looked channel cells s recs) (look_stands s x legal recs) (look_legal s x legal recs) (look_ends s x legal recs) ls)
 
-  marks_of : Seat → List (List ℕ) → List Mark
-  marks_of s [] = []
-  marks_of s (recs ∷ ls) = look_of channel cells recs (now s) ∷ marks_of (looked channel cells s recs) ls
-
-  pub looks_add : (s : Seat) → Stands base cells journal s → IsLegal s.seen → (ls : List (List ℕ)) → AllByRecursion (IsLookOf base.site channel) ls → AllByRecursion (Within (length cells)) ls → Adds s (looked_by channel cells s ls) (marks_of s ls)
+  pub looks_add : (s : Seat) → Stands base cells journal s → IsLegal s.seen → (ls : List (List ℕ)) → AllByRecursion (IsLookOf base.site channel) ls → AllByRecursion (Within (length cells)) ls → Adds s (looked_by channel cells s ls) (marks_of channel cells s ls)
   looks_add s x legal [] are within = adds_nothing s legal
   looks_add s x legal (recs ∷ ls) are within =
       adds_more (look_adds s x legal recs are.0 within.0) (looks_add (looked channel cells s recs) (look_stands s x legal recs) (look_legal s x legal recs) ls are.1 within.1)
 
-  pub looks_find : (s : Seat) (ls : List (List ℕ)) → AllByRecursion (Within (length cells)) ls → AreFindings cells channel ls (marks_of s ls)
+module _ (channel : Channel) (cells : List RecState) where
+  pub looks_find : (s : Seat) (ls : List (List ℕ)) → AllByRecursion (Within (length cells)) ls → AreFindings cells channel ls (marks_of channel cells s ls)
   looks_find s [] within = tt
   looks_find s (recs ∷ ls) within = ((now s, found_in cells recs, refl, found_all cells recs within.0), looks_find (looked channel cells s recs) ls within.1)
 
-  pub looks_are : (s : Seat) (ls : List (List ℕ)) → AreLooks channel ls (marks_of s ls)
+  pub looks_are : (s : Seat) (ls : List (List ℕ)) → AreLooks channel ls (marks_of channel cells s ls)
   looks_are s [] = tt
   looks_are s (recs ∷ ls) = ((now s, found_in cells recs, refl), looks_are (looked channel cells s recs) ls)
 
@@ -185,15 +186,15 @@ module _ (base : Base) (cells : List RecState) (journal : Journal) (channel : Ch
   pub gets : LooksShow → Within (length cells) (footprint_of base.site channel) → (value : PvValue) → view value ≡ value_of base.site channel cells → Calls s t (AreGet s.seen.base.site channel atomic (Ok value))
   gets shows within value is =
       let each = all_within (length cells) (is_atomic base.site channel atomic) (footprint_of base.site channel) within in
-      let marks = marks_of channel s ls in
+      let marks : List Mark = marks_of channel cells s ls in
       let long : length base.site.opening ≡ length cells =
       omega (arith, ap length x.cells_are, replayed_count s.seen.base.site.opening (take (now s) (commits s.seen)), ap (λ (b : Base). length b.site.opening) x.base_is) in
       let here : Calls s (looked_by channel cells s ls) (AreGet base.site channel atomic (Ok value)) = record {
         marks = marks;
         adds = looks_add channel s x legal ls (looks_of_get base.site channel atomic) each;
         named = record {
-          looks = looks_are channel s ls;
-          value_is = is ∙ sym (shows base.site channel atomic cells marks long (looks_find channel s ls each));
+          looks = looks_are channel cells s ls;
+          value_is = is ∙ sym (shows base.site channel atomic cells marks long (looks_find channel cells s ls each));
         };
       } in
       subst (λ (b : Base). Calls s t (AreGet b.site channel atomic (Ok value))) (sym x.base_is) (subst (λ (z : Seat). Calls s z (AreGet base.site channel atomic (Ok value))) (sym noted) here)
