@@ -109,11 +109,11 @@ module _ {base : Base} {cells : List RecState} {journal : Journal} (channel : Ch
 module _ (channel : Channel) (cells : List RecState) where
   pub looks_find : (s : Seat) (ls : List (List ℕ)) → AllByRecursion (Within (length cells)) ls → AreFindings cells channel ls (marks_of channel cells s ls)
   looks_find s [] within = tt
-  looks_find s (recs ∷ ls) within = ((now s, found_in cells recs, refl, found_all cells recs within.0), looks_find (looked channel cells s recs) ls within.1)
+  looks_find s (recs ∷ ls) within = ((now s, (found_in cells recs, refl, found_all cells recs within.0)), looks_find (looked channel cells s recs) ls within.1)
 
   pub looks_are : (s : Seat) (ls : List (List ℕ)) → AreLooks channel ls (marks_of channel cells s ls)
   looks_are s [] = tt
-  looks_are s (recs ∷ ls) = ((now s, found_in cells recs, refl), looks_are (looked channel cells s recs) ls)
+  looks_are s (recs ∷ ls) = ((now s, (found_in cells recs, refl)), looks_are (looked channel cells s recs) ls)
 
 -- ---- the looks of a get
 

@@ -9,6 +9,8 @@ mod log;
 mod looks;
 mod solo;
 #[cfg(test)]
+mod group_tests;
+#[cfg(test)]
 mod tests;
 
 pub use desk_api::{Channel, Desk, Done, Moment, NoMemory, PutAnswer, PvType, PvValue, Site};
