@@ -96,7 +96,7 @@ module _ {P : Type 0} (port : P → PortView) (configs : List Config) (ports : L
       let same_bool : is_some d.before ≡ is_some config.port = cc in
       ap (λ (b : Bool). drove || b) (sym same_bool) ∙ told_by d.before d.after drove text d.driven
 
-  -- no record is beyond the ports
-  pub in_ports : (rec : ℕ) (config : Config) → slice_get configs rec ≡ Some config → rec < length ports
-  in_ports rec config configured =
-      omega (arith, slice_get_within configs rec config configured, ap length wanted, length-map ports (λ (o : Option P). is_some o), length-map configs (λ (c : Config). is_some c.port))
+-- there is a place for each record
+pub as_many_ports : {P : Type 0} (configs : List Config) (ports : List (Option P)) → ports_there ports ≡ ports_wanted configs → length ports ≡ length configs
+as_many_ports {P} configs ports wanted =
+    omega (arith, ap length wanted, length-map ports (λ (o : Option P). is_some o), length-map configs (λ (c : Config). is_some c.port))
