@@ -46,9 +46,12 @@ module _ (site : SiteData) (moment : Moment) where
   held_append at [] (e ∷ added) marks actions entry held more = absurd held
   held_append at (a ∷ asked) [] marks actions entry held more = absurd held
   held_append at (a ∷ asked) (e ∷ added) [] actions entry held more = absurd held
-  held_append at (a ∷ asked) (e ∷ added) (m ∷ marks) actions entry held more =
-      (held.0, held.1, subst (λ (n : ℕ). AreHeld site moment (at + 1) (asked ++ actions ∷ []) (added ++ entry ∷ []) (marks ++ Entered n entry ∷ [])) (further at (length added))
-      (held_append (at + 1) asked added marks actions entry held.2 more)) where
+  held_append at (a ∷ asked) (e ∷ added) (m ∷ marks) actions entry held more = (
+    held.0,
+    held.1,
+    subst (λ (n : ℕ). AreHeld site moment (at + 1) (asked ++ actions ∷ []) (added ++ entry ∷ []) (marks ++ Entered n entry ∷ [])) (further at (length added))
+        (held_append (at + 1) asked added marks actions entry held.2 more),
+  ) where
     further : (n m : ℕ) → n + 1 + m ≡ n + suc m
     further n m = omega arith
 

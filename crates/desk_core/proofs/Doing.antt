@@ -253,9 +253,9 @@ more_broken configs moment was cells old mid new actions i action drives writes 
     let so_far : length writes ≡ i = as_many_writes configs was moment (take i actions) drives writes d.processed ∙ length_taken actions i action is in
     let count : length (writes ++ b.writes) ≡ i + length b.writes = length-append writes b.writes ∙ ap (λ (n : ℕ). n + length b.writes) so_far in
     let taken : take (length (writes ++ b.writes)) actions ≡ take i actions ++ take (length b.writes) (action ∷ []) =
-        ap (λ (n : ℕ). take n actions) count ∙ take_more actions i (length b.writes)
-        ∙ ap (λ (l : List (ℕ × Action)). take i actions ++ take (length b.writes) l) (rest_at actions i action is)
-        ∙ ap (λ (l : List (ℕ × Action)). take i actions ++ l) (one_of configs cells moment action b.drives b.writes b.processed (drop (suc i) actions)) in record {
+    ap (λ (n : ℕ). take n actions) count ∙ take_more actions i (length b.writes)
+    ∙ ap (λ (l : List (ℕ × Action)). take i actions ++ take (length b.writes) l) (rest_at actions i action is)
+    ∙ ap (λ (l : List (ℕ × Action)). take i actions ++ l) (one_of configs cells moment action b.drives b.writes b.processed (drop (suc i) actions)) in record {
       drives = drives ++ b.drives;
       writes = writes ++ b.writes;
       processed = subst (λ (l : List (ℕ × Action)). AreProcessed configs was moment l (drives ++ b.drives) (writes ++ b.writes)) (sym taken)

@@ -191,12 +191,15 @@ module _ (inside : WriteInside) (base : Base) (cells after : List RecState) (jou
     driven = d.done.driven;
   }
   draft_put done now_ t (Err (answers.Refused refusal)) e = absurd e
-  draft_put done now_ t (Err (answers.JournalFull kept_ weight_ limit_ done_)) e = (record {
-    adds = heavy_adds s t x was_legal (footprint_by base.site actions) actions entry kept_ weight_ limit_ d.footprint_is d.actions_are e.marked e.kept_is e.weight_is e.limit_is (subst (λ (n : ℕ). n < kept_ + weight_) (sym e.limit_is) e.above);
-    same = heavy_seen s t x was_legal (footprint_by base.site actions) actions entry kept_ weight_ limit_ d.footprint_is d.actions_are e.marked;
-    ends = heavy_ends s t x was_legal (footprint_by base.site actions) actions entry kept_ weight_ limit_ d.footprint_is d.actions_are e.marked;
-    tried = tried;
-  }, e.done_is)
+  draft_put done now_ t (Err (answers.JournalFull kept_ weight_ limit_ done_)) e = (
+    record {
+      adds = heavy_adds s t x was_legal (footprint_by base.site actions) actions entry kept_ weight_ limit_ d.footprint_is d.actions_are e.marked e.kept_is e.weight_is e.limit_is (subst (λ (n : ℕ). n < kept_ + weight_) (sym e.limit_is) e.above);
+      same = heavy_seen s t x was_legal (footprint_by base.site actions) actions entry kept_ weight_ limit_ d.footprint_is d.actions_are e.marked;
+      ends = heavy_ends s t x was_legal (footprint_by base.site actions) actions entry kept_ weight_ limit_ d.footprint_is d.actions_are e.marked;
+      tried = tried;
+    },
+    e.done_is,
+  )
   draft_put done now_ t (Err (answers.NoMemory done_)) e = (record { same = e.unmarked; tried = tried }, e.done_is)
 
   -- where it stands
@@ -214,7 +217,7 @@ module _ (inside : WriteInside) (base : Base) (cells after : List RecState) (jou
   left_stands back as_before now_ t done (answers.Refused refusal) e = absurd e
   left_stands back as_before now_ t done (answers.JournalFull kept_ weight_ limit_ done_) e = (
     subst (λ (c : List RecState). Stands base c now_ t) (sym as_before) (subst (λ (j : Journal). Stands base cells j t) (sym e.same)
-    (heavy_stands s t x was_legal (footprint_by base.site actions) actions entry kept_ weight_ limit_ d.footprint_is d.actions_are e.marked)),
+        (heavy_stands s t x was_legal (footprint_by base.site actions) actions entry kept_ weight_ limit_ d.footprint_is d.actions_are e.marked)),
     heavy_legal s t x was_legal (footprint_by base.site actions) actions entry kept_ weight_ limit_ d.footprint_is d.actions_are e.marked,
   )
   left_stands back as_before now_ t done (answers.NoMemory done_) e = (

@@ -255,7 +255,10 @@ fn an_atomic_put_is_one_entry_of_all_members_and_a_port_that_fails_leaves_its_al
         done: 0,
     };
     assert_eq!(rt; opening, members([1, 2, 3], 0));
-    assert_eq!(rt; whole, (Ok(Done { first: 0, count: 1 }), members([10, 20, 30], 3)));
+    assert_eq!(rt;
+        whole,
+        (Ok(Done { first: 0, count: 1 }), members([10, 20, 30], 3))
+    );
     assert_eq!(rt; full, (Err(too_much), members([10, 20, 30], 3)));
     Ok(())
 }
@@ -276,15 +279,16 @@ fn a_put_that_is_not_atomic_is_an_entry_for_each_member_up_to_the_limit(
         limit: 300,
         done: 2,
     };
-    assert_eq!(rt; each, (Ok(Done { first: 0, count: 3 }), members([10, 20, 30], 3)));
+    assert_eq!(rt;
+        each,
+        (Ok(Done { first: 0, count: 3 }), members([10, 20, 30], 3))
+    );
     assert_eq!(rt; part, (Err(too_much), members([1, 20, 30], 3)));
     Ok(())
 }
 
 #[test]
-fn a_member_is_put_alone_and_one_that_processes_needs_no_leaf(
-    rt: HostRuntime,
-) -> Result<(), Fail> {
+fn a_member_is_put_alone_and_one_that_processes_needs_no_leaf(rt: HostRuntime) -> Result<(), Fail> {
     let mut desk = desk_of(rt.alloc(), GROUPED, 1000)?;
     let first = told(rt.alloc(), &mut desk, &[12], None)?;
     let second = told(rt.alloc(), &mut desk, &[22], Some(false))?;
@@ -294,8 +298,14 @@ fn a_member_is_put_alone_and_one_that_processes_needs_no_leaf(
     let processed = put(rt.alloc(), &mut desk, &value, &[], None)?;
     discard(value);
     discard(desk);
-    assert_eq!(rt; first, (Ok(Done { first: 0, count: 1 }), members([1, 20, 3], 3)));
-    assert_eq!(rt; second, (Ok(Done { first: 1, count: 1 }), members([1, 20, 30], 3)));
+    assert_eq!(rt;
+        first,
+        (Ok(Done { first: 0, count: 1 }), members([1, 20, 3], 3))
+    );
+    assert_eq!(rt;
+        second,
+        (Ok(Done { first: 1, count: 1 }), members([1, 20, 30], 3))
+    );
     assert_eq!(rt; processed, Ok(Done { first: 0, count: 1 }));
     Ok(())
 }

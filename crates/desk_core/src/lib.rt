@@ -5,11 +5,11 @@ mod cells;
 mod draft;
 mod driving;
 mod entering;
+#[cfg(test)]
+mod group_tests;
 mod log;
 mod looks;
 mod solo;
-#[cfg(test)]
-mod group_tests;
 #[cfg(test)]
 mod tests;
 

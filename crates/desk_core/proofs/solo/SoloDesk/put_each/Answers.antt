@@ -80,8 +80,8 @@ loop-action-preserved g c =
     let new = ports_of g.P.Port.port c.put_entry.new.self in
     let place = c.in-Ok-put_entry.field-0 in
     let step : IsAddedNow site c.args.moment (c.in-Some.action ∷ []) c.loop-action.self.log t mid new place =
-        subst (λ (x : Terms × List (ℕ × Action)). IsPutNow x.0.site c.args.moment x.1 c.loop-action.count c.loop-action.self.log t mid new (Ok place)) (λ i. (c.loop-action.invariant.terms i, (c.in-Ok.ensures {u = tt}) i))
-        (c.in-Ok-put_entry.ensures {u = tt}).put in record {
+    subst (λ (x : Terms × List (ℕ × Action)). IsPutNow x.0.site c.args.moment x.1 c.loop-action.count c.loop-action.self.log t mid new (Ok place)) (λ i. (c.loop-action.invariant.terms i, (c.in-Ok.ensures {u = tt}) i))
+    (c.in-Ok-put_entry.ensures {u = tt}).put in record {
       begun = subst (λ (l : List (List (ℕ × Action))). AreBegun site c.args.moment l s t old new) (sym (map-append alone done (c.in-Some.action ∷ [])))
           (more_begun site c.args.moment (map alone done) (c.in-Some.action ∷ []) s c.loop-action.self.log t old mid new place c.loop-action.invariant.begun step);
       count = ap (λ (n : ℕ). n + 1) c.loop-action.invariant.count ∙ sym (length-append done (c.in-Some.action ∷ []));

@@ -71,4 +71,3 @@ returns-in-Err-clause-put g c =
     let drafted = (c.in-Ok.ensures {u = tt}).drafted in
     subst (λ (p : Ports). IsPutNow d.terms.site c.args.moment c.args.actions.items c.args.done d.log c.enter.new.log (map (option_map g.P.Port.port) d.cells.ports.items) p (Err c.in-Err.answer)) (sym (ap (map (option_map g.P.Port.port)) c.restore.ensures.ports))
     (draft_put c.entries_write_inside.ensures (base_of d.terms) _ _ d.history d.log d.stands d.legal d.valid _ _ _ _ c.in-Ok.entry _ drafted c.args.done c.enter.new.history c.enter.new.log (Err c.in-Err.answer) (c.in-Err.ensures {u = tt}))
-
