@@ -1,5 +1,6 @@
 -- What the entries of a put came to, on a desk that nobody shares.
-use Rattle.std.specs.Prelude.{◌≡◌, ℕ, ◌+◌, ◌<◌, ◌≤◌, ⊤, List, [], ◌∷◌, ◌++◌, length, map, take, Some, slice_get, Result, Ok, Err}
+use Rattle.std.specs.Prelude.{◌≡◌, ℕ, ◌+◌, ◌<◌, ◌≤◌, ⊤, List, [], ◌∷◌, ◌++◌, length, map, take, Some, slice_get}
+use Rattle.std.specs.Prelude.{Result, Ok, Err}
 use Rattle.rec_kinds.specs.declared.datum.Action.{Action}
 use Rattle.journal_core.specs.Histories.{Journal, kept}
 use Rattle.journal_core.specs.Moments.{Moment}
@@ -27,7 +28,8 @@ pub record IsPushed (entry : Entry) (limit : ℕ) (old new : Journal) (s t : Sea
   pub entries_are : new.entries ≡ old.entries ++ entry ∷ []
   pub marked : t ≡ with_mark s (λ at. Entered at entry)
 
-pub record IsTooHeavy (entry : Entry) (limit done : ℕ) (old new : Journal) (s t : Seat) (kept_ weight_ limit_ done_ : ℕ) : Type 0 where
+pub record IsTooHeavy (entry : Entry) (limit done : ℕ) (old new : Journal) (s t : Seat)
+    (kept_ weight_ limit_ done_ : ℕ) : Type 0 where
   pub kept_is : kept_ ≡ kept old.entries
   pub weight_is : weight_ ≡ weight entry
   pub limit_is : limit_ ≡ limit
@@ -80,7 +82,8 @@ pub record IsStoppedNow (site : SiteData) (moment : Moment) (actions : List (ℕ
   pub tried : IsBroken site.configs (state_at s.seen (now s)) old new actions moment
 
 -- What an entry of a put with these actions came to, behind so many others.
-abbrev pub IsPutNow : SiteData → Moment → List (ℕ × Action) → ℕ → Seat → Seat → Ports → Ports → Result ℕ PutAnswer → Type 0
+abbrev pub IsPutNow : SiteData → Moment → List (ℕ × Action) → ℕ → Seat → Seat → Ports → Ports
+    → Result ℕ PutAnswer → Type 0
 IsPutNow site moment actions done s t old new (Ok at) = IsAddedNow site moment actions s t old new at
 IsPutNow site moment actions done s t old new (Err (answers.Refused refusal)) = ⊥
 IsPutNow site moment actions done s t old new (Err (answers.JournalFull kept weight limit done_)) =
@@ -109,15 +112,15 @@ pub record AreBegun (site : SiteData) (moment : Moment) (asked : List (List (ℕ
   pub driven : AreDrivenInTurn old new added
 
 -- A put of these entries was done.
-pub record AreAllPut (site : SiteData) (moment : Moment) (asked : List (List (ℕ × Action))) (s t : Seat) (old new : Ports)
-    (done : Done) : Type 0 where
+pub record AreAllPut (site : SiteData) (moment : Moment) (asked : List (List (ℕ × Action))) (s t : Seat)
+    (old new : Ports) (done : Done) : Type 0 where
   pub begun : AreBegun site moment asked s t old new
   pub first_is : done.first ≡ now s
   pub count_is : done.count ≡ length asked
 
 -- The first entries of a put were added, so many, and the next one was too heavy.
-pub record AreFullAfter (site : SiteData) (moment : Moment) (asked : List (List (ℕ × Action))) (s t : Seat) (old new : Ports)
-    (kept weight limit done : ℕ) : Type 0 where
+pub record AreFullAfter (site : SiteData) (moment : Moment) (asked : List (List (ℕ × Action))) (s t : Seat)
+    (old new : Ports) (kept weight limit done : ℕ) : Type 0 where
   pub middle : Seat
   pub between : Ports
   pub begun : AreBegun site moment (take done asked) s middle old between
@@ -127,8 +130,8 @@ pub record AreFullAfter (site : SiteData) (moment : Moment) (asked : List (List 
   pub full : IsFullNow site moment actions middle t between new kept weight limit
 
 -- The same, and for the next one memory ran out.
-pub record AreStoppedAfter (site : SiteData) (moment : Moment) (asked : List (List (ℕ × Action))) (s t : Seat) (old new : Ports)
-    (done : ℕ) : Type 0 where
+pub record AreStoppedAfter (site : SiteData) (moment : Moment) (asked : List (List (ℕ × Action))) (s t : Seat)
+    (old new : Ports) (done : ℕ) : Type 0 where
   pub between : Ports
   pub begun : AreBegun site moment (take done asked) s t old between
   pub as_many : length (take done asked) ≡ done
@@ -137,9 +140,11 @@ pub record AreStoppedAfter (site : SiteData) (moment : Moment) (asked : List (Li
   pub tried : IsBroken site.configs (state_at t.seen (now t)) between new actions moment
 
 -- What a put of these entries came to.
-abbrev pub ArePutInTurn : SiteData → Moment → List (List (ℕ × Action)) → Seat → Seat → Ports → Ports → Result Done PutAnswer → Type 0
+abbrev pub ArePutInTurn : SiteData → Moment → List (List (ℕ × Action)) → Seat → Seat → Ports → Ports
+    → Result Done PutAnswer → Type 0
 ArePutInTurn site moment asked s t old new (Ok done) = AreAllPut site moment asked s t old new done
 ArePutInTurn site moment asked s t old new (Err (answers.Refused refusal)) = ⊥
 ArePutInTurn site moment asked s t old new (Err (answers.JournalFull kept weight limit done)) =
     AreFullAfter site moment asked s t old new kept weight limit done
-ArePutInTurn site moment asked s t old new (Err (answers.NoMemory done)) = AreStoppedAfter site moment asked s t old new done
+ArePutInTurn site moment asked s t old new (Err (answers.NoMemory done)) =
+    AreStoppedAfter site moment asked s t old new done

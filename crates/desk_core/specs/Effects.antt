@@ -19,16 +19,18 @@ restored cells [] = cells
 restored cells (held ∷ before) = set (restored cells before) held.0 held.1
 
 -- A state was written into the cell of a record, and what the cell held is kept behind what was kept before.
-pub record IsWritten (was cells : List RecState) (rec : ℕ) (state : RecState) (before more : List (ℕ × RecState)) : Type 0 where
+pub record IsWritten (was cells : List RecState) (rec : ℕ) (state : RecState)
+    (before more : List (ℕ × RecState)) : Type 0 where
   pub held : RecState
   pub there : slice_get was rec ≡ Some held
   pub cells_are : cells ≡ set was rec state
   pub before_are : more ≡ before ++ (rec, held) ∷ []
 
--- One more action was done, to a record in the state that its cell held: its port was driven once with the new text, and the
--- cell has what is written.
-pub record IsNextOf (configs : List Config) (moment : Moment) (action : ℕ × Action) (was cells : List RecState) (old new : Ports)
-    (drives more_drives : List Bool) (writes more_writes before more : List (ℕ × RecState)) : Type 0 where
+-- One more action was done, to a record in the state that its cell held: its port was driven once with the new text,
+-- and the cell has what is written.
+pub record IsNextOf (configs : List Config) (moment : Moment) (action : ℕ × Action) (was cells : List RecState)
+    (old new : Ports) (drives more_drives : List Bool)
+    (writes more_writes before more : List (ℕ × RecState)) : Type 0 where
   pub drove : Bool
   pub state : RecState
   pub done : IsDone (slice_get configs action.0) (slice_get was action.0) moment action drove (action.0, state)
@@ -37,8 +39,8 @@ pub record IsNextOf (configs : List Config) (moment : Moment) (action : ℕ × A
   pub drives_are : more_drives ≡ drives ++ drove ∷ []
   pub writes_are : more_writes ≡ writes ++ (action.0, state) ∷ []
 
--- These actions were done, in order, to records that were in the states `was`: each drove the port of its record once. The
--- cells have what they write, and what the cells held before can be put back.
+-- These actions were done, in order, to records that were in the states `was`: each drove the port of its record
+-- once. The cells have what they write, and what the cells held before can be put back.
 pub record AreDone (configs : List Config) (moment : Moment) (was cells : List RecState) (old new : Ports)
     (actions : List (ℕ × Action)) (drives : List Bool) (writes before : List (ℕ × RecState)) : Type 0 where
   pub processed : AreProcessed configs was moment actions drives writes

@@ -1,5 +1,6 @@
 -- How puts drive the ports of their records (EPICS record reference, "DTYP", "OUT").
-use Rattle.std.specs.Prelude.{◌≡◌, ℕ, Bool, true, false, List, [], ◌∷◌, length, map, set, take, drop, is_some, Option, None, Some, Result, Ok, Err, slice_get, ◌⊎◌}
+use Rattle.std.specs.Prelude.{◌≡◌, ℕ, Bool, true, false, List, [], ◌∷◌, length, map, set, take, drop, is_some, Option}
+use Rattle.std.specs.Prelude.{None, Some, Result, Ok, Err, slice_get, ◌⊎◌}
 use Rattle.pva_outside.specs.Ports.{PortView, IsDriven}
 use Rattle.pva_outside.specs.declared.port.DriveStep.{DriveStep}
 use Rattle.pva_outside.specs.declared.port.DriveStep.TheVariants.{Drove, Failed}
@@ -80,8 +81,8 @@ actions_or_none None = []
 abbrev pub next_actions : Asked → ℕ → List (ℕ × Action)
 next_actions asked done = actions_or_none (slice_get (entries_or_none (asked_entries asked)) done)
 
--- A put that ended behind so many entries: these drove the ports, and then the first actions of the next one did, each once,
--- or none: with what these would have written.
+-- A put that ended behind so many entries: these drove the ports, and then the first actions of the next one did,
+-- each once, or none: with what these would have written.
 pub record AreDrivenInPart (s t : Seat) (old new : Ports) (asked : Asked) (done : ℕ) : Type 0 where
   pub added : List Entry
   pub as_many : length added ≡ done
@@ -98,7 +99,8 @@ pub record AreDrivenInPart (s t : Seat) (old new : Ports) (asked : Asked) (done 
 abbrev pub DrivesPorts : Seat → Seat → Ports → Ports → Asked → Result Done PutAnswer → Type 0
 DrivesPorts s t old new asked (Ok done) = AreDrivenBy t old new done
 DrivesPorts s t old new asked (Err (answers.Refused refusal)) = new ≡ old
-DrivesPorts s t old new asked (Err (answers.JournalFull kept weight limit done)) = AreDrivenInPart s t old new asked done
+DrivesPorts s t old new asked (Err (answers.JournalFull kept weight limit done)) =
+    AreDrivenInPart s t old new asked done
 DrivesPorts s t old new asked (Err (answers.NoMemory done)) = AreDrivenInPart s t old new asked done
 
 -- a port that was driven once with this text, or not at all
