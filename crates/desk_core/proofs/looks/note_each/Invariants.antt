@@ -1,7 +1,6 @@
 use Rattle.std.proofs.Common.{◌≡◌, ◌∷◌, [], take}
 use Rattle.std.specs.List.{fold}
 use Rattle.desk_core.specs.Looking.{looked, look_of}
-use Rattle.desk_api.specs.declared.mark.Seat.{Seat}
 use Rattle.desk_core.proofs.looks.note_each.Given as goal
 
 -- the looks so far were noted

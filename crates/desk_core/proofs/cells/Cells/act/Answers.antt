@@ -1,12 +1,8 @@
-use Rattle.std.proofs.Common.{◌≡◌, ◌<◌, ◌||◌, ℕ, Bool, true, List, Some, Option, MatchOption, map, option_map, sym, subst, ap, arith, ◌∙◌}
+use Rattle.std.proofs.Common.{map, option_map, sym, subst, ap}
 use Rattle.std.specs.List.{slice_get}
-use Rattle.std.specs.Prelude.{is_some}
 use Rattle.std.proofs.lemmas.Option.{slice_get_within}
-use Rattle.rec_kinds.specs.Configs.{Config}
 use Rattle.rec_kinds.specs.Processing.{processed}
 use Rattle.rec_kinds.specs.Texts.{text_of_datum}
-use Rattle.rec_kinds.specs.Validity.{MayBeDone}
-use Rattle.rec_kinds.specs.declared.datum.Action.{Action}
 use Rattle.rec_kinds.specs.declared.state.RecState.{RecState}
 use Rattle.journal_core.specs.Legality.{IsDone}
 use Rattle.desk_core.specs.Ports.{Ports, IsDrivenAt}

@@ -1,11 +1,11 @@
-use Rattle.std.proofs.Common.{◌≡◌, ◌<◌, ◌≤◌, ◌*◌, ◌++◌, ◌∷◌, [], ℕ, suc, ◌+◌, List, Some, length, take, set, map, option_map, sym, subst, ap, arith, ◌∙◌}
-use Rattle.std.specs.List.{AllByRecursion, slice_get}
+use Rattle.std.proofs.Common.{◌<◌, ℕ, List, length, take, map, option_map, sym, subst}
+use Rattle.std.specs.List.{AllByRecursion}
 use Rattle.rec_kinds.specs.Texts.{text_of_datum}
 use Rattle.rec_kinds.specs.declared.datum.Action.{Action}
 use Rattle.rec_kinds.specs.declared.state.RecState.{RecState}
 use Rattle.journal_core.specs.Legality.{AreValid}
 use Rattle.desk_core.specs.Effects.{AreDone}
-use Rattle.desk_core.proofs.Doing.{on_err, more_broken, more_done, more_light, none_done, valid_next, within_now}
+use Rattle.desk_core.proofs.Doing.{on_err, more_broken, more_done, more_light, valid_next, within_now}
 use Rattle.desk_core.proofs.Listing.{next_taken, got}
 use Rattle.desk_core.proofs.Ported.{ported, stay_at}
 use Rattle.desk_core.proofs.cells.Cells.act_each.Goals as goal

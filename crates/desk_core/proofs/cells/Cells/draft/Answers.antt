@@ -1,4 +1,4 @@
-use Rattle.std.proofs.Common.{◌≡◌, ◌≤◌, ◌*◌, ℕ, List, length, refl, ap, sym, subst, ◌∙◌}
+use Rattle.std.proofs.Common.{◌≤◌, ◌*◌, ℕ, List, length, refl, ap, subst, ◌∙◌}
 use Rattle.std.specs.List.{sum_by}
 use Rattle.std.specs.Prelude.{◌^◌}
 use Rattle.rec_kinds.specs.declared.datum.Action.{Action}

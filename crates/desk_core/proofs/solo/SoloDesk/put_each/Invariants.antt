@@ -1,4 +1,4 @@
-use Rattle.std.proofs.Common.{◌≡◌, [], ◌∷◌, length, map, option_map}
+use Rattle.std.proofs.Common.{◌≡◌, [], ◌∷◌, length, map}
 use Rattle.desk_core.specs.Begun.{AreBegun}
 use Rattle.desk_core.specs.Desks.{ports_of}
 use Rattle.desk_core.proofs.solo.SoloDesk.put_each.Given as goal

@@ -1,5 +1,4 @@
-use Rattle.std.proofs.Common.{◌≡◌, [], ◌∷◌, Bool, true, List, ℕ, Ok, Err, Result, refl, sym, subst}
-use Rattle.rec_kinds.specs.declared.datum.Action.{Action}
+use Rattle.std.proofs.Common.{Bool, Ok, Err, refl, sym, subst}
 use Rattle.desk_api.specs.Puts.{entries_by}
 use Rattle.desk_core.specs.Begun.{ArePutInTurn}
 use Rattle.desk_core.specs.Desks.{ports_of}

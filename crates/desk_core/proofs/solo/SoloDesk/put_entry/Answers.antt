@@ -1,4 +1,4 @@
-use Rattle.std.proofs.Common.{◌≡◌, ◌<◌, ℕ, List, Option, Ok, Err, length, map, option_map, sym, subst, ap, arith, ◌∙◌}
+use Rattle.std.proofs.Common.{ℕ, List, Ok, Err, map, option_map, sym, subst, ap, ◌∙◌}
 use Rattle.rec_kinds.specs.declared.state.RecState.{RecState}
 use Rattle.journal_core.specs.Histories.{WritesWithin}
 use Rattle.journal_core.specs.Legality.{AreValid}
