@@ -1,12 +1,11 @@
--- The states of the records, and entries of one action.
-use Rattle.std.proofs.Common.{◌≡◌, ◌==◌, ℕ, ◌+◌, ◌*◌, ◌≤◌, ◌<◌, zero, suc, Bool, true, false, if◌then◌else◌, List, [], ◌∷◌, length, drop, get_or, Option, None, Some, refl, sym, ap, subst, arith}
-use Rattle.std.specs.List.{slice_get, list_all, list_any, sum_by}
+-- Elements of lists, the cells of records, and what actions weigh.
+use Rattle.std.proofs.Common.{◌≡◌, ◌==◌, ℕ, ◌+◌, ◌*◌, ◌≤◌, ◌<◌, zero, suc, Bool, true, false, if◌then◌else◌, List, [], ◌∷◌, ◌++◌, length, take, drop, get_or, Option, None, Some, refl, sym, ◌∙◌, ap, subst, arith}
+use Rattle.std.specs.List.{slice_get, AllByRecursion, list_all, sum_by}
 use Rattle.std.specs.Prelude.{◌^◌, ◌||◌, IsTrue, is_some, nat_le}
 use Rattle.std.proofs.lemmas.Bool.{eq-eqb, leb-true, and_parts}
 use Rattle.std.proofs.lemmas.List.Elements.{All-same, All-cons, All-nil}
 use Rattle.std.proofs.lemmas.List.Sums.{sum_by-cons}
 use Rattle.std.proofs.lemmas.Option.{none-some, slice_get_within}
-use Rattle.rec_kinds.specs.Processing.{processed}
 use Rattle.rec_kinds.specs.Validity.{own_refusal, refused_unless, is_short, MayBeDone}
 use Rattle.rec_kinds.specs.declared.put.PutRefusal.{PutRefusal}
 use Rattle.rec_kinds.specs.declared.put.PutRefusal.TheVariants.{TextTooLong, TooManyElements, Disabled}
@@ -16,11 +15,8 @@ use Rattle.rec_kinds.specs.declared.datum.Datum.TheVariants.{Num, Index, Text, N
 use Rattle.rec_kinds.specs.declared.datum.Action.{Action}
 use Rattle.rec_kinds.specs.declared.datum.Action.TheVariants.{Put, Process}
 use Rattle.rec_kinds.specs.declared.state.RecState.{RecState}
-use Rattle.journal_core.specs.Moments.{Moment}
-use Rattle.journal_core.specs.Weights.{weight, payload, text_payload}
-use Rattle.journal_core.specs.Histories.{WritesWithin}
-use Rattle.journal_core.specs.Legality.{AreValid, IsDone, IsLegalEntry}
-use Rattle.desk_core.specs.Standing.{entry_of}
+use Rattle.journal_core.specs.Weights.{action_weight, payload, text_payload}
+use Rattle.journal_core.specs.Legality.{AreValid}
 
 -- the payload of short texts
 texts_small : (ts : List (List ℕ)) → list_all is_short ts ≡ true → sum_by text_payload ts ≤ 55 * length ts
@@ -72,25 +68,22 @@ rest_at [] n x is = absurd (none-some x is)
 rest_at {X} (y ∷ xs) zero x is = let same : y ≡ x = cc in ap (λ (z : X). z ∷ xs) same
 rest_at (y ∷ xs) (suc n) x is = rest_at xs n x is
 
-pub within_one : (count rec : ℕ) (state : RecState) (writes : List (ℕ × RecState)) → writes ≡ (rec, state) ∷ [] → rec < count → WritesWithin count writes
-within_one count rec state writes is less =
-    All-same (λ (w : ℕ × RecState). w.0 < count) writes ((rec, state) ∷ []) is (All-cons (λ (w : ℕ × RecState). w.0 < count) (rec, state) [] less (All-nil (λ (w : ℕ × RecState). w.0 < count)))
+pub action_light : (rec : ℕ) (config : Config) (action : Action) → config.nelm < 2 ^ 32 → MayBeDone config action → action_weight (rec, action) ≤ 2 ^ 39
+action_light rec config action few may = omega (arith, few, payload_small config action may)
 
-inside_one : (rec : ℕ) (state : RecState) → IsTrue (list_all (λ (w : ℕ × RecState). list_any (λ (r : ℕ). r == w.0) (rec ∷ [])) ((rec, state) ∷ []))
-inside_one rec state = rw (eq-eqb rec rec refl) refl
+-- one element more
+next : {X : Type 0} (xs : List X) (n : ℕ) (x : X) → slice_get xs n ≡ Some x → take (suc n) xs ≡ take n xs ++ x ∷ []
+next [] n x is = absurd (none-some x is)
+next {X} (y ∷ xs) zero x is = let same : y ≡ x = cc in ap (λ (z : X). z ∷ []) same
+next {X} (y ∷ xs) (suc n) x is = ap (λ (l : List X). y ∷ l) (next xs n x is)
 
--- the entry of one action that may be done is legal
-pub legal_one : (configs : List Config) (cells : List RecState) (rec : ℕ) (config : Config) (old : RecState) (action : Action) (moment : Moment) (drove : Bool) → AreValid configs cells → slice_get configs rec ≡ Some config → slice_get cells rec ≡ Some old → MayBeDone config action → (drove || is_some config.port) ≡ true → IsLegalEntry configs cells (entry_of rec config old action moment drove)
-legal_one configs cells rec config old action moment drove valid configured found may told =
-    let write : ℕ × RecState = (rec, processed config old action moment drove) in
-    record {
-      valid = valid;
-      processed = (
-        subst (λ (o : Option Config × Option RecState). IsDone o.0 o.1 moment (rec, action) drove write) (λ i. (sym configured i, sym found i)) (record { may = may; driven = told; write_is = refl }),
-        tt,
-      );
-      inside = inside_one rec (processed config old action moment drove);
-    }
+one_more : (n : ℕ) → n + 1 ≡ suc n
+one_more n = omega arith
 
-pub light_one : (rec : ℕ) (config : Config) (old : RecState) (action : Action) (moment : Moment) (drove : Bool) → config.nelm < 2 ^ 32 → MayBeDone config action → weight (entry_of rec config old action moment drove) < 2 ^ 64
-light_one rec config old action moment drove few may = omega (arith, few, payload_small config action may)
+pub next_taken : {X : Type 0} (xs : List X) (n : ℕ) (x : X) → slice_get xs n ≡ Some x → take (n + 1) xs ≡ take n xs ++ x ∷ []
+next_taken xs n x is = ap (λ (k : ℕ). take k xs) (one_more n) ∙ next xs n x is
+
+pub all_at : {X : Type 0} (P : X → Type 0) (xs : List X) (n : ℕ) (x : X) → AllByRecursion P xs → slice_get xs n ≡ Some x → P x
+all_at P [] n x all is = absurd (none-some x is)
+all_at P (y ∷ xs) zero x all is = let same : y ≡ x = cc in subst P same all.0
+all_at P (y ∷ xs) (suc n) x all is = all_at P xs n x all.1 is

@@ -1,10 +1,10 @@
 use Rattle.std.proofs.Common.{arith}
 use Rattle.journal_core.proofs.Keeping.{valid_at}
-use Rattle.desk_core.proofs.Cells.{in_cells, got}
-use Rattle.desk_core.proofs.solo.record_at.Goals as goal
+use Rattle.desk_core.proofs.Listing.{in_cells, got}
+use Rattle.desk_core.proofs.cells.record_at.Goals as goal
 
 pub index-state-requires : goal.index-state-requires
-index-state-requires c = omega (arith, in_cells _ _ c.args.rec _ c.requires.valid c.config-config.ensures, c.args.cells.now.ok)
+index-state-requires c = omega (arith, in_cells _ _ c.args.rec _ c.requires.valid c.config-config.ensures, c.args.states.now.ok)
 
 pub returns-clause-found : goal.returns-clause-found
 returns-clause-found c = got _ c.args.rec _ (in_cells _ _ c.args.rec _ c.requires.valid c.config-config.ensures) c.index-state.ensures
