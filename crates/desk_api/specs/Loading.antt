@@ -21,12 +21,24 @@ abbrev pub first_fault : List RecText → Option (List ℕ × BuildFault)
 first_fault [] = None
 first_fault (r ∷ records) = option_or (fault_in r) (first_fault records)
 
--- The text has these records, all of which can be built, and the site is theirs.
+-- The groups of these definitions over records of these configurations, or the fault of the first that can't be built.
+abbrev pub built_each : List Config → List GroupDef → Result (List Group) GroupFault
+built_each configs [] = Ok []
+built_each configs (def ∷ defs) = built def configs >>= λ group. built_each configs defs >>= λ groups. Ok (group ∷ groups)
+
+-- The groups that these records define, or the first fault: of their texts, and then of the groups in order (QSRV manual,
+-- "Group PV definitions").
+abbrev pub groups_of : List RecText → Result (List Group) GroupFault
+groups_of records = defined records >>= built_each (map (λ r. config_of r.kind r.fields) records)
+
+-- The text has these records, all of which can be built, with these groups, and the site is theirs.
 pub record IsBuilt (macros : Macros) (text : List ℕ) (site : SiteData) : Type 0 where
   pub records : List RecText
+  pub groups : List Group
   pub loaded : RecordsOf macros text records
   pub faultless : first_fault records ≡ None
-  pub site_is : site ≡ site_of records
+  pub grouped : groups_of records ≡ Ok groups
+  pub site_is : site ≡ site_of records groups
 
 -- The text has records, the first of which that can't be built is the one of this name, for this reason.
 pub record IsUnbuilt (macros : Macros) (text : List ℕ) (name : List ℕ) (fault : BuildFault) : Type 0 where
@@ -34,10 +46,19 @@ pub record IsUnbuilt (macros : Macros) (text : List ℕ) (name : List ℕ) (faul
   pub loaded : RecordsOf macros text records
   pub fault_is : first_fault records ≡ Some (name, fault)
 
--- The site that a text with these macros gives, or its first fault: that of the text, then of its records in order. Want of
--- memory has an answer of its own, and is free.
+-- The text has records that can all be built, and their groups have this first fault.
+pub record IsUngrouped (macros : Macros) (text : List ℕ) (fault : GroupFault) : Type 0 where
+  pub records : List RecText
+  pub loaded : RecordsOf macros text records
+  pub faultless : first_fault records ≡ None
+  pub fault_is : groups_of records ≡ Err fault
+
+-- The site that a text with these macros gives, or its first fault: that of the text, then of its records in order, then of
+-- its groups. Want of memory has an answer of its own, and is free.
 abbrev pub Builds : Macros → List ℕ → Result SiteData SiteFault → Type 0
 Builds macros text (Ok site) = IsBuilt macros text site
+Builds macros text (Err (Group groups.NoMemory)) = ⊥
+Builds macros text (Err (Group fault)) = IsUngrouped macros text fault
 Builds macros text (Err (Load loads.NoMemory)) = ⊥
 Builds macros text (Err (Load fault)) = FirstFaultOf macros text fault
 Builds macros text (Err (Build name fault)) = IsUnbuilt macros text name fault

@@ -23,14 +23,19 @@ abbrev pub described : Option Config → Data
 described (Some config) = desc_shown config
 described None = blank_of (scalar_tree Text)
 
-abbrev pub value_for : ChannelKind → Option Config → Option RecState → Data
-value_for Rec config state = shown_or_blank config state
-value_for Desc config state = described config
+-- what a group shows of all records, and a blank value where there is no such group
+abbrev pub grouped : Option Group → List RecState → Data
+grouped (Some group) states = group_shown group states
+grouped None states = blank_of (group_type None)
+
+abbrev pub value_for : ChannelKind → SiteData → ℕ → List RecState → Data
+value_for Rec site number states = shown_or_blank (slice_get site.configs number) (slice_get states number)
+value_for Desc site number states = described (slice_get site.configs number)
+value_for Group site number states = grouped (slice_get site.groups number) states
 
 -- What the channel shows where the records have these states.
 abbrev pub value_of : SiteData → Channel → List RecState → Data
-value_of site channel states =
-    value_for channel.kind (slice_get site.configs channel.number) (slice_get states channel.number)
+value_of site channel states = value_for channel.kind site channel.number states
 
 -- The states of these records, in order, laid over others.
 abbrev pub laid : List RecState → List ℕ → List RecState → List RecState

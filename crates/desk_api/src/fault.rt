@@ -1,5 +1,6 @@
 // Why a site can't be built.
 use db_load::LoadFault;
+use group_defs::GroupFault;
 use pvd_type::{Name, NoMemory};
 use rec_kinds::BuildFault;
 use std::alloc::AllocFailed;
@@ -11,6 +12,8 @@ pub enum SiteFault {
     Load(LoadFault),
     /// The record of this name can't be built from its fields.
     Build(Name, BuildFault),
+    /// A group can't be defined or built.
+    Group(GroupFault),
     /// Memory ran out.
     NoMemory,
 }

@@ -25,9 +25,10 @@ pub fn values_fit()
     ensures { (site : SiteData) (channel : Channel) (states : List RecState) → AreValid site.configs states → fits_of 16 (value_of site channel states) (type_of site channel) ≡ true }
 {}
 
-/// What a true read found, laid over the opening states, shows what the channel shows of all records at the read's place.
+/// What a true read of all of a channel's records found, laid over the opening states, shows what the channel shows of all
+/// records at the read's place.
 pub fn gets_show_their_place()
-    ensures { (h : History) (at : ℕ) (channel : Channel) (footprint : List ℕ) (found : List RecState) → IsTrueRead h at channel footprint found → value_of h.base.site channel (laid h.base.site.opening footprint found) ≡ value_of h.base.site channel (state_at h at) }
+    ensures { (h : History) (at : ℕ) (channel : Channel) (found : List RecState) → IsTrueRead h at channel (footprint_of h.base.site channel) found → value_of h.base.site channel (laid h.base.site.opening (footprint_of h.base.site channel) found) ≡ value_of h.base.site channel (state_at h at) }
 {}
 
 /// A desk that isn't called adds no mark, and calls one after another add their marks one after another.
