@@ -4,9 +4,10 @@ use Rattle.pva_frames.specs.declared.event.Event.{Event}
 use Rattle.pvd_desc.specs.Types.{Types}
 use Rattle.desk_api.specs.declared.history.SiteData.{SiteData}
 use Rattle.desk_api.specs.declared.mark.Mark.{Mark}
-use Rattle.srv_stream.specs.State.{State}
-use Rattle.srv_stream.specs.Tasks.{Hearing, asks, not_built, unreadable, heard}
-use Rattle.srv_stream.specs.Rows.{Sent, spelled_all, Row, NoPart, Part, after_task}
+use Rattle.srv_session.specs.State.{State}
+use Rattle.srv_session.specs.Tasks.{Hearing, asks, not_built, unreadable, heard}
+use Rattle.srv_session.specs.Replies.{Sent, spelled_all}
+use Rattle.srv_session.specs.Rows.{Row, NoPart, Part, after_task}
 
 -- One step: an event of the client, the marks that it made, and what the session sent.
 pub record Step : Type 0 where
