@@ -1,15 +1,23 @@
 -- What building a site from a database text answers.
-use Rattle.std.specs.Prelude.{◌≡◌, ℕ, List, [], ◌∷◌, Option, None, Some, Result, Ok, Err, ⊤}
+use Rattle.std.specs.Prelude.{◌≡◌, ℕ, List, [], ◌∷◌, Option, None, Some, map, Result, Ok, Err, ⊤}
 use Rattle.std.specs.Option.{option_or, option_map}
 use Rattle.db_text.specs.Macros.{Macros}
 use Rattle.db_load.specs.Loading.{RecordsOf, FirstFaultOf}
 use Rattle.db_load.specs.declared.fault.LoadFault.TheVariants as loads
-use Rattle.rec_kinds.specs.Building.{build_fault}
+use Rattle.rec_kinds.specs.Building.{build_fault, config_of}
 use Rattle.rec_kinds.specs.declared.fault.BuildFault.{BuildFault}
 use Rattle.rec_kinds.specs.declared.record_text.RecText.{RecText}
+use Rattle.rec_kinds.specs.Configs.{Config}
+use Rattle.group_defs.specs.Checking.{defined}
+use Rattle.group_defs.specs.Told.{◌>>=◌}
+use Rattle.group_defs.specs.declared.def.GroupDef.{GroupDef}
+use Rattle.group_defs.specs.declared.fault.GroupFault.{GroupFault}
+use Rattle.group_defs.specs.declared.fault.GroupFault.TheVariants as groups
+use Rattle.group_view.specs.Faults.{group_fault}
+use Rattle.group_view.specs.Groups.{GroupData, group_of}
 use Rattle.desk_api.specs.Sites.{site_of}
 use Rattle.desk_api.specs.declared.fault.SiteFault.{SiteFault}
-use Rattle.desk_api.specs.declared.fault.SiteFault.TheVariants.{Load, Build, NoMemory}
+use Rattle.desk_api.specs.declared.fault.SiteFault.TheVariants.{Load, Build, Group, NoMemory}
 use Rattle.desk_api.specs.declared.history.SiteData.{SiteData}
 
 -- why this record can't be built, with its name
@@ -22,19 +30,27 @@ first_fault [] = None
 first_fault (r ∷ records) = option_or (fault_in r) (first_fault records)
 
 -- The groups of these definitions over records of these configurations, or the fault of the first that can't be built.
-abbrev pub built_each : List Config → List GroupDef → Result (List Group) GroupFault
+
+abbrev pub unless_faulty : Option GroupFault → GroupData → Result GroupData GroupFault
+unless_faulty None group = Ok group
+unless_faulty (Some fault) group = Err fault
+
+abbrev pub built : List Config → GroupDef → Result GroupData GroupFault
+built configs def = unless_faulty (group_fault (group_of configs def)) (group_of configs def)
+
+abbrev pub built_each : List Config → List GroupDef → Result (List GroupData) GroupFault
 built_each configs [] = Ok []
-built_each configs (def ∷ defs) = built def configs >>= λ group. built_each configs defs >>= λ groups. Ok (group ∷ groups)
+built_each configs (def ∷ defs) = built configs def >>= λ group. built_each configs defs >>= λ groups. Ok (group ∷ groups)
 
 -- The groups that these records define, or the first fault: of their texts, and then of the groups in order (QSRV manual,
 -- "Group PV definitions").
-abbrev pub groups_of : List RecText → Result (List Group) GroupFault
+abbrev pub groups_of : List RecText → Result (List GroupData) GroupFault
 groups_of records = defined records >>= built_each (map (λ r. config_of r.kind r.fields) records)
 
 -- The text has these records, all of which can be built, with these groups, and the site is theirs.
 pub record IsBuilt (macros : Macros) (text : List ℕ) (site : SiteData) : Type 0 where
   pub records : List RecText
-  pub groups : List Group
+  pub groups : List GroupData
   pub loaded : RecordsOf macros text records
   pub faultless : first_fault records ≡ None
   pub grouped : groups_of records ≡ Ok groups

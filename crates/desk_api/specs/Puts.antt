@@ -10,9 +10,9 @@ use Rattle.rec_kinds.specs.declared.put.PutRefusal.TheVariants.{NothingWritable}
 use Rattle.rec_fields.specs.Puts.{action_for}
 use Rattle.rec_fields.specs.declared.puts.FieldAnswer.{FieldAnswer}
 use Rattle.rec_fields.specs.declared.puts.FieldAnswer.TheVariants.{Refused}
-use Rattle.group_view.specs.Puts.{group_actions}
-use Rattle.group_view.specs.Triggers.{footprint_when}
-use Rattle.group_view.specs.declared.group.Group.{Group as TheGroup}
+use Rattle.group_view.specs.Groups.{GroupData}
+use Rattle.group_view.specs.Leaves.{footprint}
+use Rattle.group_view.specs.Puts as group
 use Rattle.desk_api.specs.declared.channel.Channel.{Channel}
 use Rattle.desk_api.specs.declared.channel.ChannelKind.{ChannelKind}
 use Rattle.desk_api.specs.declared.channel.ChannelKind.TheVariants.{Rec, Desc, Group}
@@ -27,9 +27,9 @@ abbrev pub to_configured : ℕ → FinSet nat_cmp → Data → Option Config →
 to_configured rec mask value None = Err (Refused NothingWritable)
 to_configured rec mask value (Some config) = to_record rec (action_for config value mask)
 
-abbrev pub to_group : FinSet nat_cmp → Data → Option TheGroup → Result (List (ℕ × Action)) FieldAnswer
+abbrev pub to_group : FinSet nat_cmp → Data → Option GroupData → Result (List (ℕ × Action)) FieldAnswer
 to_group mask value None = Err (Refused NothingWritable)
-to_group mask value (Some group) = group_actions group value mask
+to_group mask value (Some g) = group.actions_for g value mask
 
 -- a description can't be written
 abbrev pub actions_for : ChannelKind → SiteData → ℕ → FinSet nat_cmp → Data → Result (List (ℕ × Action)) FieldAnswer
@@ -44,7 +44,7 @@ actions_of site channel mask value = actions_for channel.kind site channel.numbe
 -- whether this record is that one, or is read by a group's leaves that are posted when that one changes
 abbrev pub is_held_with : SiteData → ℕ → ℕ → Bool
 is_held_with site rec written =
-    rec == written || list_any (λ group. list_any (λ r. r == rec) (footprint_when group written)) site.groups
+    rec == written || list_any (λ group. list_any (λ r. r == rec) (footprint group written)) site.groups
 
 abbrev pub is_held : SiteData → List (ℕ × Action) → ℕ → Bool
 is_held site actions rec = list_any (λ action. is_held_with site rec action.0) actions

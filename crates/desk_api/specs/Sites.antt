@@ -1,13 +1,15 @@
 -- The names of a site, the channels that they stand for, and the records that these read.
-use Rattle.std.specs.Prelude.{ℕ, ℤ, ◌+◌, Bool, false, nat_lt, List, [], ◌∷◌, ◌++◌, length, map, Option, None, Some, if◌then◌else◌, bytes_eq, codes}
+use Rattle.std.specs.Prelude.{ℕ, ℤ, ◌+◌, Bool, true, false, nat_lt, List, [], ◌∷◌, ◌++◌, length, map, Option, None, Some, slice_get, if◌then◌else◌, bytes_eq, codes}
 use Rattle.db_load.specs.Forms.{is_record_name as may_name}
 use Rattle.rec_kinds.specs.Building.{config_of, opening, opening_of}
 use Rattle.rec_kinds.specs.declared.datum.Datum.TheVariants.{Num}
 use Rattle.rec_kinds.specs.declared.kind.Kind.TheVariants.{Longout}
 use Rattle.rec_kinds.specs.declared.record_text.RecText.{RecText}
+use Rattle.group_view.specs.Groups.{GroupData}
+use Rattle.group_view.specs.Leaves.{records_of}
 use Rattle.desk_api.specs.declared.channel.Channel.{Channel}
 use Rattle.desk_api.specs.declared.channel.ChannelKind.{ChannelKind}
-use Rattle.desk_api.specs.declared.channel.ChannelKind.TheVariants.{Rec, Desc}
+use Rattle.desk_api.specs.declared.channel.ChannelKind.TheVariants.{Rec, Desc, Group}
 use Rattle.desk_api.specs.declared.history.SiteData.{SiteData}
 
 -- what may name a record: 1 to 60 bytes, none of them a blank, a quote, a full stop or a dollar sign (EPICS record
@@ -32,9 +34,9 @@ first_named name [] = None
 first_named name (x ∷ xs) = if bytes_eq name x.0 then Some x.1 else first_named name xs
 
 -- The names of channels, in order, of these groups, counted from n.
-abbrev pub group_names_from : ℕ → List Group → List (List ℕ × Channel)
+abbrev pub group_names_from : ℕ → List GroupData → List (List ℕ × Channel)
 group_names_from n [] = []
-group_names_from n (group ∷ groups) = (group.def.name, channel_of Group n) ∷ group_names_from (n + 1) groups
+group_names_from n (group ∷ groups) = (group.name, channel_of Group n) ∷ group_names_from (n + 1) groups
 
 -- the channel of this name: a record's, and else a group's
 abbrev pub channel_named : SiteData → List ℕ → Option Channel
@@ -51,24 +53,24 @@ abbrev pub is_channel : SiteData → Channel → Bool
 is_channel site channel = is_channel_of channel.kind site channel.number
 
 -- the records of a group, in rising order
-abbrev pub records_of : Option Group → List ℕ
-records_of None = []
-records_of (Some group) = members_of group
+abbrev pub records_in : Option GroupData → List ℕ
+records_in None = []
+records_in (Some group) = records_of group
 
 -- the records that a get of the channel reads, in rising order
 abbrev pub footprint_for : ChannelKind → SiteData → ℕ → List ℕ
 footprint_for Rec site number = number ∷ []
 footprint_for Desc site number = []
-footprint_for Group site number = records_of (slice_get site.groups number)
+footprint_for Group site number = records_in (slice_get site.groups number)
 
 abbrev pub footprint_of : SiteData → Channel → List ℕ
 footprint_of site channel = footprint_for channel.kind site channel.number
 
 -- Whether gets and puts of the channel are atomic: those of a group as the request says, and else as the group's flag says;
 -- those of other channels always (QSRV manual, "Group PV definitions", `+atomic`).
-abbrev pub is_atomic_group : Option Group → Option Bool → Bool
+abbrev pub is_atomic_group : Option GroupData → Option Bool → Bool
 is_atomic_group group (Some wanted) = wanted
-is_atomic_group (Some group) None = group.def.atomic
+is_atomic_group (Some group) None = group.atomic
 is_atomic_group None None = true
 
 abbrev pub is_atomic_for : ChannelKind → SiteData → ℕ → Option Bool → Bool
@@ -80,7 +82,7 @@ abbrev pub is_atomic : SiteData → Channel → Option Bool → Bool
 is_atomic site channel wanted = is_atomic_for channel.kind site channel.number wanted
 
 -- The site of these records, as a text states them, with these groups.
-abbrev pub site_of : List RecText → List Group → SiteData
+abbrev pub site_of : List RecText → List GroupData → SiteData
 site_of records groups = record {
   names = map (λ r. r.name) records;
   configs = map (λ r. config_of r.kind r.fields) records;

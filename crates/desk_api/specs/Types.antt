@@ -8,9 +8,11 @@ use Rattle.pvd_type.specs.declared.shape.Scalar.TheVariants.{Text}
 use Rattle.nt_types.specs.Types.{scalar_tree}
 use Rattle.rec_kinds.specs.Configs.{Config}
 use Rattle.rec_fields.specs.Types.{record_tree}
+use Rattle.group_view.specs.Groups.{GroupData}
+use Rattle.group_view.specs.Types.{group_tree}
 use Rattle.desk_api.specs.declared.channel.Channel.{Channel}
 use Rattle.desk_api.specs.declared.channel.ChannelKind.{ChannelKind}
-use Rattle.desk_api.specs.declared.channel.ChannelKind.TheVariants.{Rec, Desc}
+use Rattle.desk_api.specs.declared.channel.ChannelKind.TheVariants.{Rec, Desc, Group}
 use Rattle.desk_api.specs.declared.history.SiteData.{SiteData}
 
 -- the type that a record of this configuration shows; no record shows a structure without members
@@ -19,7 +21,7 @@ type_shown None = node struct [] no_fields
 type_shown (Some config) = record_tree config
 
 -- the type of a group; no group shows a structure without an id and members
-abbrev pub group_type : Option Group → Tree
+abbrev pub group_type : Option GroupData → Tree
 group_type None = node struct [] no_fields
 group_type (Some group) = group_tree group
 

@@ -7,10 +7,12 @@ use Rattle.nt_types.specs.Types.{scalar_tree}
 use Rattle.rec_kinds.specs.Configs.{Config}
 use Rattle.rec_kinds.specs.declared.state.RecState.{RecState}
 use Rattle.rec_fields.specs.Shown.{shown, desc_shown}
-use Rattle.desk_api.specs.Types.{type_shown}
+use Rattle.group_view.specs.Groups.{GroupData}
+use Rattle.group_view.specs.Views.{group_shown}
+use Rattle.desk_api.specs.Types.{type_shown, group_type}
 use Rattle.desk_api.specs.declared.channel.Channel.{Channel}
 use Rattle.desk_api.specs.declared.channel.ChannelKind.{ChannelKind}
-use Rattle.desk_api.specs.declared.channel.ChannelKind.TheVariants.{Rec, Desc}
+use Rattle.desk_api.specs.declared.channel.ChannelKind.TheVariants.{Rec, Desc, Group}
 use Rattle.desk_api.specs.declared.history.SiteData.{SiteData}
 
 -- what a record shows, and a blank value where there is no such record or state
@@ -24,7 +26,7 @@ described (Some config) = desc_shown config
 described None = blank_of (scalar_tree Text)
 
 -- what a group shows of all records, and a blank value where there is no such group
-abbrev pub grouped : Option Group → List RecState → Data
+abbrev pub grouped : Option GroupData → List RecState → Data
 grouped (Some group) states = group_shown group states
 grouped None states = blank_of (group_type None)
 

@@ -1,0 +1,9 @@
+pub mod Pieces
+pub mod Groups
+pub mod Slots
+pub mod Types
+pub mod Views
+pub mod Leaves
+pub mod Faults
+pub mod Puts
+pub mod Laws
