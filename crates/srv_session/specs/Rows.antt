@@ -13,6 +13,7 @@ use Rattle.pva_messages.specs.Replies.{Reply}
 use Rattle.pva_messages.specs.Subcommands.{ends}
 use Rattle.pvd_request.specs.declared.request.Request.{Request as Wanted}
 use Rattle.chan_table.specs.declared.ask.AskKind.{AskKind}
+use Rattle.chan_table.specs.declared.ask.AskKind.TheVariants as kinds
 use Rattle.rec_kinds.specs.declared.put.PutRefusal.{PutRefusal}
 use Rattle.rec_kinds.specs.declared.put.PutRefusal.TheVariants as refusals
 use Rattle.desk_api.specs.Calls as calls
@@ -26,7 +27,7 @@ use Rattle.desk_api.specs.declared.put.Done.{Done}
 use Rattle.desk_api.specs.declared.put.PutAnswer.{PutAnswer}
 use Rattle.desk_api.specs.declared.put.PutAnswer.TheVariants as answers
 use Rattle.srv_session.specs.State.{State, Channels, Requests, Asked, segment_for, is_full, least_free, without_channel}
-use Rattle.srv_session.specs.Replies.{Sent, said, control, error, begun, got}
+use Rattle.srv_session.specs.Replies.{Sent, said, control, error, answered, begun, got}
 use Rattle.srv_session.specs.Tasks.{Task, pass_over, echo_control, refuse, validate, echo, create, destroy_channel, begin, get, put, destroy_request}
 
 -- Channels that are created.
@@ -100,7 +101,7 @@ pub record PutRow (site : SiteData) (req sub : ℕ) (ask : Asked) (channel : Cha
   pub status : Status
   pub is_put : ArePut (asked site ask channel mask value moment) answer marks
   pub status_is : put_status answer ≡ Some status
-  pub sent_is : sent ≡ said (reply.put req sub status None None) ∷ []
+  pub sent_is : sent ≡ said (answered kinds.Put req sub status) ∷ []
 
 -- What the session says to this task.
 abbrev pub Row : SiteData → State → Task → List Mark → List Sent → Type 0

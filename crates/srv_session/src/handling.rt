@@ -1,4 +1,7 @@
 // Events of a client.
+ghost use Rattle.std.specs.Prelude.{◌≡◌};
+ghost use Rattle.srv_session.specs.Views as views;
+
 use crate::session::Session;
 use crate::stop::SessionStop;
 use desk_api::{Desk, Moment};
@@ -19,7 +22,7 @@ const ECHO: u8 = Command::Echo as u8;
 
 /// The same answer for one whose caller may stop for other reasons too.
 pub(crate) fn stopping(answer: Result<(), NoMemory>) -> Result<(), SessionStop>
-    ensures { result ≡ stopping answer }
+    ensures { result ≡ views.stopping answer }
 {
     match answer {
         Ok(()) => Ok(()),
@@ -28,15 +31,33 @@ pub(crate) fn stopping(answer: Result<(), NoMemory>) -> Result<(), SessionStop>
 }
 
 impl Session {
+    ghost use Rattle.std.specs.Prelude.{OnOk, length};
+    ghost use Rattle.pvd_codec.specs.Written.{CanEach};
+    ghost use Rattle.pva_frames.specs.LentView.{whole_of};
+    ghost use Rattle.pva_frames.specs.declared.event.Event.TheVariants.{Message, Control};
+    ghost use Rattle.pva_messages.specs.Faults.{PartWithin};
+    ghost use Rattle.pva_messages.specs.Requests.{request_fields};
+    ghost use Rattle.pva_messages.specs.Views.{request_view};
+    ghost use Rattle.pva_messages.specs.Written.{FitsField};
+    ghost use Rattle.srv_session.specs.Calls.{IsOf, Handles};
+    ghost use Rattle.srv_session.specs.Tasks as task;
+    ghost use Rattle.srv_session.specs.Tasks.{is_heard, heard_message};
+    ghost use Rattle.srv_session.specs.Views.{state_of, show, HandlesControl, HeedsHearing, AnswersAlone};
+
     /// Answers an event of the client. What it puts has this moment.
     pub fn handle<D: Desk>(
         &mut self,
         alloc: Global,
-        event: &Event,
+        event: Event,
         desk: &mut D,
         moment: Moment,
-    ) -> Result<(), SessionStop> {
-        match event {
+    ) -> Result<(), SessionStop>
+        requires { IsOf (D.seat desk.old).seen.base.site (state_of self.old) }
+        ensures handles { Handles (show (D.seat desk.old) self.old) (show (D.seat desk.new) self.new) moment event result }
+        ensures site { OnOk result (IsOf (D.seat desk.new).seen.base.site (state_of self.new)) }
+    {
+        desk.has_legal_history();
+        match &event {
             Event::Control { command, number } => stopping(self.handle_control(*command, *number)),
             Event::Message(whole) => {
                 let lent = Lent {
@@ -52,6 +73,7 @@ impl Session {
 
     /// Answers a control message: an echo request. The others are passed over.
     pub fn handle_control(&mut self, command: u8, number: u32) -> Result<(), NoMemory>
+        ensures { HandlesControl self.old self.new (Control command number) result }
     {
         if command == ECHO_REQUEST {
             return self.echo_control(number);
@@ -66,7 +88,12 @@ impl Session {
         message: &Lent<'_>,
         desk: &mut D,
         moment: Moment,
-    ) -> Result<(), SessionStop> {
+    ) -> Result<(), SessionStop>
+        requires { IsOf (D.seat desk.old).seen.base.site (state_of self.old) }
+        ensures handles { Handles (show (D.seat desk.old) self.old) (show (D.seat desk.new) self.new) moment (Message (whole_of message.now)) result }
+        ensures site { OnOk result (IsOf (D.seat desk.new).seen.base.site (state_of self.new)) }
+    {
+        desk.has_legal_history();
         if message.command == ECHO {
             return stopping(self.echo(message.payload));
         }
@@ -99,7 +126,13 @@ impl Session {
         request: &ToServer,
         desk: &mut D,
         moment: Moment,
-    ) -> Result<(), SessionStop> {
+    ) -> Result<(), SessionStop>
+        requires site { IsOf (D.seat desk.old).seen.base.site (state_of self.old) }
+        requires part { PartWithin (request_view request.now) (length message.now.payload.now) }
+        requires fits { CanEach FitsField (request_fields (request_view request.now)) }
+        ensures { HeedsHearing (D.seat desk.old) (D.seat desk.new) self.old self.new moment (heard_message (D.seat desk.old).seen.base.site (state_of self.old) (whole_of message.now) (state_of self.old).types (request_view request.now)) result }
+    {
+        desk.has_legal_history();
         match request {
             ToServer::Validation {
                 buffer,

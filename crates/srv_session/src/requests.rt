@@ -1,6 +1,4 @@
 // Requests that begin and end (pvAccess Protocol Specification, "Application Messages").
-ghost use Rattle.std.specs.Prelude.{◌≡◌};
-
 use crate::session::Session;
 use crate::subcommand::ends;
 use chan_table::{Ask, AskKind, TableAnswer};
@@ -18,6 +16,25 @@ pub(crate) struct Found {
 }
 
 impl Session {
+    ghost use Rattle.std.specs.Prelude.{◌≡◌, ◌≢◌, ◌++◌, false, true, IfSome, IsTrue, Some, codes};
+    ghost use Rattle.std.specs.FinMap.{contains_key, get as at};
+    ghost use Rattle.std.specs.FinSet as set;
+    ghost use Rattle.pvd_value.specs.Fits.{fits_of};
+    ghost use Rattle.pvd_value.specs.View.{view};
+    ghost use Rattle.pva_messages.specs.Subcommands.{begins};
+    ghost use Rattle.pva_messages.specs.Views.{valued_view};
+    ghost use Rattle.pvd_request.specs.Requests.{request_of};
+    ghost use Rattle.pvd_request.specs.declared.request.Root.TheVariants as roots;
+    ghost use Rattle.desk_api.specs.Sites.{is_channel};
+    ghost use Rattle.desk_api.specs.Types.{type_of};
+    ghost use Rattle.srv_session.specs.State.{channel_at, is_on};
+    ghost use Rattle.srv_session.specs.Calls.{IsOf};
+    ghost use Rattle.srv_session.specs.Replies.{IsServed, refused};
+    ghost use Rattle.srv_session.specs.Rows.{behind};
+    ghost use Rattle.srv_session.specs.Tasks as task;
+    ghost use Rattle.srv_session.specs.Tasks.{beginning, beginning_as, found_for, asked_request_end};
+    ghost use Rattle.srv_session.specs.Views.{state_of, output_of, AnswersAlone, AnswersBeside, BeginsOn, RefusesFault, IsFound};
+
     /// Says why a message about a request is refused.
     pub(crate) fn refuse(
         &mut self,
@@ -43,6 +60,11 @@ impl Session {
         request: &Option<(PvType, PvValue)>,
         desk: &D,
     ) -> Result<(), NoMemory>
+        requires site { IsOf (D.seat desk.now).seen.base.site (state_of self.old) }
+        requires served { IsServed kind }
+        requires begins { begins sub ≡ true }
+        requires fits { IfSome request.now (λ r. fits_of 16 (view r.1) r.0 ≡ true) }
+        ensures { AnswersBeside (D.seat desk.now) self.old self.new (beginning (D.seat desk.now).seen.base.site (state_of self.old) kind req sub sid (valued_view request.now) (channel_at (state_of self.old).channels sid)) result }
     {
         let Some(channel) = self.channel_at(sid) else {
             return self.refuse(kind, req, sub, "unknown channel");
@@ -67,15 +89,36 @@ impl Session {
         request: &Option<(PvType, PvValue)>,
         desk: &D,
     ) -> Result<(), NoMemory>
+        requires channel { IsTrue (is_channel (D.seat desk.now).seen.base.site channel) }
+        requires room { contains_key (state_of self.old).requests req ≡ false }
+        requires served { IsServed kind }
+        requires begins { begins sub ≡ true }
+        requires fits { IfSome request.now (λ r. fits_of 16 (view r.1) r.0 ≡ true) }
+        ensures { AnswersBeside (D.seat desk.now) self.old self.new (beginning_as kind req sub sid channel (request_of (type_of (D.seat desk.now).seen.base.site channel) roots.Field (valued_view request.now))) result }
     {
         let ty = desk.type_of(channel).unwrap();
         match read_request(alloc, ty, request.as_ref(), Root::Field) {
             Ok(wanted) => self.begin_as(kind, sid, req, sub, ty, wanted),
-            Err(RequestFault::NothingSelected) => self.refuse(kind, req, sub, "nothing selected"),
-            Err(RequestFault::BadOption(option)) => {
-                self.refuse_option(alloc, kind, req, sub, &option)
-            }
-            Err(RequestFault::NoMemory) => Err(NoMemory),
+            Err(fault) => self.refuse_fault(alloc, kind, req, sub, &fault),
+        }
+    }
+
+    /// Says why a request structure is refused.
+    fn refuse_fault(
+        &mut self,
+        alloc: Global,
+        kind: AskKind,
+        req: u32,
+        sub: u8,
+        fault: &RequestFault,
+    ) -> Result<(), NoMemory>
+        requires { IsServed kind }
+        ensures { RefusesFault self.old self.new kind req sub fault.now result }
+    {
+        match fault {
+            RequestFault::NothingSelected => self.refuse(kind, req, sub, "nothing selected"),
+            RequestFault::BadOption(option) => self.refuse_option(alloc, kind, req, sub, option),
+            RequestFault::NoMemory => Err(NoMemory),
         }
     }
 
@@ -86,7 +129,10 @@ impl Session {
         req: u32,
         sub: u8,
         option: &Name,
-    ) -> Result<(), NoMemory> {
+    ) -> Result<(), NoMemory>
+        requires { IsServed kind }
+        ensures { AnswersAlone self.old self.new (task.refuse (refused kind req sub (codes "bad option " ++ option.now))) result }
+    {
         let mut text = String::new(alloc);
         text.push_str("bad option ")?;
         text.push_str(option.as_str())?;
@@ -102,7 +148,12 @@ impl Session {
         sub: u8,
         ty: &PvType,
         wanted: Request,
-    ) -> Result<(), NoMemory> {
+    ) -> Result<(), NoMemory>
+        requires room { contains_key (state_of self.old).requests req ≡ false }
+        requires served { IsServed kind }
+        requires begins { begins sub ≡ true }
+        ensures { BeginsOn self.old self.new kind req sub sid ty.now wanted result }
+    {
         self.say_begun(kind, req, sub, ty)?;
         let ask = Ask {
             sid,
@@ -119,38 +170,54 @@ impl Session {
 
     /// The request that a message of this kind is about, where it began by one of this kind on the channel of this id; or why
     /// the message is refused.
-    pub(crate) fn find(&self, kind: AskKind, sid: u32, req: u32) -> Result<Found, &'static str> {
+    pub(crate) fn find(&self, kind: AskKind, sid: u32, req: u32) -> Result<Found, &'static str>
+        ensures { IsFound result (found_for (state_of self.now) kind sid req) }
+    {
         let Some(channel) = self.channel_at(sid) else {
             return Err("unknown request");
         };
-        match self.table.ask(req) {
-            Some(ask) if ask.sid == sid => {
-                if ask.kind != kind {
-                    return Err("wrong phase");
-                }
-                Ok(Found {
-                    channel,
-                    atomic: ask.atomic,
-                })
-            }
-            _ => Err("unknown request"),
+        let Some(ask) = self.table.ask(req) else {
+            return Err("unknown request");
+        };
+        if ask.sid != sid {
+            return Err("unknown request");
         }
+        if ask.kind != kind {
+            return Err("wrong phase");
+        }
+        Ok(Found {
+            channel,
+            atomic: ask.atomic,
+        })
     }
 
-    /// Ends a request whose message asks for that.
-    pub(crate) fn end_behind(&mut self, req: u32, sub: u8) {
+    /// Ends a request behind a message that asks for that.
+    pub(crate) fn end_behind(&mut self, req: u32, sub: u8)
+        ensures state { state_of self.new ≡ record (state_of self.old) { requests = behind req sub (state_of self.old).requests } }
+        ensures output { output_of self.new ≡ output_of self.old }
+    {
         if ends(sub) {
             self.table.remove(req);
         }
     }
 
-    /// Ends a request, where it is on this channel.
-    pub(crate) fn destroy_request(&mut self, sid: u32, req: u32) -> Result<(), NoMemory> {
+    /// Whether a request is on this channel.
+    fn is_on(&self, sid: u32, req: u32) -> bool
+        ensures { result ≡ is_on sid (at (state_of self.now).requests req) }
+    {
         match self.table.ask(req) {
-            Some(ask) if ask.sid == sid => {}
-            _ => return Ok(()),
+            Some(ask) => ask.sid == sid,
+            None => false,
         }
-        self.table.remove(req);
+    }
+
+    /// Ends a request, where it is on this channel.
+    pub(crate) fn destroy_request(&mut self, sid: u32, req: u32) -> Result<(), NoMemory>
+        ensures { AnswersAlone self.old self.new (asked_request_end (state_of self.old) sid req) result }
+    {
+        if self.is_on(sid, req) {
+            self.table.remove(req);
+        }
         Ok(())
     }
 }

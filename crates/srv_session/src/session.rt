@@ -1,17 +1,18 @@
 // One session: its state, and what it has to write.
-ghost use Rattle.std.specs.Prelude.{◌≡◌, ◌<◌, ◌≤◌, ◌++◌, drop, length, IfOk, OnOk, OnErr, true, Some, option_map};
+ghost use Rattle.std.specs.Prelude.{◌≡◌, ◌<◌, ◌≤◌, ◌++◌, drop, length, IfOk, IfNone, OnOk, OnErr, true, false, Some, option_map};
 ghost use Rattle.pvd_value.specs.View.{view};
 ghost use Rattle.pva_frames.specs.Spelling.{message_bytes};
 ghost use Rattle.srv_session.specs.State.{buffer_for, segment_for, opening};
-ghost use Rattle.srv_session.specs.Replies.{methods, greeting};
+ghost use Rattle.pva_messages.specs.Rows.{byte_of};
+ghost use Rattle.srv_session.specs.Replies.{methods, greeting, command_of_kind};
 
 use chan_table::{AskKind, Table};
 use desk_api::Channel;
 use pva_frames::{write_control, write_message};
-use pva_messages::{Command, ToClient, write_begun, write_get_value, write_to_client};
+use pva_messages::{Command, ToClient, write_begun, write_to_client};
 use pva_wire::Order;
 use pvd_desc::Registry;
-use pvd_type::{BitSet, Name, NoMemory, PvType};
+use pvd_type::{Name, NoMemory, PvType};
 use pvd_value::PvValue;
 use std::alloc::Global;
 
@@ -96,13 +97,14 @@ pub struct Session {
 impl Session {
     ghost use Rattle.std.specs.Prelude.{◌∷◌, []};
     ghost use Rattle.pva_wire.specs.Status.{good};
-    ghost use Rattle.pvd_codec.specs.Written.{HoldsLeaves};
+    ghost use Rattle.std.specs.FinMap.{get as at};
     ghost use Rattle.pvd_value.specs.Fits.{fits_of};
     ghost use Rattle.pva_messages.specs.Replies as reply;
     ghost use Rattle.pva_messages.specs.Subcommands.{begins};
     ghost use Rattle.pva_messages.specs.Views.{reply_view};
     ghost use Rattle.srv_session.specs.Replies.{CanSay, IsServed, spelled, spelled_all, said, control, greetings, outcome, answered, begun, got};
-    ghost use Rattle.srv_session.specs.Views.{state_of, output_of, Keeps};
+    ghost use Rattle.srv_session.specs.State.{Asked};
+    ghost use Rattle.srv_session.specs.Views.{state_of, output_of, Keeps, HasSelected};
 
     /// A session that has said nothing yet.
     fn silent(alloc: Global, order: Order) -> Result<Session, NoMemory>
@@ -271,7 +273,8 @@ impl Session {
         sub: u8,
         problem: Option<&str>,
     ) -> Result<(), NoMemory>
-        requires { IsServed kind }
+        requires served { IsServed kind }
+        requires sub { IfNone problem (begins sub ≡ false) }
         ensures state { state_of self.new ≡ state_of self.old }
         ensures ok { OnOk result (output_of self.new ≡ output_of self.old ++ spelled self.old.order self.old.segment (said (answered kind req sub (outcome (option_map (λ t. t.now) problem.entry))))) }
         ensures err { OnErr result (output_of self.new ≡ output_of self.old) }
@@ -306,25 +309,34 @@ impl Session {
         )
     }
 
-    /// Adds the reply that brings the leaves of a value that are marked.
-    pub(crate) fn say_value(
+    /// Adds the reply that brings the leaves of a value which the request of this id selected.
+    pub(crate) fn say_selected(
         &mut self,
         kind: AskKind,
         req: u32,
         sub: u8,
         ty: &PvType,
-        mask: &BitSet,
         value: &PvValue,
     ) -> Result<(), NoMemory>
+        requires there { HasSelected (state_of self.old) req ty.now }
         requires served { IsServed kind }
+        requires sub { begins sub ≡ false }
         requires fits { fits_of 16 (view value.now) ty.now ≡ true }
-        requires leaves { HoldsLeaves ty.now mask.now }
         ensures state { state_of self.new ≡ state_of self.old }
-        ensures ok { OnOk result (output_of self.new ≡ output_of self.old ++ spelled self.old.order self.old.segment (said (got kind req sub ty.now mask.now (view value.now)))) }
+        ensures ok { OnOk result ((ask : Asked) → at (state_of self.old).requests req ≡ Some ask → output_of self.new ≡ output_of self.old ++ spelled self.old.order self.old.segment (said (got kind req sub ty.now ask.mask (view value.now)))) }
         ensures err { OnErr result (output_of self.new ≡ output_of self.old) }
     {
-        self.payload.clear();
-        write_value(&mut self.payload, self.order, req, sub, ty, mask, value)?;
-        self.say_payload(command_of(kind))
+        let ask = self.table.ask(req).unwrap();
+        write_value(
+            &mut self.output,
+            self.order,
+            self.segment,
+            command_of(kind),
+            req,
+            sub,
+            ty,
+            &ask.mask,
+            value,
+        )
     }
 }

@@ -1,13 +1,16 @@
 // Payloads of replies, written from what stands elsewhere.
-ghost use Rattle.std.specs.Prelude.{◌≡◌, ◌++◌, ◌∷◌, [], true, Some, OnOk, option_map, codes};
+ghost use Rattle.std.specs.Prelude.{◌≡◌, ◌<◌, ◌++◌, ◌∷◌, [], true, Some, OnOk, OnErr, option_map};
 ghost use Rattle.pva_wire.specs.Status.{good, canonical_status};
-ghost use Rattle.pvd_value.specs.Fits.{fits_of};
-ghost use Rattle.pvd_value.specs.View.{view};
+ghost use Rattle.pvd_codec.specs.Written.{Begins};
+ghost use Rattle.pva_frames.specs.Spelling.{message_bytes};
+ghost use Rattle.pva_messages.specs.Rows.{byte_of};
 ghost use Rattle.pva_messages.specs.Fields as field;
 ghost use Rattle.pva_messages.specs.Views.{part_of};
 ghost use Rattle.pva_messages.specs.Written.{canonical, FitsField};
 ghost use Rattle.srv_session.specs.Replies.{outcome};
 
+use pva_frames::{begin_message, end_message};
+use pva_messages::Command;
 use pva_wire::{Order, write_size, write_u32};
 use pvd_codec::write_part;
 use pvd_type::{BitSet, NoMemory, PvType};
@@ -109,7 +112,7 @@ pub(crate) fn write_answer(
 }
 
 /// Appends the payload that says OK to a message about a request, and brings a part of a value.
-pub(crate) fn write_value(
+fn put_value(
     out: &mut Vec<u8>,
     order: Order,
     req: u32,
@@ -119,10 +122,40 @@ pub(crate) fn write_value(
     value: &PvValue,
 ) -> Result<(), NoMemory>
     requires { FitsField (field.part (part_of ty.now mask.now value.now)) }
-    ensures { OnOk result (out.new.items ≡ out.old.items ++ canonical order (field.word req ∷ field.byte sub ∷ field.status good ∷ field.part (part_of ty.now mask.now value.now) ∷ [])) }
+    ensures written { OnOk result (out.new.items ≡ out.old.items ++ canonical order (field.word req ∷ field.byte sub ∷ field.status good ∷ field.part (part_of ty.now mask.now value.now) ∷ [])) }
+    ensures begins { OnErr result (Begins out.old.items out.new.items) }
 {
     write_u32(out, order, req)?;
     out.push(sub)?;
     out.push(GOOD)?;
-    write_part(out, order, ty, mask, value)
+    write_part(out, order, ty, mask, value)?;
+    Ok(())
+}
+
+/// Appends the message that says OK to one about a request, and brings a part of a value.
+pub(crate) fn write_value(
+    out: &mut Vec<u8>,
+    order: Order,
+    segment: u32,
+    command: Command,
+    req: u32,
+    sub: u8,
+    ty: &PvType,
+    mask: &BitSet,
+    value: &PvValue,
+) -> Result<(), NoMemory>
+    requires segment { 0 < segment }
+    requires fits { FitsField (field.part (part_of ty.now mask.now value.now)) }
+    ensures ok { OnOk result (out.new.items ≡ out.old.items ++ message_bytes order true (byte_of command) (canonical order (field.word req ∷ field.byte sub ∷ field.status good ∷ field.part (part_of ty.now mask.now value.now) ∷ [])) segment) }
+    ensures err { OnErr result (out.new.items ≡ out.old.items) }
+{
+    let start = out.len();
+    begin_message(out)?;
+    match put_value(out, order, req, sub, ty, mask, value) {
+        Ok(()) => end_message(out, start, order, true, command.byte(), segment),
+        Err(failed) => {
+            out.truncate(start);
+            Err(failed)
+        }
+    }
 }
