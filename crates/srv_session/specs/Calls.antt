@@ -95,9 +95,13 @@ Heeds old new moment hearing (Err stops.NoMemory) = GaveUp old new moment (PartO
 abbrev pub heard_by : Shown → Event → Hearing
 heard_by old e = heard (site_of old) old.state e
 
+-- an event was answered
+abbrev pub Handled : Shown → Shown → Moment → Event → Type 0
+Handled old new moment e = Replied old new moment (heard_by old e)
+
 -- An event that always has an answer was answered, or memory ran out in it.
 abbrev pub Responds : Shown → Shown → Moment → Event → Result (Unit {0}) NoMemory → Type 0
-Responds old new moment e (Ok u) = Replied old new moment (heard_by old e)
+Responds old new moment e (Ok u) = Handled old new moment e
 Responds old new moment e (Err no_memory) = GaveUp old new moment (PartOf (site_of old) old.state (heard_by old e))
 
 abbrev pub Handles : Shown → Shown → Moment → Event → Result (Unit {0}) SessionStop → Type 0

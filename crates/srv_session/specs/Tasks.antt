@@ -130,7 +130,7 @@ found_for s kind sid req = in_phase kind (request_on s sid req)
 
 abbrev pub getting : AskKind → ℕ → ℕ → Result (Asked × Channel) (List ℕ) → Task
 getting kind req sub (Ok found) = get kind req sub found.0 found.1
-getting kind req sub (Err text) = refuse (refused kind req sub text)
+getting kind req sub (Err why) = refuse (refused kind req sub why)
 
 abbrev pub asked_get : SiteData → State → ℕ → ℕ → ℕ → Valued → Task
 asked_get site s sid req sub v =
@@ -154,7 +154,7 @@ heard_unread site whole types req sub found (given part) = not_built
 
 abbrev pub heard_putting : SiteData → Whole → Types → ℕ → ℕ → PutPart → Result (Asked × Channel) (List ℕ) → Hearing
 heard_putting site whole types req sub part (Ok found) = heard_unread site whole types req sub found part
-heard_putting site whole types req sub part (Err text) = asks (refuse (refused kinds.Put req sub text)) types
+heard_putting site whole types req sub part (Err why) = asks (refuse (refused kinds.Put req sub why)) types
 
 -- a put's request also gets its present value
 abbrev pub heard_put : SiteData → State → Whole → Types → ℕ → ℕ → ℕ → Valued → PutPart → Hearing

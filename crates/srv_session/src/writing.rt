@@ -111,6 +111,17 @@ pub(crate) fn write_answer(
     write_outcome(out, order, problem)
 }
 
+/// Appends the id of a request, the subcommand and the status OK.
+fn put_good_head(out: &mut Vec<u8>, order: Order, req: u32, sub: u8) -> Result<(), NoMemory>
+    ensures written { OnOk result (out.new.items ≡ out.old.items ++ canonical order (field.word req ∷ field.byte sub ∷ field.status good ∷ [])) }
+    ensures begins { OnErr result (Begins out.old.items out.new.items) }
+{
+    write_u32(out, order, req)?;
+    out.push(sub)?;
+    out.push(GOOD)?;
+    Ok(())
+}
+
 /// Appends the payload that says OK to a message about a request, and brings a part of a value.
 fn put_value(
     out: &mut Vec<u8>,
@@ -125,9 +136,7 @@ fn put_value(
     ensures written { OnOk result (out.new.items ≡ out.old.items ++ canonical order (field.word req ∷ field.byte sub ∷ field.status good ∷ field.part (part_of ty.now mask.now value.now) ∷ [])) }
     ensures begins { OnErr result (Begins out.old.items out.new.items) }
 {
-    write_u32(out, order, req)?;
-    out.push(sub)?;
-    out.push(GOOD)?;
+    put_good_head(out, order, req, sub)?;
     write_part(out, order, ty, mask, value)?;
     Ok(())
 }

@@ -19,16 +19,16 @@ use Rattle.desk_api.specs.declared.mark.Mark.{Mark}
 use Rattle.desk_api.specs.declared.mark.Mark.TheVariants.{Read, Entered, Overweight}
 use Rattle.desk_api.specs.declared.mark.Seat.{Seat}
 use Rattle.journal_core.specs.Moments.{Moment}
-use Rattle.srv_stream.specs.Calls.{Shown, site_of, Handled}
-use Rattle.srv_stream.specs.Hearings.{IsOf}
-use Rattle.srv_stream.specs.State.{State}
-use Rattle.srv_stream.specs.Steps.{Step, state_after, events_of, marks_of}
+use Rattle.srv_session.specs.Calls.{Shown, site_of, Handled}
+use Rattle.srv_session.specs.Calls.{IsOf}
+use Rattle.srv_session.specs.State.{State}
+use Rattle.srv_session.specs.Steps.{Step, state_after, events_of, marks_of}
 use Rattle.srv_stream.specs.Streams.{moment_told, is_sound, refused, Stands, Follows, View, Passed, FedOn, FedUpTo, FedPart, FedErr, Feeds}
 use Rattle.srv_stream.specs.declared.ended.Ended.{Ended}
 use Rattle.srv_stream.specs.declared.ended.Ended.TheVariants as ends
 use Rattle.srv_stream.proofs.Passing.{grown_on, grown, part_grows, passed_nothing, passed_fed, fed_on_more, fed_err}
 use Rattle.srv_stream.proofs.Resting.{sound_fed}
-use Rattle.srv_stream.proofs.Steps.{step_on_site, steps_on_site}
+use Rattle.srv_session.proofs.Steps.{step_on_site, steps_on_site}
 
 -- The session's channel stays one of the site.
 

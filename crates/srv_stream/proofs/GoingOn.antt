@@ -19,10 +19,10 @@ use Rattle.desk_api.specs.declared.history.SiteData.{SiteData}
 use Rattle.desk_api.specs.declared.history.Base.{Base}
 use Rattle.desk_api.specs.declared.mark.Mark.{Mark}
 use Rattle.desk_api.specs.declared.mark.Seat.{Seat}
-use Rattle.srv_stream.specs.State.{State, opening}
-use Rattle.srv_stream.specs.Rows.{greeting}
-use Rattle.srv_stream.specs.Steps.{Step, state_after, events_of, marks_of, out_of}
-use Rattle.srv_stream.specs.Hearings.{IsOf}
+use Rattle.srv_session.specs.State.{State, opening}
+use Rattle.srv_session.specs.Replies.{greeting}
+use Rattle.srv_session.specs.Steps.{Step, state_after, events_of, marks_of, out_of}
+use Rattle.srv_session.specs.Calls.{IsOf}
 use Rattle.srv_stream.specs.Streams.{refused, Stands, Follows, View, Passed, FedOn, FedUpTo, FedPart, FedErr}
 use Rattle.srv_stream.specs.Views.{first_view}
 use Rattle.srv_stream.specs.Served.{Settled, Served}
@@ -32,8 +32,8 @@ use Rattle.srv_stream.proofs.Going.{Going, Idling, Keeps, SawEnd}
 use Rattle.srv_stream.proofs.Moving.{all_read, moves_nothing, moves_rest, moves_got, moves_took}
 use Rattle.srv_stream.proofs.Passing.{fed_on_more, fed_up_to_more, fed_part_more}
 use Rattle.srv_stream.proofs.Resting.{rests}
-use Rattle.srv_stream.proofs.Rows.{no_next_part}
-use Rattle.srv_stream.proofs.Steps.{marks_append, steps_on_site}
+use Rattle.srv_session.proofs.Rows.{no_next_part}
+use Rattle.srv_session.proofs.Steps.{marks_append, steps_on_site}
 use Rattle.journal_core.specs.Moments.{Moment}
 
 -- What is settled stays so.

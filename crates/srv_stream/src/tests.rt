@@ -1,5 +1,5 @@
 ghost use Rattle.std.specs.Prelude.{◌<◌};
-ghost use Rattle.srv_stream.specs.Hearings.{IsOf};
+ghost use Rattle.srv_session.specs.Calls.{IsOf};
 ghost use Rattle.srv_stream.specs.Views.{view_of};
 
 use super::*;

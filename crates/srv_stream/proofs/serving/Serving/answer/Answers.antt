@@ -2,7 +2,8 @@ use Rattle.std.proofs.Common.{ℕ, List, sym, ◌∙◌, ap, subst}
 use Rattle.pva_frames.specs.declared.event.Event.{Event}
 use Rattle.pva_frames.specs.declared.event.Event.TheVariants.{Message, Control}
 use Rattle.srv_stream.specs.Streams.{AnsweredEvent, PartOfEvent, AnswersEvent}
-use Rattle.srv_stream.specs.Views.{show, view_of}
+use Rattle.srv_session.specs.Views.{show}
+use Rattle.srv_stream.specs.Views.{view_of}
 use Rattle.srv_stream.proofs.Answering.{answered, control_answers}
 use Rattle.srv_stream.proofs.Feeding.{handled_on_site}
 use Rattle.srv_stream.proofs.serving.Serving.answer.Goals as goal
