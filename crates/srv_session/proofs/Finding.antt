@@ -23,10 +23,10 @@ module _ (s : State) (kind : AskKind) (sid req : ℕ) where
   pub no_channel : channel_at s.channels sid ≡ None → found_for s kind sid req ≡ Err (codes "unknown request")
   no_channel is = ap (λ (o : Option Channel). in_phase kind (on_channel sid o (at s.requests req))) is
 
-  module _ (channel : Channel) (open : channel_at s.channels sid ≡ Some channel) where
+  module _ (channel : Channel) (opened_ : channel_at s.channels sid ≡ Some channel) where
     looked : (o : Option Asked) → at s.requests req ≡ o → found_for s kind sid req ≡ in_phase kind (on_channel sid (Some channel) o)
     looked o is =
-        ap (λ (c : Option Channel). in_phase kind (on_channel sid c (at s.requests req))) open
+        ap (λ (c : Option Channel). in_phase kind (on_channel sid c (at s.requests req))) opened_
         ∙ ap (λ (a : Option Asked). in_phase kind (on_channel sid (Some channel) a)) is
 
     pub no_request : at s.requests req ≡ None → found_for s kind sid req ≡ Err (codes "unknown request")
@@ -59,12 +59,12 @@ on_it sid None a ask channel is = absurd (none-some (ask, channel) is)
 on_it sid (Some c) None ask channel is = absurd (none-some (ask, channel) is)
 on_it sid (Some c) (Some a) ask channel is = by_test (a.sid == sid) refl is
   where
-    by_test : (b : Bool) → (a.sid == sid) ≡ b → cond b (Some (a, c)) None ≡ Some (ask, channel) → (Some c ≡ Some channel) × (Some a ≡ Some ask) × (ask.sid ≡ sid)
+    by_test : (b : Bool) → (a.sid == sid) ≡ b → cond {A = Option (Asked × Channel)} b (Some (a, c)) None ≡ Some (ask, channel) → (Some c ≡ Some channel) × (Some a ≡ Some ask) × (ask.sid ≡ sid)
     by_test true test e =
         let first : (a, c) ≡ (ask, channel) = same_some e in
         let one : a ≡ ask = ap (λ (x : Asked × Channel). x.0) first in
         let here : a.sid ≡ sid = grind (arith, nat_tests) in
-        (ap Some (ap (λ (x : Asked × Channel). x.1) first), (ap Some one, sym (ap (λ (x : Asked). x.sid) one) ∙ here))
+        (ap Some (ap (λ (x : Asked × Channel). x.1) first), ap Some one, sym (ap (λ (x : Asked). x.sid) one) ∙ here)
       where
         same_some : {x y : Asked × Channel} → Some x ≡ Some y → x ≡ y
         same_some e = cc
@@ -73,7 +73,7 @@ on_it sid (Some c) (Some a) ask channel is = by_test (a.sid == sid) refl is
 pub is_on_it : (s : State) (sid req : ℕ) (ask : Asked) (channel : Channel) → request_on s sid req ≡ Some (ask, channel) → IsOn s sid req ask channel
 is_on_it s sid req ask channel is =
     let parts = on_it sid (channel_at s.channels sid) (at s.requests req) ask channel is in
-    record { open_ = parts.0; there = parts.1.0; same = parts.1.1 }
+    record { open_ = parts.0; there = parts.1; same = parts.2 }
 
 -- Of a session of a site, the channel is one of the site, and leaves of it are selected.
 module _ (site : SiteData) (s : State) (ok : IsOf site s) (sid req : ℕ) (ask : Asked) (channel : Channel) (is : request_on s sid req ≡ Some (ask, channel)) where

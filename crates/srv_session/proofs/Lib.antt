@@ -4,5 +4,6 @@ pub mod OnSite
 pub mod Steps
 pub mod Determined
 pub mod Replying
-pub mod Handling
+pub mod Heeding
 pub mod Finding
+pub mod Opening

@@ -1,6 +1,6 @@
 -- A session stays one of its site.
 use Rattle.std.proofs.Common.{◌≡◌, ◌≢◌, ◌==◌, ℕ, Bool, true, false, cond, List, [], ◌∷◌, Option, None, Some, Result, Ok, Err, inl, inr, refl, sym, ◌∙◌, ap, subst, arith}
-use Rattle.std.specs.Prelude.{◌⊎◌, IsTrue, bytes_eq, codes}
+use Rattle.std.specs.Prelude.{◌⊎◌, IsTrue, option_map, bytes_eq, codes}
 use Rattle.std.specs.FinMap.{get as at, insert, remove, contains_key}
 use Rattle.std.specs.FinSet.{FinSet}
 use Rattle.std.specs.Ordering.{nat_cmp}
@@ -70,11 +70,7 @@ module _ (site : SiteData) (channels : Channels) (cid : ℕ) where
     where
       taken : sid ≢ least_free channels
       taken same =
-          none-some c (sym (ap (λ (x : Option (ℕ × Channel)). channel_in x) ((is_least channels).absent)) ∙ ap (channel_at channels) (sym same) ∙ is)
-        where
-          abbrev channel_in : Option (ℕ × Channel) → Option Channel
-          channel_in None = None
-          channel_in (Some x) = Some x.1
+          none-some c (sym (ap (option_map (λ x. x.1)) ((is_least channels).absent)) ∙ ap (channel_at channels) (sym same) ∙ is)
 
       by_room : (b : Bool) → channel_at (cond b channels (insert channels (least_free channels) (cid, channel))) sid ≡ Some c
       by_room true = is
@@ -183,8 +179,8 @@ IsHeardOf site s (unreadable fault) = Unit {0}
 module _ (site : SiteData) (s : State) where
   as_begun : (kind : AskKind) (req sub sid : ℕ) (channel : Channel) (v : Valued) (r : Result Wanted RequestFault) → channel_at s.channels sid ≡ Some channel
       → request_of (type_of site channel) roots.Field v ≡ r → IsTaskOf site s (beginning_as kind req sub sid channel r)
-  as_begun kind req sub sid channel v (Ok wanted) open is = record { open_ = open; asked = (v, is) }
-  as_begun kind req sub sid channel v (Err fault) open is = tt
+  as_begun kind req sub sid channel v (Ok wanted) here is = record { open_ = here; asked = (v, is) }
+  as_begun kind req sub sid channel v (Err fault) here is = tt
 
   either : (b : Bool) (x y : Task) → IsTaskOf site s x → IsTaskOf site s y → IsTaskOf site s (cond b x y)
   either true x y p q = p

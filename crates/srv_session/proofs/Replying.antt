@@ -71,15 +71,15 @@ bare false t is = refl
 
 pub answered_fields : (kind : AskKind) (req sub : ℕ) (problem : Option (List ℕ)) → IsServed kind → IfNone problem (begins sub ≡ false)
     → reply_fields (answered kind req sub (outcome problem)) ≡ field.word req ∷ field.byte sub ∷ field.status (outcome problem) ∷ []
-answered_fields kinds.Get req sub None served no =
-    ap (λ (l : List Field). field.word req ∷ field.byte sub ∷ field.status good ∷ (l ++ [])) (bare (begins sub) None no)
-answered_fields kinds.Get req sub (Some text) served no = refl
-answered_fields kinds.Put req sub None served no =
-    ap (λ (l : List Field). field.word req ∷ field.byte sub ∷ field.status good ∷ (l ++ [])) (bare (begins sub) None no)
-answered_fields kinds.Put req sub (Some text) served no = refl
-answered_fields kinds.PutGet req sub problem served no = absurd served
-answered_fields kinds.Rpc req sub problem served no = absurd served
-answered_fields kinds.Monitor req sub problem served no = absurd served
+answered_fields kinds.Get req sub None served none =
+    ap (λ (l : List Field). field.word req ∷ field.byte sub ∷ field.status good ∷ (l ++ [])) (bare (begins sub) None none)
+answered_fields kinds.Get req sub (Some text) served none = refl
+answered_fields kinds.Put req sub None served none =
+    ap (λ (l : List Field). field.word req ∷ field.byte sub ∷ field.status good ∷ (l ++ [])) (bare (begins sub) None none)
+answered_fields kinds.Put req sub (Some text) served none = refl
+answered_fields kinds.PutGet req sub problem served none = absurd served
+answered_fields kinds.Rpc req sub problem served none = absurd served
+answered_fields kinds.Monitor req sub problem served none = absurd served
 
 pub answered_command : (kind : AskKind) (req sub : ℕ) (status : Status) → IsServed kind → reply_command (answered kind req sub status) ≡ byte_of (command_of_kind kind)
 answered_command kinds.Get req sub status served = refl
@@ -90,13 +90,13 @@ answered_command kinds.Monitor req sub status served = absurd served
 
 pub got_fields : (kind : AskKind) (req sub : ℕ) (ty : Tree) (mask : FinSet nat_cmp) (value : Data) → IsServed kind → begins sub ≡ false
     → reply_fields (got kind req sub ty mask value) ≡ field.word req ∷ field.byte sub ∷ field.status good ∷ field.part (record { ty = ty; mask = mask; value = value }) ∷ []
-got_fields kinds.Get req sub ty mask value served no =
-    ap (λ (l : List Field). field.word req ∷ field.byte sub ∷ field.status good ∷ (l ++ field.part (record { ty = ty; mask = mask; value = value }) ∷ [])) (bare (begins sub) None no)
-got_fields kinds.Put req sub ty mask value served no =
-    ap (λ (l : List Field). field.word req ∷ field.byte sub ∷ field.status good ∷ (l ++ field.part (record { ty = ty; mask = mask; value = value }) ∷ [])) (bare (begins sub) None no)
-got_fields kinds.PutGet req sub ty mask value served no = absurd served
-got_fields kinds.Rpc req sub ty mask value served no = absurd served
-got_fields kinds.Monitor req sub ty mask value served no = absurd served
+got_fields kinds.Get req sub ty mask value served none =
+    ap (λ (l : List Field). field.word req ∷ field.byte sub ∷ field.status good ∷ (l ++ field.part (record { ty = ty; mask = mask; value = value }) ∷ [])) (bare (begins sub) None none)
+got_fields kinds.Put req sub ty mask value served none =
+    ap (λ (l : List Field). field.word req ∷ field.byte sub ∷ field.status good ∷ (l ++ field.part (record { ty = ty; mask = mask; value = value }) ∷ [])) (bare (begins sub) None none)
+got_fields kinds.PutGet req sub ty mask value served none = absurd served
+got_fields kinds.Rpc req sub ty mask value served none = absurd served
+got_fields kinds.Monitor req sub ty mask value served none = absurd served
 
 pub got_command : (kind : AskKind) (req sub : ℕ) (ty : Tree) (mask : FinSet nat_cmp) (value : Data) → IsServed kind → reply_command (got kind req sub ty mask value) ≡ byte_of (command_of_kind kind)
 got_command kinds.Get req sub ty mask value served = refl
@@ -182,7 +182,7 @@ module _ (here there : Seat) (moment : Moment) (s t : State) (out after : List �
   put_unsaid (Ok u) failed same = absurd (false≢true failed)
   put_unsaid (Err x) failed same = record {
     marks = calls.marks;
-    part_is = (moment, (answer, calls.named));
+    part_is = (moment, answer, calls.named);
     adds = calls.adds;
     moments = put_moments (asked here.seen.base.site ask channel mask value moment) answer calls.marks calls.named;
     output = same;

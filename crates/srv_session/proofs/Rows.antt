@@ -24,7 +24,7 @@ use Rattle.srv_session.specs.Tasks.{Task, pass_over, echo_control, refuse, valid
 use Rattle.srv_session.specs.Replies.{Sent, spelled, spelled_all}
 use Rattle.srv_session.specs.Rows.{Says, Row, Part, after_task}
 use Rattle.srv_session.specs.Steps.{knowing, PartOf, NextPart}
-use Rattle.srv_session.specs.Calls.{Shown, Takes}
+use Rattle.srv_session.specs.Calls.{Shown, Answered, Takes}
 
 -- No mark is a part of every row.
 
@@ -39,7 +39,7 @@ no_part site s (destroy_channel sid cid) = refl
 no_part site s (begin kind req sub sid channel wanted) = refl
 no_part site s (get kind req sub ask channel) = record { looks = tt }
 no_part site s (put req sub ask channel mask value) =
-    (record { seconds = pos 0; nanoseconds = 0 }, (Err (answers.NoMemory 0), record { added = tt; done_is = refl }))
+    (record { seconds = pos 0; nanoseconds = 0 }, Err (answers.NoMemory 0), record { added = tt; done_is = refl })
 no_part site s (destroy_request req) = refl
 
 pub no_part_of : (site : SiteData) (s : State) (hearing : Hearing) → PartOf site s hearing []
@@ -57,7 +57,7 @@ looks_moments : (moment : Moment) (channel : Channel) (looks : List (List ℕ)) 
 looks_moments moment channel looks [] p = tt
 looks_moments moment channel [] (mark ∷ marks) p = absurd p
 looks_moments moment channel (recs ∷ looks) (mark ∷ marks) p =
-    subst (λ (m : Mark). HaveMoment (Some moment) (m ∷ marks)) (sym p.0.2.1) (tt, looks_moments moment channel looks marks p.1)
+    subst (λ (m : Mark). HaveMoment (Some moment) (m ∷ marks)) (sym p.0.1.1) (tt, looks_moments moment channel looks marks p.1)
 
 pub part_moments : (moment : Moment) (site : SiteData) (channel : Channel) (atomic : Option Bool) (marks : List Mark) → IsPartOfGet site channel atomic marks → HaveMoment (Some moment) marks
 part_moments moment site channel atomic marks p = looks_moments moment channel _ marks p.looks
@@ -154,3 +154,22 @@ pub said_one : (seat : Seat) (moment : Moment) (s t : State) (before after : Lis
     → Takes (shown seat s before) (shown seat t after) moment task result
 said_one seat moment s t before after task result x legal row state ok err =
     said_all seat moment s t before after task result legal (x ∷ []) row state (one_sent s x before after result ok) err
+
+-- nothing was sent
+pub nothing_said : (seat : Seat) (moment : Moment) (s t : State) (before after : List ℕ) (task : Task) → IsLegal seat.seen → Row seat.seen.base.site s task [] []
+    → t ≡ after_task seat.seen.base.site s task [] → after ≡ before → Takes (shown seat s before) (shown seat t after) moment task (Ok tt)
+nothing_said seat moment s t before after task legal row state same =
+    said_all seat moment s t before after task (Ok tt) legal [] row state (same ∙ sym (append-nil before)) tt
+
+-- the task under another name
+pub as_task : (old new : Shown) (moment : Moment) (task other : Task) (result : Result (Unit {0}) NoMemory) → other ≡ task → Takes old new moment task result → Takes old new moment other result
+as_task old new moment task other result is t = subst (λ (x : Task). Takes old new moment x result) (sym is) t
+
+-- the session under another name
+pub as_old : (seat : Seat) (s m : State) (out mid : List ℕ) (new : Shown) (moment : Moment) (task : Task) (result : Result (Unit {0}) NoMemory) → m ≡ s → mid ≡ out
+    → Takes (shown seat m mid) new moment task result → Takes (shown seat s out) new moment task result
+as_old seat s m out mid new moment task result same still t =
+    subst (λ (z : State). Takes (shown seat z out) new moment task result) same (subst (λ (o : List ℕ). Takes (shown seat m o) new moment task result) still t)
+
+pub as_answered : {old new : Shown} {moment : Moment} {task other : Task} → other ≡ task → Answered old new moment task → Answered old new moment other
+as_answered {old} {new} {moment} is t = subst (λ (x : Task). Answered old new moment x) (sym is) t

@@ -1,15 +1,16 @@
 -- Channels by their ids, and requests by theirs.
-use Rattle.std.proofs.Common.{◌≡◌, ◌≢◌, ℕ, ◌+◌, ◌<◌, ◌≤◌, Bool, true, false, cond, not, ◌&&◌, T, List, [], ◌∷◌, ◌==◌, Option, None, Some, map, refl, sym, ◌∙◌, ap, subst, arith, inl, inr}
+use Rattle.std.proofs.Common.{◌≡◌, ◌≢◌, ℕ, zero, suc, ◌+◌, ◌-◌, ◌<◌, ◌≤◌, Bool, true, false, cond, not, ◌&&◌, T, List, [], ◌∷◌, ◌==◌, Option, None, Some, map, refl, sym, ◌∙◌, ap, subst, arith, inl, inr}
 use Rattle.std.specs.Prelude.{◌⊎◌, is_some, IsSome, option_map, nat_lt}
-use Rattle.std.specs.FinMap.{FinMap, get, insert, remove, entries, entries_sorted, find, is_sorted, get-entries, get-insert, get-remove, get-retain_keys, same_map, nat_cmp-IsAntisymmetric}
-use Rattle.core.specs.FinMap.Entries.{below_all}
+use Rattle.std.specs.FinMap.{FinMap, get, insert, remove, len, entries, entries_sorted, find, is_sorted, get-entries, get-empty, get-insert, get-remove, get-retain_keys, len-remove, empty_of_len, same_map, nat_cmp-IsAntisymmetric}
+use Rattle.std.specs.FinMap.Entries.{below_all}
 use Rattle.std.specs.Ordering.{nat_cmp, eq_by_cmp, is_lt}
 use Rattle.std.specs.declared.cmp.Ordering.TheVariants.{Less, Equal, Greater}
 use Rattle.std.proofs.lemmas.Bool.{false≢true}
 use Rattle.std.proofs.lemmas.Bool.Decides.{nat_tests}
 use Rattle.std.proofs.lemmas.Cmp.{nat_cmp_total, ranked}
 use Rattle.std.proofs.lemmas.Option.{none-some}
-use Rattle.core.specs.Cmp.{unsigned_tied}
+use Rattle.std.specs.Cmp.{unsigned_tied}
+use Rattle.chan_table.specs.Numbers.{IsLeastAbsent}
 use Rattle.desk_api.specs.declared.channel.Channel.{Channel}
 use Rattle.srv_session.specs.State.{Channels, Asked, Requests, channel_at, least_from, least_free, is_on, without_channel}
 
@@ -51,12 +52,6 @@ module _ {V : Type 0} (m : FinMap nat_cmp V) where
       alike : (q : ℕ) → (q ≡ k) ⊎ (q ≢ k) → get (remove m k) q ≡ get m q
       alike q (inl e) = ap (get (remove m k)) e ∙ got_removed k ∙ sym none ∙ ap (get m) (sym e)
       alike q (inr apart) = got_left k q apart
-
--- The least number that has nothing.
-
-pub record IsLeast {V : Type 0} (m : FinMap nat_cmp V) (n : ℕ) : Type 0 where
-  pub absent : get m n ≡ None
-  pub below : (k : ℕ) → k < n → IsSome (get m k)
 
 both_parts : (a b : Bool) → T (a && b) → T a × T b
 both_parts true b h = (tt, h)
@@ -100,47 +95,57 @@ module _ {V : Type 0} where
     absent : find nat_cmp r es ≡ None
     below : (k : ℕ) → n ≤ k → k < r → IsSome (find nat_cmp k es)
 
-  walk : (n : ℕ) (es : List (ℕ × V)) → T (is_sorted nat_cmp es) → AllFrom n es → Walk n (least_from n (map (λ e. e.0) es)) es
+  module _ (n : ℕ) (e : ℕ × V) (es : List (ℕ × V)) (under : T (below_all nat_cmp e.0 es)) (first : n ≤ e.0) where
+    later : (k : ℕ) → k ≢ e.0 → find nat_cmp k (e ∷ es) ≡ find nat_cmp k es
+    later k apart = ap (λ (b : Bool). cond b (Some e.1) (find nat_cmp k es)) (untied k e.0 apart)
+
+    -- the first key is n, and the walk goes on
+    at_key : (r : ℕ) → e.0 ≡ n → Walk (n + 1) r es → Walk n r (e ∷ es)
+    at_key r here rest =
+        let low = rest.low in
+        record {
+          low = omega (arith, low);
+          absent = later r (λ same. omega (arith, same, here, low)) ∙ rest.absent;
+          below = λ k le lt. below_here k le lt (same_or_not k n);
+        }
+      where
+        below_here : (k : ℕ) → n ≤ k → k < r → (k ≡ n) ⊎ (k ≢ n) → IsSome (find nat_cmp k (e ∷ es))
+        below_here k le lt (inl same) = ap (λ (b : Bool). is_some (cond b (Some e.1) (find nat_cmp k es))) (tied k e.0 (same ∙ sym here))
+        below_here k le lt (inr apart) =
+            let more : n + 1 ≤ k = not_first k le apart in
+            subst IsSome (sym (later k (λ same. apart (same ∙ here)))) (rest.below k more lt)
+          where
+            not_first : (k : ℕ) → n ≤ k → k ≢ n → n + 1 ≤ k
+            not_first k le apart = omega (arith, le, apart)
+
+    -- it is greater
+    behind_n : n ≢ e.0 → Walk n n (e ∷ es)
+    behind_n apart = record {
+      low = omega arith;
+      absent = later n apart ∙ missing n es (weaker (n + 1) (e.0 + 1) es (omega (arith, first)) (above e.0 es under));
+      below = λ k le lt. absurd (omega (arith, le, lt));
+    }
+
+    step : (Walk (n + 1) (least_from (n + 1) (map (λ x. x.0) es)) es) → Walk n (least_from n (map (λ x. x.0) (e ∷ es))) (e ∷ es)
+    step rest = by_test (e.0 == n) refl
+      where
+        by_test : (b : Bool) → (e.0 == n) ≡ b → Walk n (cond b (least_from (n + 1) (map (λ x. x.0) es)) n) (e ∷ es)
+        by_test true is = at_key (least_from (n + 1) (map (λ x. x.0) es)) (grind (arith, nat_tests)) rest
+        by_test false is = behind_n (λ same. let other : (e.0 == n) ≡ true = grind (arith, nat_tests) in false≢true (sym is ∙ other))
+
+  walk : (n : ℕ) (es : List (ℕ × V)) → T (is_sorted nat_cmp es) → AllFrom n es → Walk n (least_from n (map (λ x. x.0) es)) es
   walk n [] sorted from = record { low = omega arith; absent = refl; below = λ k le lt. absurd (omega (arith, le, lt)) }
-  walk n (e ∷ es) sorted from = at_first (e.0 == n) refl
-    where
-      parts : T (below_all nat_cmp e.0 es) × T (is_sorted nat_cmp es)
-      parts = both_parts (below_all nat_cmp e.0 es) (is_sorted nat_cmp es) sorted
-
-      later : (k : ℕ) → k ≢ e.0 → find nat_cmp k (e ∷ es) ≡ find nat_cmp k es
-      later k apart = ap (λ (b : Bool). cond b (Some e.1) (find nat_cmp k es)) (untied k e.0 apart)
-
-      at_first : (b : Bool) → (e.0 == n) ≡ b → Walk n (cond b (least_from (n + 1) (map (λ e. e.0) es)) n) (e ∷ es)
-      at_first true is =
-          let here : e.0 ≡ n = grind (arith, nat_tests) in
-          let rest = walk (n + 1) es parts.1 (weaker (n + 1) (e.0 + 1) es (omega (arith, here)) (above e.0 es parts.0)) in
-          let low = rest.low in
-          record {
-            low = omega (arith, low);
-            absent = later (least_from (n + 1) (map (λ e. e.0) es)) (λ same. omega (arith, same, here, low)) ∙ rest.absent;
-            below = λ k le lt. below_here rest here k le lt (same_or_not k n);
-          }
-        where
-          below_here : Walk (n + 1) (least_from (n + 1) (map (λ e. e.0) es)) es → e.0 ≡ n → (k : ℕ) → n ≤ k → k < least_from (n + 1) (map (λ e. e.0) es) → (k ≡ n) ⊎ (k ≢ n)
-              → IsSome (find nat_cmp k (e ∷ es))
-          below_here rest here k le lt (inl same) = ap (λ (b : Bool). is_some (cond b (Some e.1) (find nat_cmp k es))) (tied k e.0 (same ∙ sym here))
-          below_here rest here k le lt (inr apart) =
-              subst IsSome (sym (later k (λ same. apart (same ∙ here)))) (rest.below k (omega (arith, le, apart)) lt)
-      at_first false is =
-          let first = from.0 in
-          let apart : n ≢ e.0 = λ same. let other : (e.0 == n) ≡ true = grind (arith, nat_tests) in false≢true (sym is ∙ other) in
-          record {
-            low = omega arith;
-            absent = later n apart ∙ missing n es (weaker (n + 1) (e.0 + 1) es (omega (arith, first)) (above e.0 es parts.0));
-            below = λ k le lt. absurd (omega (arith, le, lt));
-          }
+  walk n (e ∷ es) sorted from =
+      let parts = both_parts (below_all nat_cmp e.0 es) (is_sorted nat_cmp es) sorted in
+      let first = from.0 in
+      step n e es parts.0 first (walk (n + 1) es parts.1 (weaker (n + 1) (e.0 + 1) es (omega (arith, first)) (above e.0 es parts.0)))
 
 all_from_zero : {V : Type 0} (es : List (ℕ × V)) → AllFrom 0 es
 all_from_zero [] = tt
 all_from_zero (e ∷ es) = (omega arith, all_from_zero es)
 
 -- the least number that no channel has
-pub is_least : (channels : Channels) → IsLeast channels (least_free channels)
+pub is_least : (channels : Channels) → IsLeastAbsent (get channels) (least_free channels)
 is_least channels =
     let found = walk 0 (entries channels) (entries_sorted channels) (all_from_zero (entries channels)) in
     record {
@@ -148,7 +153,7 @@ is_least channels =
       below = λ k lt. subst IsSome (sym (get-entries channels k)) (found.below k (omega arith) lt);
     }
 
-pub one_least : (channels : Channels) (n m : ℕ) → IsLeast channels n → IsLeast channels m → n ≡ m
+pub one_least : (channels : Channels) (n m : ℕ) → IsLeastAbsent (get channels) n → IsLeastAbsent (get channels) m → n ≡ m
 one_least channels n m a b = by_tests (nat_lt n m) (nat_lt m n) refl refl
   where
     some_none : (k : ℕ) → get channels k ≡ None → IsSome (get channels k) → ⊥
@@ -211,3 +216,45 @@ taken_first sid requests req on =
         ∙ sym (ap (λ (b : Bool). cond (not b) (get requests req) None) on)
         ∙ ap (λ (k : ℕ). kept (get requests k)) (sym same)
     alike q (inr apart) = ap kept (got_left requests req q apart)
+
+-- one fewer
+pub fewer : {V : Type 0} (m : FinMap nat_cmp V) (k : ℕ) (v : V) → get m k ≡ Some v → len (remove m k) < len m
+fewer m k v is =
+    let less : len (remove m k) ≡ len m - 1 = len-remove nat_cmp_total m k ∙ ap (λ (o : Option _). cond (is_some o) (len m - 1) (len m)) is in
+    by_count (len m) refl less
+  where
+    by_count : (n : ℕ) → len m ≡ n → len (remove m k) ≡ n - 1 → len (remove m k) < n
+    by_count zero none less = absurd (none-some v (sym (get-empty nat_cmp k) ∙ sym (ap (λ x. get x k) (empty_of_len m none)) ∙ is))
+    by_count (suc n) some less = omega (arith, less)
+
+-- whether one is on the channel, by its sid
+pub sid_is_on : (requests : Requests) (sid req : ℕ) → option_map (λ (a : Asked). a.sid) (get requests req) ≡ Some sid → is_on sid (get requests req) ≡ true
+sid_is_on requests sid req is = by_place (get requests req) is
+  where
+    same : {x y : ℕ} → Some x ≡ Some y → x ≡ y
+    same e = cc
+
+    by_place : (o : Option Asked) → option_map (λ (a : Asked). a.sid) o ≡ Some sid → is_on sid o ≡ true
+    by_place None e = absurd (none-some sid e)
+    by_place (Some ask) e = let here = same e in grind (arith, nat_tests)
+
+pub sid_not_on : (requests : Requests) (sid req : ℕ) → (option_map (λ (a : Asked). a.sid) (get requests req) ≡ Some sid → ⊥) → is_on sid (get requests req) ≡ false
+sid_not_on requests sid req apart = by_place (get requests req) apart
+  where
+    by_place : (o : Option Asked) → (option_map (λ (a : Asked). a.sid) o ≡ Some sid → ⊥) → is_on sid o ≡ false
+    by_place None e = refl
+    by_place (Some ask) e = by_test (ask.sid == sid) refl
+      where
+        by_test : (b : Bool) → (ask.sid == sid) ≡ b → b ≡ false
+        by_test true is = let here : ask.sid ≡ sid = grind (arith, nat_tests) in absurd (e (ap Some here))
+        by_test false is = refl
+
+-- none of those that stay is on the channel
+pub none_stays : (sid : ℕ) (requests : Requests) (req : ℕ) → option_map (λ (a : Asked). a.sid) (get (without_channel sid requests) req) ≡ Some sid → ⊥
+none_stays sid requests req is =
+    let on = sid_is_on (without_channel sid requests) sid req is in
+    by_place (get (without_channel sid requests) req) refl on
+  where
+    by_place : (o : Option Asked) → get (without_channel sid requests) req ≡ o → is_on sid o ≡ true → ⊥
+    by_place None e on = false≢true on
+    by_place (Some ask) e on = false≢true (sym (stays_elsewhere sid requests req ask e).1 ∙ on)

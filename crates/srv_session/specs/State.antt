@@ -2,12 +2,11 @@
 -- "Channel Life-cycle").
 use Rattle.std.specs.Prelude.{ℕ, ◌-◌, ◌+◌, ◌==◌, Bool, false, not, List, [], ◌∷◌, Option, None, Some, nat_lt, nat_le, option_map, if◌then◌else◌}
 use Rattle.std.specs.FinMap.{FinMap, empty, get, keys, len, retain_keys}
-use Rattle.std.specs.FinSet.{FinSet}
 use Rattle.std.specs.Ordering.{nat_cmp}
 use Rattle.pva_wire.specs.declared.order.Order.{Order}
 use Rattle.pvd_desc.specs.Types.{Types}
+use Rattle.chan_table.specs.Tables.{limit}
 use Rattle.chan_table.specs.declared.ask.Ask.{Ask}
-use Rattle.chan_table.specs.declared.ask.AskKind.{AskKind}
 use Rattle.desk_api.specs.declared.channel.Channel.{Channel}
 
 -- The open channels under the server's ids, each with the client's id.
@@ -70,12 +69,9 @@ has_cid cid (Some c) = c.0 == cid
 abbrev pub is_open : Channels → ℕ → ℕ → Bool
 is_open channels sid cid = has_cid cid (get channels sid)
 
--- the most channels of a connection, and the most requests
-abbrev pub most : ℕ
-most = 4096
-
+-- whether there are as many channels, or requests, as there may be
 abbrev pub is_full : {X : Type 0} → FinMap nat_cmp X → Bool
-is_full table = nat_le most (len table)
+is_full table = nat_le limit (len table)
 
 -- the least number from n on that isn't one of these, which rise from n on
 abbrev pub least_from : ℕ → List ℕ → ℕ

@@ -20,7 +20,6 @@ use Rattle.pvd_value.specs.Data.{Data}
 use Rattle.pvd_request.specs.declared.request.Request.{Request as Wanted}
 use Rattle.pvd_request.specs.declared.request.RequestFault.{RequestFault}
 use Rattle.pvd_request.specs.declared.request.RequestFault.TheVariants as faults
-use Rattle.chan_table.specs.Tables.{channels_of, requests_of}
 use Rattle.chan_table.specs.declared.ask.AskKind.{AskKind}
 use Rattle.desk_api.specs.Types.{type_of, HoldsLeaves}
 use Rattle.desk_api.specs.declared.put.Done.{Done}
@@ -44,8 +43,8 @@ state_of s = record {
   user = s.user;
   host = s.host;
   types = s.types;
-  channels = channels_of s.table;
-  requests = requests_of s.table;
+  channels = s.table.channels;
+  requests = s.table.asks;
 }
 
 -- what is still to be written

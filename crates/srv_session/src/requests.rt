@@ -17,7 +17,8 @@ pub(crate) struct Found {
 
 impl Session {
     ghost use Rattle.std.specs.Prelude.{◌≡◌, ◌≢◌, ◌++◌, false, true, IfSome, IsTrue, Some, codes};
-    ghost use Rattle.std.specs.FinMap.{contains_key, get as at};
+    ghost use Rattle.std.specs.FinMap.{get as at};
+    ghost use Rattle.chan_table.specs.Tables.{IsReady};
     ghost use Rattle.std.specs.FinSet as set;
     ghost use Rattle.pvd_value.specs.Fits.{fits_of};
     ghost use Rattle.pvd_value.specs.View.{view};
@@ -90,7 +91,7 @@ impl Session {
         desk: &D,
     ) -> Result<(), NoMemory>
         requires channel { IsTrue (is_channel (D.seat desk.now).seen.base.site channel) }
-        requires room { contains_key (state_of self.old).requests req ≡ false }
+        requires room { IsReady self.old.table req }
         requires served { IsServed kind }
         requires begins { begins sub ≡ true }
         requires fits { IfSome request.now (λ r. fits_of 16 (view r.1) r.0 ≡ true) }
@@ -149,7 +150,7 @@ impl Session {
         ty: &PvType,
         wanted: Request,
     ) -> Result<(), NoMemory>
-        requires room { contains_key (state_of self.old).requests req ≡ false }
+        requires room { IsReady self.old.table req }
         requires served { IsServed kind }
         requires begins { begins sub ≡ true }
         ensures { BeginsOn self.old self.new kind req sub sid ty.now wanted result }

@@ -295,6 +295,7 @@ impl Session {
         requires served { IsServed kind }
         requires begins { begins sub ≡ true }
         ensures state { state_of self.new ≡ state_of self.old }
+        ensures table { self.new.table ≡ self.old.table }
         ensures ok { OnOk result (output_of self.new ≡ output_of self.old ++ spelled self.old.order self.old.segment (said (begun kind req sub ty.now))) }
         ensures err { OnErr result (output_of self.new ≡ output_of self.old) }
     {

@@ -3,7 +3,7 @@ use Rattle.std.proofs.lemmas.Bool.Decides.{nat_tests}
 use Rattle.pva_frames.specs.declared.event.Event.TheVariants.{Control}
 use Rattle.srv_session.specs.Tasks.{pass_over, echo_control}
 use Rattle.srv_session.specs.Views.{state_of, output_of, show}
-use Rattle.srv_session.proofs.Handling.{responds, control_heard}
+use Rattle.srv_session.proofs.Heeding.{responds, control_heard}
 use Rattle.srv_session.proofs.session.Session.handle_control.Goals as goal
 
 pub returns-then-command-eq-ECHO_REQUEST : goal.returns-then-command-eq-ECHO_REQUEST
