@@ -182,7 +182,7 @@ known_message site s whole known types (request.rpc sid req sub v) = refl
 known_message site s whole known types (request.skipped command) = refl
 
 -- nor does what becomes of it
-known_heeds : (seat : Seat) (s : State) (out : List ℕ) (new : Shown) (moment : Moment) (known : Types) (h : Hearing) (result : Result (Unit {0}) SessionStop)
+pub known_heeds : (seat : Seat) (s : State) (out : List ℕ) (new : Shown) (moment : Moment) (known : Types) (h : Hearing) (result : Result (Unit {0}) SessionStop)
     → Heeds (shown seat (knowing s known) out) new moment h result → Heeds (shown seat s out) new moment h result
 known_heeds seat s out new moment known (asks task types) (Ok u) t = record {
   marks = t.marks;

@@ -7,3 +7,6 @@ pub mod Replying
 pub mod Heeding
 pub mod Finding
 pub mod Opening
+pub mod Beginning
+pub mod Parts
+pub mod Validating

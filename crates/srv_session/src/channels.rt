@@ -21,8 +21,8 @@ fn end_requests_on(table: &mut Table<Channel, ()>, sid: u32)
 impl Session {
     ghost use Rattle.std.specs.Prelude.{◌++◌, OnOk};
     ghost use Rattle.srv_session.specs.State.{channel_at};
-    ghost use Rattle.srv_session.specs.Replies.{spelled, said};
-    ghost use Rattle.srv_session.specs.Rows.{created, opened};
+    ghost use Rattle.srv_session.specs.Replies.{spelled, spelled_all, said};
+    ghost use Rattle.srv_session.specs.Rows.{created, opened, all_created, all_opened};
     ghost use Rattle.srv_session.specs.Tasks as task;
     ghost use Rattle.srv_session.specs.Tasks.{asked_end};
     ghost use Rattle.srv_session.specs.Views.{state_of, output_of, AnswersAlone, AnswersBeside, Keeps};
@@ -53,6 +53,18 @@ impl Session {
         }
     }
 
+    /// Opens channels name by name, and replies to each.
+    fn open_all<D: Desk>(&mut self, names: &[(u32, Name)], desk: &D) -> Result<(), NoMemory>
+        ensures state { OnOk result (state_of self.new ≡ record (state_of self.old) { channels = all_opened (D.seat desk.now).seen.base.site (state_of self.old).channels names.now }) }
+        ensures ok { OnOk result (output_of self.new ≡ output_of self.old ++ spelled_all self.old.order self.old.segment (all_created (D.seat desk.now).seen.base.site (state_of self.old).channels names.now)) }
+        ensures keeps { Keeps self.old self.new }
+    {
+        for name in names {
+            self.open(name.0, &name.1, desk)?;
+        }
+        Ok(())
+    }
+
     /// Answers name by name. Where memory runs out nothing of the replies is left.
     pub(crate) fn create<D: Desk>(
         &mut self,
@@ -62,12 +74,10 @@ impl Session {
         ensures { AnswersBeside (D.seat desk.now) self.old self.new (task.create names.now) result }
     {
         let written = self.output.len();
-        for (cid, name) in names {
-            let Ok(()) = self.open(*cid, name, desk) else {
-                self.output.truncate(written);
-                return Err(NoMemory);
-            };
-        }
+        let Ok(()) = self.open_all(names, desk) else {
+            self.output.truncate(written);
+            return Err(NoMemory);
+        };
         Ok(())
     }
 

@@ -1,0 +1,84 @@
+-- Requests that begin.
+use Rattle.std.proofs.Common.{◌≡◌, ◌==◌, ℕ, ◌<◌, Bool, true, false, cond, List, Option, None, Some, Result, Ok, Err, refl, sym, ◌∙◌, ap, subst, arith}
+use Rattle.std.specs.Prelude.{is_some, IsSome, codes, nat_le}
+use Rattle.std.specs.FinMap.{get, contains_key, len}
+use Rattle.std.proofs.lemmas.Bool.Decides.{nat_tests}
+use Rattle.pvd_type.specs.Tree.{Tree}
+use Rattle.pvd_type.specs.declared.memory.NoMemory.{NoMemory}
+use Rattle.pvd_value.specs.declared.value.PvValue.{PvValue}
+use Rattle.journal_core.specs.Moments.{Moment}
+use Rattle.pva_messages.specs.Fields.{Valued}
+use Rattle.pva_messages.specs.Views.{valued_view}
+use Rattle.pvd_request.specs.Requests.{shown as given_shown, request_of, Gives}
+use Rattle.pvd_request.specs.declared.request.Request.{Request as Wanted}
+use Rattle.pvd_request.specs.declared.request.RequestFault.{RequestFault}
+use Rattle.pvd_request.specs.declared.request.RequestFault.TheVariants as faults
+use Rattle.pvd_request.specs.declared.request.Root.TheVariants as roots
+use Rattle.chan_table.specs.Tables.{limit}
+use Rattle.chan_table.specs.declared.ask.AskKind.{AskKind}
+use Rattle.desk_api.specs.History.{IsLegal}
+use Rattle.desk_api.specs.Types.{type_of}
+use Rattle.desk_api.specs.declared.channel.Channel.{Channel}
+use Rattle.desk_api.specs.declared.history.SiteData.{SiteData}
+use Rattle.desk_api.specs.declared.mark.Seat.{Seat}
+use Rattle.srv_session.specs.State.{State, Requests, is_full}
+use Rattle.srv_session.specs.Replies.{refused}
+use Rattle.srv_session.specs.Tasks.{Task, refuse, fault_text, beginning, beginning_as}
+use Rattle.srv_session.specs.Calls.{Takes}
+use Rattle.srv_session.specs.Views.{state_of, output_of, show, RefusesFault}
+use Rattle.srv_session.specs.declared.session.Session.{Session}
+use Rattle.srv_session.proofs.Rows.{gave_up}
+
+-- what a message gives is what is asked of
+given_is : (o : Option (Tree × PvValue)) → given_shown o ≡ valued_view o
+given_is None = refl
+given_is (Some x) = refl
+
+pub asked_as : (ty channel_ty : Tree) (given other : Option (Tree × PvValue)) → ty ≡ channel_ty → other ≡ given
+    → request_of channel_ty roots.Field (valued_view given) ≡ request_of ty roots.Field (given_shown other)
+asked_as ty channel_ty given other ty_is same =
+    ap (λ (t : Tree). request_of t roots.Field (valued_view given)) (sym ty_is)
+    ∙ ap (request_of ty roots.Field) (sym (given_is given) ∙ ap given_shown (sym same))
+
+-- a request structure is refused
+pub fault_refused : (old new : Session) (seat : Seat) → IsLegal seat.seen → (moment : Moment) (kind : AskKind) (req sub sid : ℕ) (channel : Channel) (fault : RequestFault) (told : Result Wanted RequestFault)
+    (result : Result (Unit {0}) NoMemory) → Gives (Err fault) told → RefusesFault old new kind req sub fault result
+    → Takes (show seat old) (show seat new) moment (beginning_as kind req sub sid channel told) result
+fault_refused old new seat legal moment kind req sub sid channel faults.NothingSelected told result is f =
+    subst (λ (r : Result Wanted RequestFault). Takes (show seat old) (show seat new) moment (beginning_as kind req sub sid channel r) result) (sym is) (f seat legal moment)
+fault_refused old new seat legal moment kind req sub sid channel (faults.BadOption name) told result is f =
+    subst (λ (r : Result Wanted RequestFault). Takes (show seat old) (show seat new) moment (beginning_as kind req sub sid channel r) result) (sym is) (f seat legal moment)
+fault_refused old new seat legal moment kind req sub sid channel faults.NoMemory told (Ok u) is f = absurd f
+fault_refused old new seat legal moment kind req sub sid channel faults.NoMemory told (Err e) is f =
+    gave_up seat moment (state_of old) (state_of new) (output_of old) (output_of new) (beginning_as kind req sub sid channel told) (Err e) legal refl f
+
+-- Which row decides.
+module _ (site : SiteData) (s : State) (kind : AskKind) (req sub sid : ℕ) (v : Valued) (o : Option Channel) where
+  pub unknown_channel : o ≡ None → beginning site s kind req sub sid v o ≡ refuse (refused kind req sub (codes "unknown channel"))
+  unknown_channel is = ap (beginning site s kind req sub sid v) is
+
+  module _ (channel : Channel) (is : o ≡ Some channel) where
+    abbrev in_use : Task
+    in_use = refuse (refused kind req sub (codes "request id in use"))
+
+    abbrev too_many : Task
+    too_many = refuse (refused kind req sub (codes "too many requests"))
+
+    abbrev others : Task
+    others = beginning_as kind req sub sid channel (request_of (type_of site channel) roots.Field v)
+
+    pub id_in_use : IsSome (get s.requests req) → beginning site s kind req sub sid v o ≡ in_use
+    id_in_use some = ap (beginning site s kind req sub sid v) is ∙ ap (λ (b : Bool). cond b in_use (cond (is_full s.requests) too_many others)) some
+
+    free : get s.requests req ≡ None → beginning site s kind req sub sid v o ≡ cond (is_full s.requests) too_many others
+    free none =
+        ap (beginning site s kind req sub sid v) is
+        ∙ ap (λ (b : Bool). cond b in_use (cond (is_full s.requests) too_many others)) (ap (λ x. is_some x) none)
+
+    pub are_too_many : get s.requests req ≡ None → len s.requests ≡ limit → beginning site s kind req sub sid v o ≡ too_many
+    are_too_many none full =
+        let test : is_full s.requests ≡ true = grind (arith, nat_tests) in free none ∙ ap (λ (b : Bool). cond b too_many others) test
+
+    pub may_begin : get s.requests req ≡ None → len s.requests < limit → beginning site s kind req sub sid v o ≡ others
+    may_begin none few =
+        let test : is_full s.requests ≡ false = grind (arith, nat_tests) in free none ∙ ap (λ (b : Bool). cond b too_many others) test
