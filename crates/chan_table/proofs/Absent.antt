@@ -1,5 +1,5 @@
 -- Numbers in rising order: up to the least that is missing each stands at its own place, and from there on each is greater.
-use Rattle.std.specs.Prelude.{◌≡◌, ◌≢◌, ℕ, suc, zero, ◌+◌, ◌-◌, ◌<◌, ◌≤◌, Bool, true, false, cond, T, List, [], ◌∷◌, length, Option, None, Some, is_some, IsSome, slice_index_or, refl}
+use Rattle.std.specs.Prelude.{◌≡◌, ◌≢◌, ℕ, suc, zero, ◌+◌, ◌-◌, ◌<◌, ◌≤◌, true, false, cond, T, List, [], ◌∷◌, length, None, Some, is_some, IsSome, slice_index_or, refl}
 use Rattle.std.proofs.Common.{sym, ap, subst, ◌∙◌, inl, inr, arith}
 use Rattle.std.proofs.lemmas.Bool.{cases_lt}
 use Rattle.std.specs.declared.cmp.Ordering.TheVariants.{Less, Equal, Greater}
@@ -29,7 +29,7 @@ module _ {V : Type 0} where
       let before : (slice_index_or es i d).0 + n ≤ (slice_index_or es (i + n) d).0 = rises_by es i (i + n) n d h refl (omega arith) in
       let under : i + n < j = omega arith in
       let last : (slice_index_or es (i + n) d).0 < (slice_index_or es j d).0 =
-        ranked _ _ Less (sym (key_rises nat_cmp nat_cmp_total es (i + n) j d h under in_)) in
+      ranked _ _ Less (sym (key_rises nat_cmp nat_cmp_total es (i + n) j d h under in_)) in
       omega arith
 
   -- no number is below its place
@@ -62,9 +62,9 @@ module _ {V : Type 0} where
       ∙ find-nowhere es q (λ i d in_. h (suc i) d (omega arith))
 
   pub least_absent : (es : List (ℕ × V)) (n : ℕ) → is_sorted nat_cmp es ≡ true → n ≤ length es
-    → ((i : ℕ) (d : ℕ × V) → i < n → (slice_index_or es i d).0 ≡ i)
-    → ((i : ℕ) (d : ℕ × V) → n ≤ i → i < length es → i < (slice_index_or es i d).0)
-    → IsLeastAbsent (λ q. find nat_cmp q es) n
+      → ((i : ℕ) (d : ℕ × V) → i < n → (slice_index_or es i d).0 ≡ i)
+      → ((i : ℕ) (d : ℕ × V) → n ≤ i → i < length es → i < (slice_index_or es i d).0)
+      → IsLeastAbsent (λ q. find nat_cmp q es) n
   least_absent [] n s le same above = record { absent = refl; below = λ k lt. absurd (omega arith) }
   least_absent (e ∷ es) n s le same above = record {
     absent = find-nowhere (e ∷ es) n (λ i d in_ is. apart i d in_ is);

@@ -1,6 +1,6 @@
 -- Requests filed by their channels: what stays filed as requests come, go and are lent, and which is found first.
-use Rattle.std.specs.Prelude.{◌≡◌, ◌≢◌, ℕ, suc, zero, ◌+◌, ◌-◌, ◌<◌, ◌≤◌, Bool, true, false, cond, ◌&&◌, List, [], length, Option, None, Some, is_some, IsSome, refl}
-use Rattle.std.proofs.Common.{sym, ap, subst, ◌∙◌, inl, inr, ◌⊎◌, arith}
+use Rattle.std.specs.Prelude.{◌≡◌, ◌≢◌, ℕ, ◌+◌, ◌-◌, ◌<◌, Bool, true, false, cond, ◌&&◌, [], length, Option, None, Some, is_some, IsSome, refl}
+use Rattle.std.proofs.Common.{sym, ap, subst, ◌∙◌, inl, inr, arith}
 use Rattle.std.specs.declared.cmp.Ordering.{Ordering}
 use Rattle.std.specs.declared.cmp.Ordering.TheVariants.{Less, Equal, Greater}
 use Rattle.std.specs.Ordering.{nat_cmp, eq_by_cmp, is_eq, is_lt, ordering_then}
@@ -12,9 +12,9 @@ use Rattle.std.proofs.lemmas.Option.{none-some, same_Some}
 use Rattle.std.proofs.lemmas.Bool.{cases_lt, false≢true}
 use Rattle.chan_table.specs.declared.ask.Ask.{Ask}
 use Rattle.chan_table.specs.Index.{AllBelow, IsFirst}
-use Rattle.chan_table.specs.Filing.{filed_cmp, sid_at, filed_at, is_at, IsFiled}
-use Rattle.chan_table.specs.Tables.{IsFreeOf, IsLeastOn}
-use Rattle.chan_table.proofs.Gathered.{same_or_not, remove-absent, none_from, lt_of, ge_of, ge_from}
+use Rattle.chan_table.specs.Filing.{Filings, filed_cmp, filed_at, is_at, IsFiled}
+use Rattle.chan_table.specs.Tables.{sid_at, IsFreeOf, IsLeastOn}
+use Rattle.chan_table.proofs.Gathered.{same_or_not, remove-absent, none_from, lt_of, ge_of}
 
 -- ---- pairs as keys
 tied : (x y : Ordering) → is_eq (ordering_then x y) ≡ (is_eq x && is_eq y)
@@ -93,7 +93,7 @@ module _ {S : Type 0} where
   none_lent m at e = absurd (none-some at e)
 
   -- nothing is filed where nothing is
-  pub filed-empty : (es : List ((ℕ × ℕ) × Unit {0})) (lent : Option (ℕ × ℕ)) (m : map.FinMap nat_cmp (Ask S)) → es ≡ [] → lent ≡ None → m ≡ map.empty → IsFiled es lent m
+  pub filed-empty : (es : Filings) (lent : Option (ℕ × ℕ)) (m : map.FinMap nat_cmp (Ask S)) → es ≡ [] → lent ≡ None → m ≡ map.empty → IsFiled es lent m
   filed-empty es lent m nothing none e = record {
     filed = λ s i.
         ap (λ xs. is_some (map.find filed_cmp (s, i) xs)) nothing
@@ -104,8 +104,8 @@ module _ {S : Type 0} where
   }
 
   -- ---- settling: the request that was lent is on the channel that it was on
-  pub filed-same : (es : List ((ℕ × ℕ) × Unit {0})) (lent : ℕ × ℕ) (m : map.FinMap nat_cmp (Ask S)) (ask : Ask S) → IsFiled es (Some lent) m
-    → map.get m lent.1 ≡ Some ask → ask.sid ≡ lent.0 → IsFiled es None m
+  pub filed-same : (es : Filings) (lent : ℕ × ℕ) (m : map.FinMap nat_cmp (Ask S)) (ask : Ask S) → IsFiled es (Some lent) m
+      → map.get m lent.1 ≡ Some ask → ask.sid ≡ lent.0 → IsFiled es None m
   filed-same es lent m ask h known same = record {
     filed = λ s i. h.filed s i ∙ ap (λ o. is_at o s) (elim (same_or_not i lent.1) [
       | inl p ↦ at_it _ (Some lent.0) (sid_at m i) p.1 ∙ ap Some (sym same) ∙ sym (sid_of_known m i ask (ap (map.get m) p.0 ∙ known))
@@ -116,17 +116,17 @@ module _ {S : Type 0} where
   }
 
   -- or on another
-  pub filed-moved : (es mid new : List ((ℕ × ℕ) × Unit {0})) (lent : ℕ × ℕ) (m : map.FinMap nat_cmp (Ask S)) (ask : Ask S) → IsFiled es (Some lent) m
-    → map.get m lent.1 ≡ Some ask → ask.sid ≢ lent.0
-    → ((q : ℕ × ℕ) → map.find filed_cmp q mid ≡ cond (eq_by_cmp filed_cmp q lent) None (map.find filed_cmp q es))
-    → ((q : ℕ × ℕ) → map.find filed_cmp q new ≡ cond (eq_by_cmp filed_cmp q (ask.sid, lent.1)) (Some tt) (map.find filed_cmp q mid))
-    → length new ≡ length es → IsFiled new None m
+  pub filed-moved : (es mid new : Filings) (lent : ℕ × ℕ) (m : map.FinMap nat_cmp (Ask S)) (ask : Ask S) → IsFiled es (Some lent) m
+      → map.get m lent.1 ≡ Some ask → ask.sid ≢ lent.0
+      → ((q : ℕ × ℕ) → map.find filed_cmp q mid ≡ cond (eq_by_cmp filed_cmp q lent) None (map.find filed_cmp q es))
+      → ((q : ℕ × ℕ) → map.find filed_cmp q new ≡ cond (eq_by_cmp filed_cmp q (ask.sid, lent.1)) (Some tt) (map.find filed_cmp q mid))
+      → length new ≡ length es → IsFiled new None m
   filed-moved es mid new lent m ask h known other finds finds' size = record {
     filed = λ s i. elim (same_or_not i lent.1) [
       | inl p ↦
           let here : sid_at m i ≡ Some ask.sid = sid_of_known m i ask (ap (map.get m) p.0 ∙ known) in
           let was : is_some (map.find filed_cmp (s, i) es) ≡ eq_by_cmp nat_cmp s lent.0 =
-            h.filed s i ∙ ap (λ o. is_at o s) (at_it _ (Some lent.0) (sid_at m i) p.1) in
+          h.filed s i ∙ ap (λ o. is_at o s) (at_it _ (Some lent.0) (sid_at m i) p.1) in
           elim (same_or_not s ask.sid) [
             | inl r ↦ ap is_some (finds' (s, i) ∙ at_it _ _ _ (pair_same s i ask.sid lent.1 r.0 p.0)) ∙ sym r.1 ∙ ap (λ o. is_at o s) (sym here)
             | inr r ↦ ap is_some (finds' (s, i) ∙ elsewhere _ _ _ (pair_other_sid s i ask.sid lent.1 r.0) ∙ finds (s, i))
@@ -144,29 +144,29 @@ module _ {S : Type 0} where
   }
 
   -- under its own sid nothing else is filed yet
-  pub unfiled-own : (es mid : List ((ℕ × ℕ) × Unit {0})) (lent : ℕ × ℕ) (m : map.FinMap nat_cmp (Ask S)) (sid : ℕ) → IsFiled es (Some lent) m → sid ≢ lent.0
-    → ((q : ℕ × ℕ) → map.find filed_cmp q mid ≡ cond (eq_by_cmp filed_cmp q lent) None (map.find filed_cmp q es))
-    → map.find filed_cmp (sid, lent.1) mid ≡ None
+  pub unfiled-own : (es mid : Filings) (lent : ℕ × ℕ) (m : map.FinMap nat_cmp (Ask S)) (sid : ℕ) → IsFiled es (Some lent) m → sid ≢ lent.0
+      → ((q : ℕ × ℕ) → map.find filed_cmp q mid ≡ cond (eq_by_cmp filed_cmp q lent) None (map.find filed_cmp q es))
+      → map.find filed_cmp (sid, lent.1) mid ≡ None
   unfiled-own es mid lent m sid h other finds =
       finds (sid, lent.1) ∙ elsewhere _ _ _ (pair_other_sid sid lent.1 lent.0 lent.1 other)
       ∙ none_from (map.find filed_cmp (sid, lent.1) es)
-        (h.filed sid lent.1 ∙ ap (λ o. is_at o sid) (at_it _ (Some lent.0) (sid_at m lent.1) (eq_true lent.1 lent.1 refl)) ∙ eq_false sid lent.0 other)
+      (h.filed sid lent.1 ∙ ap (λ o. is_at o sid) (at_it _ (Some lent.0) (sid_at m lent.1) (eq_true lent.1 lent.1 refl)) ∙ eq_false sid lent.0 other)
 
   -- what the lent one is filed under is there
-  pub filed-lent : (es : List ((ℕ × ℕ) × Unit {0})) (lent : ℕ × ℕ) (m : map.FinMap nat_cmp (Ask S)) → IsFiled es (Some lent) m → is_some (map.find filed_cmp lent es) ≡ true
+  pub filed-lent : (es : Filings) (lent : ℕ × ℕ) (m : map.FinMap nat_cmp (Ask S)) → IsFiled es (Some lent) m → is_some (map.find filed_cmp lent es) ≡ true
   filed-lent es lent m h =
       h.filed lent.0 lent.1 ∙ ap (λ o. is_at o lent.0) (at_it _ (Some lent.0) (sid_at m lent.1) (eq_true lent.1 lent.1 refl)) ∙ eq_true lent.0 lent.0 refl
 
   -- ---- a request comes
-  pub unfiled : (es : List ((ℕ × ℕ) × Unit {0})) (m : map.FinMap nat_cmp (Ask S)) (sid id : ℕ) → IsFiled es None m → map.get m id ≡ None → map.find filed_cmp (sid, id) es ≡ None
+  pub unfiled : (es : Filings) (m : map.FinMap nat_cmp (Ask S)) (sid id : ℕ) → IsFiled es None m → map.get m id ≡ None → map.find filed_cmp (sid, id) es ≡ None
   unfiled es m sid id h none = none_from _ (h.filed sid id ∙ ap (λ o. is_at (option_map (λ (a : Ask S). a.sid) o) sid) none)
 
-  pub filed-inserted : (es new : List ((ℕ × ℕ) × Unit {0})) (m : map.FinMap nat_cmp (Ask S)) (id : ℕ) (ask : Ask S) → IsFiled es None m → map.get m id ≡ None
-    → ((q : ℕ × ℕ) → map.find filed_cmp q new ≡ cond (eq_by_cmp filed_cmp q (ask.sid, id)) (Some tt) (map.find filed_cmp q es))
-    → length new ≡ length es + 1 → IsFiled new None (map.insert m id ask)
+  pub filed-inserted : (es new : Filings) (m : map.FinMap nat_cmp (Ask S)) (id : ℕ) (ask : Ask S) → IsFiled es None m → map.get m id ≡ None
+      → ((q : ℕ × ℕ) → map.find filed_cmp q new ≡ cond (eq_by_cmp filed_cmp q (ask.sid, id)) (Some tt) (map.find filed_cmp q es))
+      → length new ≡ length es + 1 → IsFiled new None (map.insert m id ask)
   filed-inserted es new m id ask h none finds more =
       let size : map.len (map.insert m id ask) ≡ map.len m + 1 =
-        map.len-insert nat_cmp_total m id ask ∙ ap (λ o. cond (is_some o) (map.len m) (map.len m + 1)) none in
+      map.len-insert nat_cmp_total m id ask ∙ ap (λ o. cond (is_some o) (map.len m) (map.len m + 1)) none in
       let counted = h.counted in
       record {
         filed = λ s i. elim (same_or_not i id) [
@@ -185,12 +185,12 @@ module _ {S : Type 0} where
       }
 
   -- ---- a request goes
-  pub filed-removed : (es new : List ((ℕ × ℕ) × Unit {0})) (m : map.FinMap nat_cmp (Ask S)) (id : ℕ) (ask : Ask S) → IsFiled es None m → map.get m id ≡ Some ask
-    → ((q : ℕ × ℕ) → map.find filed_cmp q new ≡ cond (eq_by_cmp filed_cmp q (ask.sid, id)) None (map.find filed_cmp q es))
-    → length new + 1 ≡ length es → IsFiled new None (map.remove m id)
+  pub filed-removed : (es new : Filings) (m : map.FinMap nat_cmp (Ask S)) (id : ℕ) (ask : Ask S) → IsFiled es None m → map.get m id ≡ Some ask
+      → ((q : ℕ × ℕ) → map.find filed_cmp q new ≡ cond (eq_by_cmp filed_cmp q (ask.sid, id)) None (map.find filed_cmp q es))
+      → length new + 1 ≡ length es → IsFiled new None (map.remove m id)
   filed-removed es new m id ask h known finds less =
       let size : map.len (map.remove m id) ≡ map.len m - 1 =
-        map.len-remove nat_cmp_total m id ∙ ap (λ o. cond (is_some o) (map.len m - 1) (map.len m)) known in
+      map.len-remove nat_cmp_total m id ∙ ap (λ o. cond (is_some o) (map.len m - 1) (map.len m)) known in
       let counted = h.counted in
       record {
         filed = λ s i. elim (same_or_not i id) [
@@ -208,16 +208,16 @@ module _ {S : Type 0} where
         there = none_lent (map.remove m id);
       }
 
-  pub filed-known : (es : List ((ℕ × ℕ) × Unit {0})) (m : map.FinMap nat_cmp (Ask S)) (id : ℕ) (ask : Ask S) → IsFiled es None m → map.get m id ≡ Some ask
-    → is_some (map.find filed_cmp (ask.sid, id) es) ≡ true
+  pub filed-known : (es : Filings) (m : map.FinMap nat_cmp (Ask S)) (id : ℕ) (ask : Ask S) → IsFiled es None m → map.get m id ≡ Some ask
+      → is_some (map.find filed_cmp (ask.sid, id) es) ≡ true
   filed-known es m id ask h known = h.filed ask.sid id ∙ ap (λ o. is_at o ask.sid) (sid_of_known m id ask known) ∙ eq_true ask.sid ask.sid refl
 
-  pub filed-without : (es : List ((ℕ × ℕ) × Unit {0})) (m : map.FinMap nat_cmp (Ask S)) (id : ℕ) → IsFiled es None m → map.get m id ≡ None → IsFiled es None (map.remove m id)
+  pub filed-without : (es : Filings) (m : map.FinMap nat_cmp (Ask S)) (id : ℕ) → IsFiled es None m → map.get m id ≡ None → IsFiled es None (map.remove m id)
   filed-without es m id h none = subst (IsFiled es None) (remove-absent m id none) h
 
   -- ---- a request is lent: whatever is written to it, it stays filed as it was
-  pub filed-written : (es : List ((ℕ × ℕ) × Unit {0})) (m : map.FinMap nat_cmp (Ask S)) (id : ℕ) (ask written : Ask S) → IsFiled es None m → map.get m id ≡ Some ask
-    → IsFiled es (Some (ask.sid, id)) (map.insert m id written)
+  pub filed-written : (es : Filings) (m : map.FinMap nat_cmp (Ask S)) (id : ℕ) (ask written : Ask S) → IsFiled es None m → map.get m id ≡ Some ask
+      → IsFiled es (Some (ask.sid, id)) (map.insert m id written)
   filed-written es m id ask written h known = record {
     filed = λ s i. h.filed s i ∙ ap (λ o. is_at o s) (elim (same_or_not i id) [
       | inl p ↦ sid_of_known m i ask (ap (map.get m) p.0 ∙ known) ∙ sym (at_it _ (Some ask.sid) (sid_at (map.insert m id written) i) p.1)
@@ -231,21 +231,21 @@ module _ {S : Type 0} where
   }
 
   -- ---- the first on a channel
-  pub free-below : (es : List ((ℕ × ℕ) × Unit {0})) (m : map.FinMap nat_cmp (Ask S)) (sid : ℕ) → IsFiled es None m → AllBelow filed_cmp es (sid, 0) → IsFreeOf (sid_at m) sid
+  pub free-below : (es : Filings) (m : map.FinMap nat_cmp (Ask S)) (sid : ℕ) → IsFiled es None m → AllBelow filed_cmp es (sid, 0) → IsFreeOf (sid_at m) sid
   free-below es m sid h below = record {
     none = λ i. not_told (sid_at m i) sid (sym (h.filed sid i) ∙ ap is_some (below.none (sid, i) (at_or_above sid i)));
   }
 
-  pub first-on : (es : List ((ℕ × ℕ) × Unit {0})) (m : map.FinMap nat_cmp (Ask S)) (sid : ℕ) (e : (ℕ × ℕ) × Unit {0}) → IsFiled es None m
-    → IsFirst filed_cmp es (sid, 0) e → e.0.0 ≡ sid → IsLeastOn (sid_at m) sid e.0.1
+  pub first-on : (es : Filings) (m : map.FinMap nat_cmp (Ask S)) (sid : ℕ) (e : (ℕ × ℕ) × Unit {0}) → IsFiled es None m
+      → IsFirst filed_cmp es (sid, 0) e → e.0.0 ≡ sid → IsLeastOn (sid_at m) sid e.0.1
   first-on es m sid e h first same = record {
     on = told (sid_at m e.0.1) sid (sym (h.filed sid e.0.1) ∙ ap is_some (ap (λ s. map.find filed_cmp (s, e.0.1) es) (sym same) ∙ first.found));
     least = λ k lt. not_told (sid_at m k) sid (sym (h.filed sid k)
         ∙ ap is_some (first.least (sid, k) (at_or_above sid k) (ap (λ s. is_lt (filed_cmp (sid, k) (s, e.0.1))) same ∙ below_id sid k e.0.1 lt)));
   }
 
-  pub free-first : (es : List ((ℕ × ℕ) × Unit {0})) (m : map.FinMap nat_cmp (Ask S)) (sid : ℕ) (e : (ℕ × ℕ) × Unit {0}) → IsFiled es None m
-    → IsFirst filed_cmp es (sid, 0) e → e.0.0 ≢ sid → IsFreeOf (sid_at m) sid
+  pub free-first : (es : Filings) (m : map.FinMap nat_cmp (Ask S)) (sid : ℕ) (e : (ℕ × ℕ) × Unit {0}) → IsFiled es None m
+      → IsFirst filed_cmp es (sid, 0) e → e.0.0 ≢ sid → IsFreeOf (sid_at m) sid
   free-first es m sid e h first other =
       let later : sid < e.0.0 = sid_below e.0.0 sid e.0.1 other first.above in
       record {

@@ -1,6 +1,6 @@
 -- Values in a slab behind an index of its keys, as a map: what comes, goes and changes in both, comes, goes and changes in the map.
-use Rattle.std.specs.Prelude.{◌≡◌, ◌≢◌, ℕ, suc, zero, ◌+◌, ◌-◌, ◌<◌, ◌≤◌, Bool, true, false, cond, T, List, [], ◌∷◌, length, Option, None, Some, is_some, IsSome, slice_index_or, slice_set, count_by, refl}
-use Rattle.std.proofs.Common.{sym, ap, subst, ◌∙◌, inl, inr, ◌⊎◌, arith}
+use Rattle.std.specs.Prelude.{◌≡◌, ◌≢◌, ℕ, ◌+◌, ◌-◌, ◌<◌, ◌≤◌, Bool, true, false, cond, List, [], ◌∷◌, length, Option, None, Some, is_some, IsSome, slice_index_or, count_by, refl}
+use Rattle.std.proofs.Common.{sym, ap, ◌∙◌, inl, inr, ◌⊎◌, arith}
 use Rattle.std.specs.declared.cmp.Ordering.TheVariants.{Less, Equal, Greater}
 use Rattle.std.specs.Ordering.{nat_cmp, eq_by_cmp, is_eq, is_lt}
 use Rattle.std.specs.Option.{option_and_then}
@@ -144,7 +144,7 @@ module _ {V : Type 0} where
 
   -- more room is taken
   pub sound-roomier : (es new : List (ℕ × ℕ)) (s t : slab.Slab V) (room most room' most' : ℕ) → IsSound es s room most → new ≡ es → t.slots ≡ s.slots
-    → length new ≤ room' → room' ≤ t.capacity → room' ≤ most' → IsSound new t room' most'
+      → length new ≤ room' → room' ≤ t.capacity → room' ≤ most' → IsSound new t room' most'
   sound-roomier es new s t room most room' most' h same slots few in_slab in_index =
       let of : (q : ℕ) → map.find nat_cmp q new ≡ map.find nat_cmp q es = λ q. ap (map.find nat_cmp q) same in
       let at : (k : ℕ) → slab.get t k ≡ slab.get s k = λ k. ap (λ xs. slice_index_or xs k None) slots in
@@ -202,7 +202,7 @@ module _ {V : Type 0} where
     ]
 
     pub sound-inserted : (most' : ℕ) → map.find nat_cmp n es ≡ None → length new ≡ length es + 1 → length es < room → slab.slab_len t ≡ slab.slab_len s + 1
-      → t.capacity ≡ s.capacity → most' ≡ most → IsSound new t room most'
+        → t.capacity ≡ s.capacity → most' ≡ most → IsSound new t room most'
     sound-inserted most' none more few count capacity same =
         let counted = h.counted in
         let sized = h.sized in
@@ -210,8 +210,8 @@ module _ {V : Type 0} where
         let in_index = h.in_index in
         let absent : is_some (map.get (gathered es s) n) ≡ false = ap is_some (get-known es s n None (sym none)) in
         let size : map.len (gathered new t) ≡ map.len (gathered es s) + 1 =
-          ap map.len gathered-inserted ∙ map.len-insert nat_cmp_total (gathered es s) n v
-          ∙ ap (λ b. cond b (map.len (gathered es s)) (map.len (gathered es s) + 1)) absent in
+        ap map.len gathered-inserted ∙ map.len-insert nat_cmp_total (gathered es s) n v
+        ∙ ap (λ b. cond b (map.len (gathered es s)) (map.len (gathered es s) + 1)) absent in
         record {
           stored = stored_new;
           apart = apart_new;
@@ -253,7 +253,7 @@ module _ {V : Type 0} where
         ∙ sym (map.get-remove nat_cmp_total (gathered es s) n q))
 
     pub sound-removed : (most' : ℕ) → length new + 1 ≡ length es → slab.slab_len t + 1 ≡ slab.slab_len s
-      → t.capacity ≡ s.capacity → most' ≡ most → IsSound new t room most'
+        → t.capacity ≡ s.capacity → most' ≡ most → IsSound new t room most'
     sound-removed most' less count capacity same =
         let counted = h.counted in
         let sized = h.sized in
@@ -262,8 +262,8 @@ module _ {V : Type 0} where
         let in_index = h.in_index in
         let present : is_some (map.get (gathered es s) n) ≡ true = sym (is_some-gathered es s room most h n) ∙ ap is_some there in
         let size : map.len (gathered new t) ≡ map.len (gathered es s) - 1 =
-          ap map.len gathered-removed ∙ map.len-remove nat_cmp_total (gathered es s) n
-          ∙ ap (λ b. cond b (map.len (gathered es s) - 1) (map.len (gathered es s))) present in
+        ap map.len gathered-removed ∙ map.len-remove nat_cmp_total (gathered es s) n
+        ∙ ap (λ b. cond b (map.len (gathered es s) - 1) (map.len (gathered es s))) present in
         record {
           stored = λ q j e. ap is_some (stays q j (key_of_left q j e).0 (key_of_left q j e).1) ∙ h.stored q j (key_of_left q j e).1;
           apart = λ q r j e f. h.apart q r j (key_of_left q j e).1 (key_of_left r j f).1;
@@ -327,7 +327,7 @@ module _ {V : Type 0} where
           apart = h.apart;
           counted = count-changed s k w (h.stored n k there) ∙ h.counted;
           sized = ap map.len gathered-changed ∙ map.len-insert nat_cmp_total (gathered es s) n w
-            ∙ ap (λ b. cond b (map.len (gathered es s)) (map.len (gathered es s) + 1)) present ∙ h.sized;
+              ∙ ap (λ b. cond b (map.len (gathered es s)) (map.len (gathered es s) + 1)) present ∙ h.sized;
           few = h.few;
           in_slab = h.in_slab;
           in_index = h.in_index;

@@ -1,5 +1,5 @@
 -- Lists of entries in the rising order of their keys: where a key stands, and what an entry that comes or goes leaves.
-use Rattle.std.specs.Prelude.{◌≡◌, ◌≢◌, ℕ, suc, zero, ◌+◌, ◌<◌, ◌≤◌, Bool, true, false, cond, not, ◌&&◌, T, List, [], ◌∷◌, ◌++◌, length, Option, None, Some, is_some, IsSome, slice_get, slice_index_or, take, drop, refl, unwrap_or}
+use Rattle.std.specs.Prelude.{◌≡◌, ◌≢◌, ℕ, suc, zero, ◌+◌, ◌<◌, ◌≤◌, Bool, true, false, cond, not, ◌&&◌, T, List, [], ◌∷◌, length, Option, None, Some, is_some, slice_get, slice_index_or, refl}
 use Rattle.std.proofs.Common.{sym, ap, subst, ◌∙◌, inl, inr, arith}
 use Rattle.std.specs.declared.cmp.Ordering.{Ordering}
 use Rattle.std.specs.declared.cmp.Ordering.TheVariants.{Less, Equal, Greater}
@@ -12,7 +12,7 @@ use Rattle.std.specs.List.Sorted.{IsPartitionedBy, IsPartitionPoint}
 use Rattle.std.proofs.lemmas.List.Sums.{prefix_len_is}
 use Rattle.std.proofs.lemmas.Option.{slice_get_past}
 use Rattle.std.proofs.lemmas.Bool.{cases_lt, false≢true}
-use Rattle.chan_table.specs.Index.{place, AllBelow, IsFirst, IsFirstFrom}
+use Rattle.chan_table.specs.Index.{place, IsFirstFrom}
 
 pub first_of : (a b : Bool) → T (a && b) → T a
 first_of true b p = tt
@@ -193,12 +193,12 @@ module _ {K V : Type 0} (R : K → K → Ordering) where
               subst (λ n. IsFirstFrom R (e ∷ es) from (slice_get (e ∷ es) n)) one
               (past e es from _ (less _ (subst T (sym p) tt)) (first-place es from (second_of _ _ h)))
           | false ↦ λ p. record {
-              found = ap (λ r. cond (is_eq r) (Some e.1) (find R e.0 es)) (tied_itself o e.0);
-              above = p;
-              least = λ k above below.
-                  let under : R k e.0 ≡ Less = less _ (subst T (sym below) tt) in
-                  ap (λ r. cond (is_eq r) (Some e.1) (find R k es)) under ∙ find-below k es (below_trans k e.0 es under (first_of _ _ h));
-            }
+            found = ap (λ r. cond (is_eq r) (Some e.1) (find R e.0 es)) (tied_itself o e.0);
+            above = p;
+            least = λ k above below.
+                let under : R k e.0 ≡ Less = less _ (subst T (sym below) tt) in
+                ap (λ r. cond (is_eq r) (Some e.1) (find R k es)) under ∙ find-below k es (below_trans k e.0 es under (first_of _ _ h));
+          }
         ] refl
 
 -- where a test that holds at the front alone stops is how many pass it

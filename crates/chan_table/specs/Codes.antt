@@ -38,7 +38,7 @@ ask_code {S} code =
     code_by
     (ℕ × (AskKind × (set.FinSet nat_cmp × (Option Bool × (Option S × (Option ℕ × Bool))))))
     (coded× coded_ℕ (coded× kind_code (coded× (set.code coded_ℕ) (coded× (coded_option coded_bool)
-        (coded× (coded_option code) (coded× (coded_option coded_ℕ) coded_bool))))))
+    (coded× (coded_option code) (coded× (coded_option coded_ℕ) coded_bool))))))
     (λ a. (a.sid, (a.kind, (a.mask, (a.atomic, (a.sub, (a.window, a.started)))))))
     (λ p. record {
       sid = p.0;

@@ -1,5 +1,5 @@
 -- Entries in the rising order of their keys.
-use Rattle.std.specs.Prelude.{◌≡◌, ℕ, ◌<◌, false, true, List, Option, None, Some, IsSome, MatchOption}
+use Rattle.std.specs.Prelude.{◌≡◌, ℕ, false, true, List, Option, None, Some, MatchOption}
 use Rattle.std.specs.declared.cmp.Ordering.{Ordering}
 use Rattle.std.specs.Ordering.{is_lt}
 use Rattle.std.specs.List.{prefix_len}
@@ -14,7 +14,8 @@ pub record AllBelow {K V : Type 0} (R : K → K → Ordering) (es : List (K × V
   pub none : (k : K) → is_lt (R k from) ≡ false → find R k es ≡ None
 
 -- An entry is there, its key is at or above `from`, and no key between the two is there.
-pub record IsFirst {K V : Type 0} (R : K → K → Ordering) (es : List (K × V)) (from : K) (e : K × V) : Type 0 where
+pub record IsFirst {K V : Type 0} (R : K → K → Ordering) (es : List (K × V)) (from : K) (e : K × V)
+    : Type 0 where
   pub found : find R e.0 es ≡ Some e.1
   pub above : is_lt (R e.0 from) ≡ false
   pub least : (k : K) → is_lt (R k from) ≡ false → is_lt (R k e.0) ≡ true → find R k es ≡ None

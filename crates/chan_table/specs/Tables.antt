@@ -1,5 +1,7 @@
--- What the tables of a connection hold (pvAccess Protocol Specification, "Channel Life-cycle", and the requests on channels).
-use Rattle.std.specs.Prelude.{◌≡◌, ◌≢◌, ℕ, ◌<◌, ◌≤◌, Bool, Option, None, Some, IsSome, Result, MatchOption, if◌then◌else◌, ◌==◌, refl}
+-- What the tables of a connection hold (pvAccess Protocol Specification, "Channel Life-cycle", and the requests on
+-- channels).
+use Rattle.std.specs.Prelude.{◌≡◌, ◌≢◌, ℕ, ◌<◌, Option, None, Some, IsSome, MatchOption}
+use Rattle.std.specs.Prelude.{if◌then◌else◌, ◌==◌, refl}
 use Rattle.std.specs.Option.{option_map}
 use Rattle.std.specs.Coded.{Coded, code_by, coded×, coded_ℕ}
 use Rattle.std.specs.Ordering.{nat_cmp}
@@ -58,9 +60,9 @@ module _ {C S : Type 0} where
   abbrev pub channel_of : Tables C S → ℕ → ℕ → Option C
   channel_of t sid cid = of_cid cid (get t.channels sid)
 
-  -- the sid of a request
-  abbrev pub sid_of : Tables C S → ℕ → Option ℕ
-  sid_of t id = option_map (λ ask. ask.sid) (get t.asks id)
+-- the sid of a request
+abbrev pub sid_at : {S : Type 0} → FinMap nat_cmp (Ask S) → ℕ → Option ℕ
+sid_at asks id = option_map (λ ask. ask.sid) (get asks id)
 
 -- No request is on the channel.
 pub record IsFreeOf (sids : ℕ → Option ℕ) (sid : ℕ) : Type 0 where
@@ -81,13 +83,14 @@ pub record IsReady {C S : Type 0} (t : Tables C S) (id : ℕ) : Type 0 where
   pub few : len t.asks < limit
   pub room : len t.asks < t.room
 
--- The number of requests is the limit, and this says it.
-pub record IsFull (count said : ℕ) : Type 0 where
+-- There are as many as there may be, and the answer says so.
+pub record IsFull (count : ℕ) (answer : TableAnswer) : Type 0 where
   pub full : count ≡ limit
-  pub told : said ≡ limit
+  pub told : answer ≡ Full limit
 
--- Why none can be: the id is in use; or it isn't, and there are as many as there may be; or neither, and memory is short.
+-- Why none can be: the id is in use; or it isn't, and there are as many as there may be; or neither, and memory is
+-- short.
 abbrev pub Refuses : {C S : Type 0} → Tables C S → ℕ → TableAnswer → Type 0
 Refuses t id InUse = IsSome (get t.asks id)
-Refuses t id (Full said) = (get t.asks id ≡ None) × IsFull (len t.asks) said
+Refuses t id (Full said) = (get t.asks id ≡ None) × IsFull (len t.asks) (Full said)
 Refuses t id NoMemory = (get t.asks id ≡ None) × (len t.asks < limit)

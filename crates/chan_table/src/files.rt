@@ -1,8 +1,8 @@
 ghost use Rattle.std.specs.Prelude.{◌≡◌, ◌<◌, ◌≤◌, [], None, Some, IfOk, OnOk, IsSome, vec_len, vec_capacity};
 ghost use Rattle.std.specs.FinMap as map;
 ghost use Rattle.chan_table.specs.declared.ask.Ask.{Ask as AskOf};
-ghost use Rattle.chan_table.specs.Filing.{IsFiled, sid_at};
-ghost use Rattle.chan_table.specs.Tables.{IsFirstOn};
+ghost use Rattle.chan_table.specs.Filing.{IsFiled};
+ghost use Rattle.chan_table.specs.Tables.{sid_at, IsFirstOn};
 
 use crate::ask::Ask;
 use crate::directory::Directory;

@@ -11,6 +11,8 @@ mod directory;
 mod files;
 mod index;
 mod table;
+#[cfg(test)]
+mod tests;
 
 pub use answer::TableAnswer;
 pub use ask::{Ask, AskKind};

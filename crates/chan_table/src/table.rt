@@ -1,9 +1,9 @@
-ghost use Rattle.std.specs.Prelude.{◌≡◌, ◌<◌, ◌≤◌, ◌↔◌, Some, None, IfOk, OnOk, IfErr, OnErr, IfSome, OnSome, IfNone, IsSome, IsTrue, is_some};
+ghost use Rattle.std.specs.Prelude.{◌≡◌, ◌<◌, ◌≤◌, Some, None, IfOk, OnOk, IfErr, OnErr, IfSome, OnSome, IfNone, IsSome, is_some};
 ghost use Rattle.std.specs.Option.{option_copied, option_copied_mut, option_map};
 ghost use Rattle.std.specs.Borrow.{sem};
 ghost use Rattle.std.specs.FinMap as map;
 ghost use Rattle.chan_table.specs.Numbers.{IsLeastAbsent, IsNextFrom};
-ghost use Rattle.chan_table.specs.Tables.{limit, blank, with_channel, without_channel, with_ask, without_ask, channel_of, sid_of, IsFreeOf, IsFirstOn, IsReady, Refuses};
+ghost use Rattle.chan_table.specs.Tables.{limit, blank, with_channel, without_channel, with_ask, without_ask, channel_of, sid_at, IsFreeOf, IsFirstOn, IsReady, IsFull, Refuses};
 
 use crate::answer::TableAnswer;
 use crate::ask::Ask;
@@ -20,9 +20,9 @@ pub const LIMIT: u32 = 4096;
 /// its requests by the ids that the client gave them.
 ///
 /// `C` is what a session keeps of a channel, and `S` what a desk gives for a subscription. A contract sees two finite
-/// maps, and how many requests fit without more memory. A look-up takes as many steps as the number of channels or
-/// requests has bits, twelve at most; a call that puts in or takes out an entry of a table also moves those behind it,
-/// 16 bytes each, in one go. pvAccess Protocol Specification, "Channel Life-cycle" and the requests on channels.
+/// maps, and how many requests fit without more memory. A look-up searches a sorted list by halves, in thirteen steps at
+/// most. A call that puts in or takes out an entry also moves what lies behind it in such a list, at most 16 bytes for
+/// each entry, in one go. pvAccess Protocol Specification, "Channel Life-cycle" and the requests on channels.
 #[derive(Drop)]
 pub struct Table<C, S> {
     channels: Directory<(u32, C)>,
@@ -47,7 +47,7 @@ impl<C, S> Model for Table<C, S> {
 impl<C, S> Table<C, S> {
     ghost use Rattle.chan_table.specs.Lends.{lends_ask, lends_found};
 
-    /// Empty tables. The room for 4,096 channels is taken at once, and so is the list that gives each sid its place in it.
+    /// Empty tables. The room for 4,096 channels is taken at once, and so is the list that gives each sid its place.
     pub fn new(alloc: Global) -> Result<Table<C, S>, NoMemory>
     where
         C: Drop,
@@ -65,14 +65,14 @@ impl<C, S> Table<C, S> {
     }
 
     /// Puts in a channel with the client's id of it, and answers its sid: the least number that no channel has.
-    /// With 4,096 channels it is `Full`, and all is as before. No memory is taken.
+    /// With 4,096 channels it is `Full`, and all is as before. One search finds the number. No memory is taken.
     pub fn add_channel(&mut self, cid: u32, channel: C) -> Result<u32, TableAnswer>
     where
         C: Drop,
         ensures ok { IfOk result (λ sid. self.new ≡ with_channel self.old sid cid channel) }
         ensures least { IfOk result (λ sid. IsLeastAbsent (map.get self.old.channels) sid) }
         ensures few { OnOk result (map.len self.old.channels < limit) }
-        ensures full { IfErr result (λ answer. (answer ≡ TableAnswer.Full limit) × (map.len self.old.channels ≡ limit)) }
+        ensures full { IfErr result (IsFull (map.len self.old.channels)) }
         ensures err { OnErr result (self.new ≡ self.old) }
     {
         if self.channels.len() >= LIMIT as usize {
@@ -83,7 +83,7 @@ impl<C, S> Table<C, S> {
         Ok(sid)
     }
 
-    /// The channel of a sid, if there is one.
+    /// The channel of a sid, if there is one. One look-up.
     pub fn channel(&self, sid: u32) -> Option<&C>
         ensures { option_copied result ≡ option_map (λ known. known.1) (map.get self.now.channels sid) }
     {
@@ -93,7 +93,7 @@ impl<C, S> Table<C, S> {
         }
     }
 
-    /// Whether there is a channel of this sid and this cid.
+    /// Whether there is a channel of this sid and this cid. One look-up.
     pub fn has_channel(&self, sid: u32, cid: u32) -> bool
         ensures { result ≡ is_some (channel_of self.now sid cid) }
     {
@@ -103,9 +103,10 @@ impl<C, S> Table<C, S> {
         }
     }
 
-    /// Takes out the channel of this sid and this cid, if there is one. Its requests are gone by then. No memory is taken.
+    /// Takes out the channel of this sid and this cid, if there is one; its requests are gone by then, and nothing else
+    /// changes. Two look-ups. No memory is taken.
     pub fn remove_channel(&mut self, sid: u32, cid: u32) -> Option<C>
-        requires gone { IsSome (channel_of self.old sid cid) → IsFreeOf (sid_of self.old) sid }
+        requires gone { IsSome (channel_of self.old sid cid) → IsFreeOf (sid_at self.old.asks) sid }
         ensures value { result ≡ channel_of self.old sid cid }
         ensures removed { OnSome result (self.new ≡ without_channel self.old sid) }
         ensures none { IfNone result (self.new ≡ self.old) }
@@ -120,10 +121,11 @@ impl<C, S> Table<C, S> {
     }
 
     /// Takes the memory for a request of this id, so that [`Table::add`] can't fail. It is `InUse` where a request has
-    /// the id, else `Full` with 4,096 requests. The channels and requests stay as they are.
+    /// the id, else `Full` with 4,096 requests, else perhaps `NoMemory`. The channels and requests stay as they are. One
+    /// look-up.
     pub fn reserve(&mut self, id: u32) -> Result<(), TableAnswer>
         ensures ready { OnOk result (IsReady self.new id) }
-        ensures refused { IfErr result (λ answer. Refuses self.old id answer) }
+        ensures refused { IfErr result (Refuses self.old id) }
         ensures kept { self.new ≡ record self.old { room = self.new.room } }
         ensures room { self.old.room ≤ self.new.room }
     {
@@ -138,7 +140,7 @@ impl<C, S> Table<C, S> {
         Ok(())
     }
 
-    /// Puts in a request under an id for which [`Table::reserve`] answered Ok. No memory is taken.
+    /// Puts in a request under an id for which [`Table::reserve`] answered Ok. Two look-ups. No memory is taken.
     pub fn add(&mut self, id: u32, ask: Ask<S>)
         requires { IsReady self.old id }
         ensures { self.new ≡ with_ask self.old id ask }
@@ -147,23 +149,23 @@ impl<C, S> Table<C, S> {
         self.asks.insert(id, ask);
     }
 
-    /// The request of an id, if there is one.
+    /// The request of an id, if there is one. One look-up.
     pub fn ask(&self, id: u32) -> Option<&Ask<S>>
         ensures { option_copied result ≡ map.get self.now.asks id }
     {
         self.asks.get(id)
     }
 
-    /// The request of an id for writing, if there is one. Any of it may be written. No memory is taken.
+    /// The request of an id for writing, if there is one. All of it may be written: with another sid it is on that
+    /// channel. Three look-ups. No memory is taken.
     pub fn ask_mut(&mut self, id: u32) -> Option<&mut Ask<S>>
         ensures* writes_back { sem 𝓛 (lends_found C.row S.row self.entry id result) }
         ensures value { option_copied_mut result ≡ map.get self.old.asks id }
     {
-        if self.asks.contains(id) {
-            Some(self.lend(id))
-        } else {
-            None
+        if !self.asks.contains(id) {
+            return None;
         }
+        Some(self.lend(id))
     }
 
     /// The request of an id that has one, for writing.
@@ -176,7 +178,7 @@ impl<C, S> Table<C, S> {
         self.asks.value_mut(id)
     }
 
-    /// Takes out the request of an id, if there is one. No memory is taken.
+    /// Takes out the request of an id, if there is one. Four look-ups. No memory is taken.
     pub fn remove(&mut self, id: u32) -> Option<Ask<S>>
         ensures value { result ≡ map.get self.old.asks id }
         ensures rest { self.new ≡ without_ask self.old id }
@@ -186,9 +188,9 @@ impl<C, S> Table<C, S> {
     }
 
     /// Takes out the request with the least id of those on a channel, and gives both. It is None where there is none on
-    /// it, and then all is as before. It doesn't look at other channels' requests. No memory is taken.
+    /// it, and then all is as before. Five look-ups, however many requests other channels have. No memory is taken.
     pub fn take_of(&mut self, sid: u32) -> Option<(u32, Ask<S>)>
-        ensures least { IsFirstOn (sid_of self.old) sid (option_map (λ taken. taken.0) result) }
+        ensures least { IsFirstOn (sid_at self.old.asks) sid (option_map (λ taken. taken.0) result) }
         ensures ask { IfSome result (λ taken. map.get self.old.asks taken.0 ≡ Some taken.1) }
         ensures rest { IfSome result (λ taken. self.new ≡ without_ask self.old taken.0) }
         ensures none { IfNone result (self.new ≡ self.old) }
@@ -202,7 +204,7 @@ impl<C, S> Table<C, S> {
         }
     }
 
-    /// The least id at or above `from` that a request has, if there is one.
+    /// The least id at or above `from` that a request has, if there is one. One look-up.
     pub fn next_id(&self, from: u32) -> Option<u32>
         ensures { IsNextFrom (map.get self.now.asks) from result }
     {

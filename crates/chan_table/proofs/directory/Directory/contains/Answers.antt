@@ -1,7 +1,6 @@
 use Rattle.std.specs.Prelude.{is_some}
 use Rattle.std.proofs.Common.{ap, ◌∙◌}
 use Rattle.std.specs.FinMap as map
-use Rattle.chan_table.specs.Kept.{Kept}
 use Rattle.chan_table.proofs.Gathered.{is_some-gathered}
 use Rattle.chan_table.proofs.directory.Directory.contains.Goals as goal
 

@@ -1,5 +1,3 @@
-use Rattle.std.specs.Prelude.{◌≡◌, ◌<◌, ◌+◌, ℕ, Some, None, length, refl}
-use Rattle.std.proofs.Common.{sym, ap, ◌∙◌, arith}
 use Rattle.std.specs.FinMap as map
 use Rattle.std.proofs.Common.{subst}
 use Rattle.chan_table.specs.Numbers.{IsNext, IsNoneFrom}

@@ -1,7 +1,3 @@
-use Rattle.std.specs.Prelude.{◌≡◌, ◌<◌, ◌≤◌, ◌+◌, ℕ, Some, None, true, cond, is_some, length, refl}
-use Rattle.std.proofs.Common.{sym, ap, subst, ◌∙◌, arith}
-use Rattle.std.specs.FinMap as map
-use Rattle.chan_table.specs.Filing.{IsFiled}
 use Rattle.chan_table.proofs.Filed.{free-below, first-on, free-first}
 use Rattle.chan_table.proofs.files.Files.first_on.Goals as goal
 

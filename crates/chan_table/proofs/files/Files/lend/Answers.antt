@@ -1,7 +1,4 @@
-use Rattle.std.specs.Prelude.{◌≡◌, ◌<◌, ◌≤◌, ◌+◌, ℕ, Some, None, true, cond, is_some, length, refl}
-use Rattle.std.proofs.Common.{sym, ap, subst, ◌∙◌, arith}
-use Rattle.std.specs.FinMap as map
-use Rattle.chan_table.specs.Filing.{IsFiled}
+use Rattle.std.proofs.Common.{sym}
 use Rattle.chan_table.proofs.Filed.{filed-written}
 use Rattle.chan_table.proofs.Gathered.{some_there}
 use Rattle.chan_table.proofs.files.Files.lend.Goals as goal

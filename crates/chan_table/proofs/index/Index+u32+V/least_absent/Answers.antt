@@ -1,4 +1,3 @@
-use Rattle.std.specs.Prelude.{◌≡◌}
 use Rattle.std.proofs.Common.{arith}
 use Rattle.chan_table.proofs.Absent.{same_to, above_from, least_absent}
 use Rattle.chan_table.proofs.index.Index+u32+V.least_absent.Goals as goal

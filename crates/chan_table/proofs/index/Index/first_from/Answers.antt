@@ -1,4 +1,4 @@
-use Rattle.std.specs.Prelude.{◌≡◌, T}
+use Rattle.std.specs.Prelude.{T}
 use Rattle.std.proofs.Common.{sym, subst, ◌∙◌, ap}
 use Rattle.std.specs.List.{slice_get}
 use Rattle.chan_table.specs.Index.{IsFirstFrom}

@@ -1,5 +1,5 @@
-use Rattle.std.specs.Prelude.{◌≡◌, true, is_ok}
-use Rattle.std.proofs.Common.{rules, arith}
+use Rattle.std.specs.Prelude.{◌≡◌}
+use Rattle.std.proofs.Common.{arith}
 use Rattle.std.specs.List.{insert}
 use Rattle.std.specs.Ordering.{is_lt}
 use Rattle.std.proofs.lemmas.List.Sums.{prefix_len-le-length}

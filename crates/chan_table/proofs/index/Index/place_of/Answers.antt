@@ -15,6 +15,6 @@ returns g c =
     let sorted = subst T (sym c.args.self.now.sorted) tt in
     let parted = are_partitioned R g.met.K.Ord.total c.args.self.now.entries.items c.args.key sorted in
     let point = IsPartitionPoint-from_clause (λ e. is_lt (R e.0 c.args.key)) es c.partition_point.result c.partition_point.ensures.partitioned
-      (subst (IsPartitionedBy (λ e. is_lt (R e.0 c.args.key))) (sym same) parted) (λ a r q k. search rules) in
+    (subst (IsPartitionedBy (λ e. is_lt (R e.0 c.args.key))) (sym same) parted) (λ a r q k. search rules) in
     point-prefix_len (λ e. is_lt (R e.0 c.args.key)) es c.partition_point.result c.partition_point.ensures.bound point
-      ∙ ap (place R c.args.key) same
+    ∙ ap (place R c.args.key) same

@@ -1,4 +1,4 @@
-use Rattle.std.specs.Prelude.{◌≡◌, cond, Some, None}
+use Rattle.std.specs.Prelude.{cond, Some, None}
 use Rattle.std.proofs.Common.{sym, ap, ◌∙◌}
 use Rattle.std.specs.Ordering.{is_eq}
 use Rattle.chan_table.proofs.Places.{find-read}
