@@ -1,0 +1,5 @@
+pub mod Paths
+pub mod Naming
+pub mod Digits
+pub mod Asked
+pub mod Sound

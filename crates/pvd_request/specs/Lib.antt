@@ -1,0 +1,5 @@
+pub mod Selection
+pub mod Options
+pub mod Requests
+pub mod Said
+pub mod Given
