@@ -1,14 +1,24 @@
 -- Requests that begin.
-use Rattle.std.proofs.Common.{◌≡◌, ◌==◌, ℕ, ◌<◌, Bool, true, false, cond, List, Option, None, Some, Result, Ok, Err, refl, sym, ◌∙◌, ap, subst, arith}
-use Rattle.std.specs.Prelude.{is_some, IsSome, codes, nat_le}
+use Rattle.std.proofs.Common.{◌≡◌, ◌==◌, ℕ, ◌<◌, Bool, true, false, cond, List, [], ◌∷◌, ◌++◌, Option, None, Some, Result, Ok, Err, refl, sym, ◌∙◌, ap, subst, arith}
+use Rattle.std.specs.Prelude.{is_some, IsSome, IfSome, codes, nat_le}
 use Rattle.std.specs.FinMap.{get, contains_key, len}
+use Rattle.std.proofs.lemmas.Bool.{false≢true}
 use Rattle.std.proofs.lemmas.Bool.Decides.{nat_tests}
 use Rattle.pvd_type.specs.Tree.{Tree}
 use Rattle.pvd_type.specs.declared.memory.NoMemory.{NoMemory}
 use Rattle.pvd_value.specs.declared.value.PvValue.{PvValue}
 use Rattle.journal_core.specs.Moments.{Moment}
-use Rattle.pva_messages.specs.Fields.{Valued}
-use Rattle.pva_messages.specs.Views.{valued_view}
+use Rattle.pva_messages.specs.Fields as field
+use Rattle.pva_messages.specs.Fields.{Field, Valued}
+use Rattle.pva_messages.specs.Requests as said
+use Rattle.pva_messages.specs.Requests.{request_fields}
+use Rattle.pva_messages.specs.Subcommands.{begins}
+use Rattle.pva_messages.specs.Views.{valued_view, put_part_view}
+use Rattle.pva_messages.specs.Written.{FitsField}
+use Rattle.pva_messages.specs.declared.part.PutPart as put_parts
+use Rattle.pvd_codec.specs.Written.{CanEach}
+use Rattle.pvd_value.specs.Fits.{fits_of}
+use Rattle.pvd_value.specs.View.{view}
 use Rattle.pvd_request.specs.Requests.{shown as given_shown, request_of, Gives}
 use Rattle.pvd_request.specs.declared.request.Request.{Request as Wanted}
 use Rattle.pvd_request.specs.declared.request.RequestFault.{RequestFault}
@@ -82,3 +92,23 @@ module _ (site : SiteData) (s : State) (kind : AskKind) (req sub sid : ℕ) (v :
     pub may_begin : get s.requests req ≡ None → len s.requests < limit → beginning site s kind req sub sid v o ≡ others
     may_begin none few =
         let test : is_full s.requests ≡ false = grind (arith, nat_tests) in free none ∙ ap (λ (b : Bool). cond b too_many others) test
+
+-- What a message brings fits.
+
+first_fits : (b : Bool) (v : Option (Tree × PvValue)) → b ≡ true → CanEach FitsField (cond b (field.valued (valued_view v) ∷ []) []) → IfSome v (λ r. fits_of 16 (view r.1) r.0 ≡ true)
+first_fits true None is f = tt
+first_fits true (Some r) is f = f.0
+first_fits false v is f = absurd (false≢true is)
+
+front_fits : (b : Bool) (v : Option (Tree × PvValue)) (more : List Field) → b ≡ true → CanEach FitsField (cond b (field.valued (valued_view v) ∷ []) [] ++ more) → IfSome v (λ r. fits_of 16 (view r.1) r.0 ≡ true)
+front_fits true None more is f = tt
+front_fits true (Some r) more is f = f.0
+front_fits false v more is f = absurd (false≢true is)
+
+pub get_fits : (sid req sub : ℕ) (v : Option (Tree × PvValue)) → CanEach FitsField (request_fields (said.get sid req sub (valued_view v))) → begins sub ≡ true
+    → IfSome v (λ r. fits_of 16 (view r.1) r.0 ≡ true)
+get_fits sid req sub v f is = first_fits (begins sub) v is f.1.1.1
+
+pub put_fits : (sid req sub : ℕ) (v : Option (Tree × PvValue)) (part : put_parts.PutPart) → CanEach FitsField (request_fields (said.put sid req sub (valued_view v) (put_part_view part))) → begins sub ≡ true
+    → IfSome v (λ r. fits_of 16 (view r.1) r.0 ≡ true)
+put_fits sid req sub v part f is = front_fits (begins sub) v _ is f.1.1.1

@@ -239,8 +239,10 @@ module _ (site : SiteData) (s : State) where
   read_so whole (Err fault) = tt
 
   heard_so : (e : Event) → IsHeardOf site s (heard site s e)
-  heard_so (Message whole) = either_heard (is_heard s whole.command) _ _ (read_so whole _) tt
-  heard_so (Control command number) = either (command == 3) _ _ tt tt
+  heard_so (Message whole) =
+      either_heard (is_heard s whole.command) (heard_read site s whole (request_at whole.order None whole.command (whole.payload, s.types))) (asks pass_over s.types)
+      (read_so whole (request_at whole.order None whole.command (whole.payload, s.types))) tt
+  heard_so (Control command number) = either (command == 3) (echo_control number) pass_over tt tt
 
 -- Knowing other types changes nothing of that.
 

@@ -1,8 +1,9 @@
 -- Channels that are opened and ended.
-use Rattle.std.proofs.Common.{◌≡◌, ◌==◌, ℕ, ◌<◌, Bool, true, false, cond, List, [], ◌∷◌, ◌++◌, Option, None, Some, Result, Ok, Err, refl, sym, ◌∙◌, ap, subst, arith, append_assoc}
-use Rattle.std.specs.Prelude.{OnSome, IfNone, is_some, nat_le, codes}
+use Rattle.std.proofs.Common.{◌≡◌, ◌==◌, ℕ, ◌<◌, Bool, true, false, cond, List, [], ◌∷◌, ◌++◌, drop, length, ◌+◌, Option, None, Some, Result, Ok, Err, refl, sym, ◌∙◌, ap, subst, arith, append_assoc}
+use Rattle.std.specs.Prelude.{OnSome, is_some, get_or, nat_le, codes}
 use Rattle.std.specs.FinMap.{get, insert, remove, len}
 use Rattle.std.proofs.lemmas.Bool.{false≢true}
+use Rattle.std.proofs.lemmas.List.{at_drop_more}
 use Rattle.std.proofs.lemmas.Bool.Decides.{nat_tests}
 use Rattle.std.proofs.lemmas.Option.{none-some}
 use Rattle.pva_messages.specs.Replies as reply
@@ -10,9 +11,13 @@ use Rattle.chan_table.specs.Numbers.{IsLeastAbsent}
 use Rattle.chan_table.specs.Tables.{Tables, limit, of_cid, channel_of, with_channel, without_channel as less_channel}
 use Rattle.desk_api.specs.declared.channel.Channel.{Channel}
 use Rattle.srv_session.specs.State.{State, Channels, Requests, is_full, is_open, has_cid, least_free, without_channel}
-use Rattle.srv_session.specs.Replies.{said, outcome}
-use Rattle.srv_session.specs.Rows.{created, opened}
+use Rattle.desk_api.specs.Sites.{channel_named}
+use Rattle.desk_api.specs.declared.history.SiteData.{SiteData}
+use Rattle.srv_session.specs.Replies.{Sent, said, spelled, spelled_all, outcome}
+use Rattle.srv_session.specs.Rows.{created, opened, all_created, all_opened}
 use Rattle.srv_session.specs.Tasks.{Task, destroy_channel, pass_over, asked_end}
+use Rattle.srv_session.specs.Views.{Keeps}
+use Rattle.srv_session.specs.declared.session.Session.{Session}
 use Rattle.srv_session.proofs.Tables.{is_least, one_least}
 
 -- whether a channel is open under both ids
@@ -75,3 +80,47 @@ module _ (channels : Channels) (cid : ℕ) (channel : Channel) (o : Option Chann
     full_reply =
         sym (ap (λ (b : Bool). cond b (reply.created cid 0xFFFF_FFFF (outcome (Some (codes "too many channels")))) (reply.created cid (least_free channels) (outcome None))) (none_left channels full))
         ∙ ap (created channels cid) (sym is)
+
+-- Name by name.
+
+next_name : {Y : Type 0} (F : List (ℕ × List ℕ) → Y) (names : List (ℕ × List ℕ)) (i : ℕ) (x : ℕ × List ℕ) → x ≡ get_or names i x → i < length names → F (drop i names) ≡ F (x ∷ drop (i + 1) names)
+next_name F names i x is lt = at_drop_more F names i x lt ∙ ap (λ (y : ℕ × List ℕ). F (y ∷ drop (i + 1) names)) (sym is)
+
+module _ (site : SiteData) (names : List (ℕ × List ℕ)) (i : ℕ) (x : ℕ × List ℕ) (is : x ≡ get_or names i x) (lt : i < length names) (s m n : State)
+    (m_is : m ≡ record s { channels = m.channels }) (n_is : n ≡ record m { channels = opened m.channels x.0 (channel_named site x.1) }) where
+  abbrev new_channels : Channels
+  new_channels = opened m.channels x.0 (channel_named site x.1)
+
+  same_channels : n.channels ≡ new_channels
+  same_channels = ap (λ (z : State). z.channels) n_is
+
+  pub next_state : n ≡ record s { channels = n.channels }
+  next_state =
+      n_is ∙ ap (λ (z : State). let u : State = record z { channels = new_channels } in u) m_is
+      ∙ ap (λ (c : Channels). let u : State = record s { channels = c } in u) (sym same_channels)
+
+  pub next_channels : all_opened site n.channels (drop (i + 1) names) ≡ all_opened site m.channels (drop i names)
+  next_channels =
+      ap (λ (c : Channels). all_opened site c (drop (i + 1) names)) same_channels ∙ sym (next_name (all_opened site m.channels) names i x is lt)
+
+  module _ (mid new : List ℕ) (new_is : new ≡ mid ++ spelled m.order m.segment (said (created m.channels x.0 (channel_named site x.1)))) where
+    abbrev rest : Channels → List Sent
+    rest c = all_created site c (drop (i + 1) names)
+
+    abbrev reply_ : Sent
+    reply_ = said (created m.channels x.0 (channel_named site x.1))
+
+    pub next_output : new ++ spelled_all s.order s.segment (all_created site n.channels (drop (i + 1) names)) ≡ mid ++ spelled_all s.order s.segment (all_created site m.channels (drop i names))
+    next_output =
+        ap (λ (o : List ℕ). o ++ spelled_all s.order s.segment (rest n.channels)) new_is
+        ∙ ap (λ (c : Channels). (mid ++ spelled m.order m.segment reply_) ++ spelled_all s.order s.segment (rest c)) same_channels
+        ∙ ap (λ (z : State). (mid ++ spelled z.order z.segment reply_) ++ spelled_all s.order s.segment (rest new_channels)) m_is
+        ∙ append_assoc mid (spelled s.order s.segment reply_) (spelled_all s.order s.segment (rest new_channels))
+        ∙ sym (next_name (λ ns. mid ++ spelled_all s.order s.segment (all_created site m.channels ns)) names i x is lt)
+
+pub keeps_more : (a b c : Session) → Keeps a b → Keeps b c → Keeps a c
+keeps_more a b c p q = record {
+  more = p.more ++ q.more;
+  sent = q.sent ∙ p.sent;
+  output = q.output ∙ ap (λ (xs : List ℕ). xs ++ q.more) p.output ∙ append_assoc a.output.items p.more q.more;
+}

@@ -30,7 +30,7 @@ impl Session {
         desk: &mut D,
     ) -> Result<(), NoMemory>
         requires site { IsOf (D.seat desk.old).seen.base.site (state_of self.old) }
-        requires fits { IfSome request.now (λ r. fits_of 16 (view r.1) r.0 ≡ true) }
+        requires fits { begins sub ≡ true → IfSome request.now (λ r. fits_of 16 (view r.1) r.0 ≡ true) }
         ensures { AnswersAnytime (D.seat desk.old) (D.seat desk.new) self.old self.new (asked_get (D.seat desk.old).seen.base.site (state_of self.old) sid req sub (valued_view request.now)) result }
     {
         desk.has_legal_history();

@@ -158,9 +158,9 @@ impl Session {
                 part,
             } => self.answer_put(alloc, message, *sid, *req, *sub, request, part, desk, moment),
             ToServer::DestroyRequest { sid, req } => stopping(self.destroy_request(*sid, *req)),
-            ToServer::Cancel { .. } | ToServer::Message { .. } | ToServer::Skipped(_) => {
-                stopping(self.pass_over())
-            }
+            ToServer::Cancel { .. } => stopping(self.pass_over()),
+            ToServer::Message { .. } => stopping(self.pass_over()),
+            ToServer::Skipped(_) => stopping(self.pass_over()),
             ToServer::PutGet { .. }
             | ToServer::Monitor { .. }
             | ToServer::GetField { .. }

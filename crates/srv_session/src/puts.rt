@@ -68,7 +68,7 @@ impl Session {
         moment: Moment,
     ) -> Result<(), SessionStop>
         requires site { IsOf (D.seat desk.old).seen.base.site (state_of self.old) }
-        requires fits { IfSome request.now (λ r. fits_of 16 (view r.1) r.0 ≡ true) }
+        requires fits { begins sub ≡ true → IfSome request.now (λ r. fits_of 16 (view r.1) r.0 ≡ true) }
         requires part { IsWithin (put_part_view part.now) (length message.now.payload.now) }
         ensures { HeedsHearing (D.seat desk.old) (D.seat desk.new) self.old self.new moment (heard_put (D.seat desk.old).seen.base.site (state_of self.old) (whole_of message.now) (state_of self.old).types sid req sub (valued_view request.now) (put_part_view part.now)) result }
     {

@@ -40,20 +40,20 @@ returns-in-Err-InUse g c legal moment =
     let seat = g.D.Desk.seat c.args.desk.now in
     let s = state_of c.args.self.now in
     let after : Tables Channel (Unit {0}) → State = λ (t : Tables Channel (Unit {0})). record s { channels = t.channels; requests = t.asks } in
-    let new = show seat c.refuse.new.self in
-    as_task (show seat c.args.self.now) new moment _ _ c.refuse.result
+    let new = show seat c.refuse-in-Err-InUse.new.self in
+    as_task (show seat c.args.self.now) new moment _ _ c.refuse-in-Err-InUse.result
     (id_in_use seat.seen.base.site s c.args.kind c.args.req c.args.sub c.args.sid (valued_view c.args.request.now) (channel_at s.channels c.args.sid) c.in-Some.channel (sym c.channel_at.ensures ∙ c.in-Some.is)
     (c.in-Err-InUse.ensures {u = tt}).refused)
-    (as_old seat s (after c.reserve.new.self) (output_of c.args.self.now) (output_of c.args.self.now) new moment _ c.refuse.result (ap after c.reserve.ensures.kept) refl (c.refuse.ensures seat legal moment))
+    (as_old seat s (after c.reserve.new.self) (output_of c.args.self.now) (output_of c.args.self.now) new moment _ c.refuse-in-Err-InUse.result (ap after c.reserve.ensures.kept) refl (c.refuse-in-Err-InUse.ensures seat legal moment))
 
 pub returns-in-Err-Full : goal.returns-in-Err-Full
 returns-in-Err-Full g c legal moment =
     let seat = g.D.Desk.seat c.args.desk.now in
     let s = state_of c.args.self.now in
     let after : Tables Channel (Unit {0}) → State = λ (t : Tables Channel (Unit {0})). record s { channels = t.channels; requests = t.asks } in
-    let new = show seat c.refuse.new.self in
+    let new = show seat c.refuse-in-Err-Full.new.self in
     let refused = (c.in-Err-Full.ensures {u = tt}).refused in
-    as_task (show seat c.args.self.now) new moment _ _ c.refuse.result
+    as_task (show seat c.args.self.now) new moment _ _ c.refuse-in-Err-Full.result
     (are_too_many seat.seen.base.site s c.args.kind c.args.req c.args.sub c.args.sid (valued_view c.args.request.now) (channel_at s.channels c.args.sid) c.in-Some.channel (sym c.channel_at.ensures ∙ c.in-Some.is)
     refused.0 refused.1.full)
-    (as_old seat s (after c.reserve.new.self) (output_of c.args.self.now) (output_of c.args.self.now) new moment _ c.refuse.result (ap after c.reserve.ensures.kept) refl (c.refuse.ensures seat legal moment))
+    (as_old seat s (after c.reserve.new.self) (output_of c.args.self.now) (output_of c.args.self.now) new moment _ c.refuse-in-Err-Full.result (ap after c.reserve.ensures.kept) refl (c.refuse-in-Err-Full.ensures seat legal moment))

@@ -1,4 +1,4 @@
-use Rattle.std.proofs.Common.{◌≡◌, true, refl, sym, ◌∙◌, ap, subst}
+use Rattle.std.proofs.Common.{◌≡◌, true, Ok, refl, sym, ◌∙◌, ap, subst}
 use Rattle.std.specs.Prelude.{option_map}
 use Rattle.std.specs.FinMap.{get, remove}
 use Rattle.pva_messages.specs.Replies as reply
@@ -42,7 +42,7 @@ returns c seat legal moment =
         ap (λ (z : Channels). is_open z c.args.sid c.args.cid) (c.end_requests_on.ensures.channels ∙ ap (λ (z : State). z.channels) said_.state) ∙ here in
     let out = taken_out t u c.args.sid c.args.cid c.remove_channel.result c.remove_channel.ensures.value still c.remove_channel.ensures.removed in
     as_answered (end_task s c.args.sid c.args.cid _ here)
-    (said_one seat moment s (after u) (output_of c.args.self.now) (output_of c.say_destroyed.new.self) (destroy_channel c.args.sid c.args.cid) _ (said (reply.channel_destroyed c.args.sid c.args.cid)) legal (says_this _)
+    (said_one seat moment s (after u) (output_of c.args.self.now) (output_of c.say_destroyed.new.self) (destroy_channel c.args.sid c.args.cid) (Ok tt) (said (reply.channel_destroyed c.args.sid c.args.cid)) legal (says_this _)
     (ap after out
         ∙ (λ i. record m { channels = remove (c.end_requests_on.ensures.channels i) c.args.sid; requests = c.end_requests_on.ensures.requests i })
         ∙ ap (λ (z : State). record z { channels = remove z.channels c.args.sid; requests = without_channel c.args.sid z.requests }) said_.state)

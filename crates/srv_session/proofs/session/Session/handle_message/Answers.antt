@@ -30,10 +30,10 @@ returns-then-not-is_heard g c =
     let old = show seat c.args.self.now in
     let new = show seat c.pass_over.new.self in
     let handles =
-        heeds_so old new c.args.moment (heard_whole seat.seen.base.site s whole) (asks pass_over s.types) c.stopping.result
+        heeds_so old new c.args.moment (heard_whole seat.seen.base.site s whole) (asks pass_over s.types) c.stopping-then-not-is_heard.result
         (heard_early seat.seen.base.site s whole (sym c.is_heard.ensures ∙ c.if-not-is_heard.true))
-        (heeds_as old new c.args.moment pass_over c.pass_over.result c.stopping.result c.stopping.ensures (c.pass_over.ensures seat c.has_legal_history.ensures c.args.moment)) in
-    record { handles = handles; site = handled_on_site old new c.args.moment (Message whole) c.stopping.result handles c.requires }
+        (heeds_as old new c.args.moment pass_over c.pass_over.result c.stopping-then-not-is_heard.result c.stopping-then-not-is_heard.ensures (c.pass_over.ensures seat c.has_legal_history.ensures c.args.moment)) in
+    record { handles = handles; site = handled_on_site old new c.args.moment (Message whole) c.stopping-then-not-is_heard.result handles c.requires }
 
 pub returns-in_err-request : goal.returns-in_err-request
 returns-in_err-request g c =

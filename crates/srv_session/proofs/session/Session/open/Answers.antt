@@ -19,8 +19,8 @@ returns-in-Ok-clause-state g c =
     let is : channel_named site c.args.name.now ≡ Some c.in-Some.channel = ap (channel_named site) (sym c.as_str.ensures.text) ∙ sym c.find.ensures ∙ c.in-Some.is in
     let added = c.in-Ok.ensures {u = tt} in
     let after : Tables Channel (Unit {0}) → State = λ (t : Tables Channel (Unit {0})). record s { channels = t.channels; requests = t.asks } in
-    on_ok c.say_created.result
-    (c.say_created.ensures.state ∙ ap after added.ok
+    on_ok c.say_created-in-Ok.result
+    (c.say_created-in-Ok.ensures.state ∙ ap after added.ok
         ∙ ap (λ (x : Channels). record s { channels = x }) (opens s.channels c.args.cid c.in-Some.channel (channel_named site c.args.name.now) is c.in-Ok.sid added.few added.least))
 
 pub returns-in-Ok-clause-ok : goal.returns-in-Ok-clause-ok
@@ -29,5 +29,5 @@ returns-in-Ok-clause-ok g c =
     let site = (g.D.Desk.seat c.args.desk.now).seen.base.site in
     let is : channel_named site c.args.name.now ≡ Some c.in-Some.channel = ap (channel_named site) (sym c.as_str.ensures.text) ∙ sym c.find.ensures ∙ c.in-Some.is in
     let added = c.in-Ok.ensures {u = tt} in
-    subst (λ (r : Reply). OnOk c.say_created.result (output_of c.say_created.new.self ≡ output_of c.args.self.now ++ spelled s.order s.segment (said r)))
-    (opens_reply s.channels c.args.cid c.in-Some.channel (channel_named site c.args.name.now) is c.in-Ok.sid added.few added.least) c.say_created.ensures.ok
+    subst (λ (r : Reply). OnOk c.say_created-in-Ok.result (output_of c.say_created-in-Ok.new.self ≡ output_of c.args.self.now ++ spelled s.order s.segment (said r)))
+    (opens_reply s.channels c.args.cid c.in-Some.channel (channel_named site c.args.name.now) is c.in-Ok.sid added.few added.least) c.say_created-in-Ok.ensures.ok
