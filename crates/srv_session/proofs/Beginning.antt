@@ -24,7 +24,9 @@ use Rattle.pvd_request.specs.declared.request.Request.{Request as Wanted}
 use Rattle.pvd_request.specs.declared.request.RequestFault.{RequestFault}
 use Rattle.pvd_request.specs.declared.request.RequestFault.TheVariants as faults
 use Rattle.pvd_request.specs.declared.request.Root.TheVariants as roots
-use Rattle.chan_table.specs.Tables.{limit}
+use Rattle.chan_table.specs.Tables.{Tables, limit, Refuses}
+use Rattle.chan_table.specs.declared.answer.TableAnswer.{TableAnswer}
+use Rattle.chan_table.specs.declared.answer.TableAnswer.TheVariants as places
 use Rattle.chan_table.specs.declared.ask.AskKind.{AskKind}
 use Rattle.desk_api.specs.History.{IsLegal}
 use Rattle.desk_api.specs.Types.{type_of}
@@ -35,7 +37,7 @@ use Rattle.srv_session.specs.State.{State, Requests, is_full}
 use Rattle.srv_session.specs.Replies.{refused}
 use Rattle.srv_session.specs.Tasks.{Task, refuse, fault_text, beginning, beginning_as}
 use Rattle.srv_session.specs.Calls.{Takes}
-use Rattle.srv_session.specs.Views.{state_of, output_of, show, RefusesFault}
+use Rattle.srv_session.specs.Views.{state_of, output_of, show, RefusesFault, RefusesPlace}
 use Rattle.srv_session.specs.declared.session.Session.{Session}
 use Rattle.srv_session.proofs.Rows.{gave_up}
 
@@ -92,6 +94,18 @@ module _ (site : SiteData) (s : State) (kind : AskKind) (req sub sid : ℕ) (v :
     pub may_begin : get s.requests req ≡ None → len s.requests < limit → beginning site s kind req sub sid v o ≡ others
     may_begin none few =
         let test : is_full s.requests ≡ false = grind (arith, nat_tests) in free none ∙ ap (λ (b : Bool). cond b too_many others) test
+
+    -- there is no place for it
+    pub place_refused : (old new : Session) (seat : Seat) → IsLegal seat.seen → (moment : Moment) (answer : TableAnswer) (t : Tables Channel (Unit {0})) (result : Result (Unit {0}) NoMemory) → s.requests ≡ t.asks
+        → Refuses t req answer → RefusesPlace old new kind req sub answer result → Takes (show seat old) (show seat new) moment (beginning site s kind req sub sid v o) result
+    place_refused old new seat legal moment places.InUse t result same some f =
+        subst (λ (x : Task). Takes (show seat old) (show seat new) moment x result) (sym (id_in_use (subst (λ (r : Requests). IsSome (get r req)) (sym same) some))) (f seat legal moment)
+    place_refused old new seat legal moment (places.Full most) t result same full f =
+        subst (λ (x : Task). Takes (show seat old) (show seat new) moment x result)
+        (sym (are_too_many (ap (λ (r : Requests). get r req) same ∙ full.0) (ap (λ (r : Requests). len r) same ∙ full.1.full))) (f seat legal moment)
+    place_refused old new seat legal moment places.NoMemory t (Ok u) same short f = absurd f
+    place_refused old new seat legal moment places.NoMemory t (Err e) same short f =
+        gave_up seat moment (state_of old) (state_of new) (output_of old) (output_of new) (beginning site s kind req sub sid v o) (Err e) legal refl f
 
 -- What a message brings fits.
 

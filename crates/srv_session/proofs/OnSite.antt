@@ -1,7 +1,7 @@
 -- A session stays one of its site.
 use Rattle.std.proofs.Common.{◌≡◌, ◌≢◌, ◌==◌, ℕ, Bool, true, false, cond, List, [], ◌∷◌, Option, None, Some, Result, Ok, Err, inl, inr, refl, sym, ◌∙◌, ap, subst, arith}
 use Rattle.std.specs.Prelude.{◌⊎◌, IsTrue, option_map, bytes_eq, codes}
-use Rattle.std.specs.FinMap.{get as at, insert, remove, contains_key}
+use Rattle.std.specs.FinMap.{get as at, insert, remove, contains_key, get-empty}
 use Rattle.std.specs.FinSet.{FinSet}
 use Rattle.std.specs.Ordering.{nat_cmp}
 use Rattle.std.proofs.lemmas.Bool.{false≢true}
@@ -10,6 +10,7 @@ use Rattle.std.proofs.lemmas.Option.{none-some}
 use Rattle.pvd_value.specs.Data.{Data}
 use Rattle.pvd_desc.specs.Types.{Types}
 use Rattle.pvd_codec.specs.Reading.{Read, State as Source, part_at}
+use Rattle.pva_wire.specs.declared.order.Order.{Order}
 use Rattle.pva_frames.specs.declared.event.Whole.{Whole}
 use Rattle.pva_frames.specs.declared.event.Event.{Event}
 use Rattle.pva_frames.specs.declared.event.Event.TheVariants.{Message, Control}
@@ -31,7 +32,7 @@ use Rattle.desk_api.specs.Types.{type_of}
 use Rattle.desk_api.specs.declared.channel.Channel.{Channel}
 use Rattle.desk_api.specs.declared.history.SiteData.{SiteData}
 use Rattle.desk_api.specs.declared.mark.Mark.{Mark}
-use Rattle.srv_session.specs.State.{State, Channels, Requests, Asked, channel_at, is_full, is_on, is_open, least_free, without_channel, request_on}
+use Rattle.srv_session.specs.State.{State, Channels, Requests, Asked, channel_at, is_full, is_on, is_open, least_free, without_channel, opening}
 use Rattle.srv_session.specs.Tasks.{Task, pass_over, echo_control, refuse, validate, echo, create, destroy_channel, begin, get, put, destroy_request, Hearing, asks, not_built, unreadable}
 use Rattle.srv_session.specs.Tasks.{heard, heard_control, validated_by, beginning, beginning_as, found_for, in_phase, getting, asked_get, heard_part, heard_unread, heard_putting, heard_put, asked_end, asked_request_end, heard_message, heard_read, heard_whole, is_heard}
 use Rattle.srv_session.specs.Rows.{opened, all_opened, ask_of, behind, after_task}
@@ -269,3 +270,10 @@ hearing_on_site site s (unreadable fault) marks p ok = ok
 
 pub event_on_site : (site : SiteData) (s : State) (e : Event) (marks : List Mark) → IsOf site s → IsOf site (after_event site s e marks)
 event_on_site site s e marks ok = hearing_on_site site s (heard site s e) marks (heard_so site s e) ok
+
+-- At first there are no channels and no requests.
+pub opening_on_site : (site : SiteData) (order : Order) → IsOf site (opening order)
+opening_on_site site order = record {
+  channels = λ sid channel is. absurd (none-some channel (sym (ap (option_map (λ x. x.1)) (get-empty nat_cmp sid)) ∙ is));
+  requests = λ req ask is. absurd (none-some ask (sym (get-empty nat_cmp req) ∙ is));
+}

@@ -1,5 +1,5 @@
 -- What contracts see of a session.
-use Rattle.std.specs.Prelude.{◌≡◌, ℕ, List, ◌++◌, drop, Option, Some, option_map, Result, Ok, Err}
+use Rattle.std.specs.Prelude.{◌≡◌, ℕ, List, ◌++◌, drop, Option, Some, option_map, Result, Ok, Err, codes}
 use Rattle.std.specs.FinMap.{get as at}
 use Rattle.std.specs.FinSet.{FinSet}
 use Rattle.std.specs.Ordering.{nat_cmp}
@@ -20,6 +20,8 @@ use Rattle.pvd_value.specs.Data.{Data}
 use Rattle.pvd_request.specs.declared.request.Request.{Request as Wanted}
 use Rattle.pvd_request.specs.declared.request.RequestFault.{RequestFault}
 use Rattle.pvd_request.specs.declared.request.RequestFault.TheVariants as faults
+use Rattle.chan_table.specs.declared.answer.TableAnswer.{TableAnswer}
+use Rattle.chan_table.specs.declared.answer.TableAnswer.TheVariants as places
 use Rattle.chan_table.specs.declared.ask.AskKind.{AskKind}
 use Rattle.desk_api.specs.Types.{type_of, HoldsLeaves}
 use Rattle.desk_api.specs.declared.put.Done.{Done}
@@ -114,6 +116,15 @@ RefusesFault old new kind req sub faults.NoMemory (Ok u) = ⊥
 RefusesFault old new kind req sub faults.NoMemory (Err e) = output_of new ≡ output_of old
 RefusesFault old new kind req sub fault result =
     AnswersAlone old new (refuse (refused kind req sub (fault_text fault))) result
+
+-- There is no place for a request, for this reason.
+abbrev pub RefusesPlace : Session → Session → AskKind → ℕ → ℕ → TableAnswer → Result (Unit {0}) NoMemory → Type 0
+RefusesPlace old new kind req sub places.InUse result =
+    AnswersAlone old new (refuse (refused kind req sub (codes "request id in use"))) result
+RefusesPlace old new kind req sub (places.Full limit) result =
+    AnswersAlone old new (refuse (refused kind req sub (codes "too many requests"))) result
+RefusesPlace old new kind req sub places.NoMemory (Ok u) = ⊥
+RefusesPlace old new kind req sub places.NoMemory (Err e) = output_of new ≡ output_of old
 
 -- What the request that was found gets.
 abbrev pub GetsFrom : Seat → Seat → Session → Session → AskKind → ℕ → ℕ → ℕ → Found → Result (Unit {0}) NoMemory → Type 0

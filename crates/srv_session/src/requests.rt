@@ -34,7 +34,7 @@ impl Session {
     ghost use Rattle.srv_session.specs.Rows.{behind};
     ghost use Rattle.srv_session.specs.Tasks as task;
     ghost use Rattle.srv_session.specs.Tasks.{beginning, beginning_as, found_for, asked_request_end};
-    ghost use Rattle.srv_session.specs.Views.{state_of, output_of, AnswersAlone, AnswersBeside, BeginsOn, RefusesFault, IsFound};
+    ghost use Rattle.srv_session.specs.Views.{state_of, output_of, AnswersAlone, AnswersBeside, BeginsOn, RefusesFault, RefusesPlace, IsFound};
 
     /// Says why a message about a request is refused.
     pub(crate) fn refuse(
@@ -72,9 +72,25 @@ impl Session {
         };
         match self.table.reserve(req) {
             Ok(()) => self.begin_on(alloc, kind, sid, channel, req, sub, request, desk),
-            Err(TableAnswer::InUse) => self.refuse(kind, req, sub, "request id in use"),
-            Err(TableAnswer::Full(_)) => self.refuse(kind, req, sub, "too many requests"),
-            Err(TableAnswer::NoMemory) => Err(NoMemory),
+            Err(answer) => self.refuse_place(kind, req, sub, answer),
+        }
+    }
+
+    /// Says why there is no place for a request.
+    fn refuse_place(
+        &mut self,
+        kind: AskKind,
+        req: u32,
+        sub: u8,
+        answer: TableAnswer,
+    ) -> Result<(), NoMemory>
+        requires { IsServed kind }
+        ensures { RefusesPlace self.old self.new kind req sub answer result }
+    {
+        match answer {
+            TableAnswer::InUse => self.refuse(kind, req, sub, "request id in use"),
+            TableAnswer::Full(_) => self.refuse(kind, req, sub, "too many requests"),
+            TableAnswer::NoMemory => Err(NoMemory),
         }
     }
 

@@ -6,7 +6,7 @@ use Rattle.desk_api.specs.declared.channel.Channel.{Channel}
 use Rattle.srv_session.specs.State.{State, channel_at}
 use Rattle.srv_session.specs.Tasks.{beginning}
 use Rattle.srv_session.specs.Views.{state_of, output_of, show}
-use Rattle.srv_session.proofs.Beginning.{unknown_channel, id_in_use, are_too_many, may_begin}
+use Rattle.srv_session.proofs.Beginning.{unknown_channel, may_begin, place_refused}
 use Rattle.srv_session.proofs.Rows.{as_task, as_old, gave_up}
 use Rattle.srv_session.proofs.session.Session.begin.Goals as goal
 
@@ -35,25 +35,15 @@ returns-in-Ok g c legal moment =
     (subst (λ (t : Tables Channel (Unit {0})). len t.asks < limit) kept ready.few))
     (as_old seat s (after c.reserve.new.self) (output_of c.args.self.now) (output_of c.args.self.now) new moment _ c.begin_on.result (ap after kept) refl (c.begin_on.ensures legal moment))
 
-pub returns-in-Err-InUse : goal.returns-in-Err-InUse
-returns-in-Err-InUse g c legal moment =
+pub returns-in-Err : goal.returns-in-Err
+returns-in-Err g c legal moment =
     let seat = g.D.Desk.seat c.args.desk.now in
+    let site = seat.seen.base.site in
     let s = state_of c.args.self.now in
+    let v = valued_view c.args.request.now in
     let after : Tables Channel (Unit {0}) → State = λ (t : Tables Channel (Unit {0})). record s { channels = t.channels; requests = t.asks } in
-    let new = show seat c.refuse-in-Err-InUse.new.self in
-    as_task (show seat c.args.self.now) new moment _ _ c.refuse-in-Err-InUse.result
-    (id_in_use seat.seen.base.site s c.args.kind c.args.req c.args.sub c.args.sid (valued_view c.args.request.now) (channel_at s.channels c.args.sid) c.in-Some.channel (sym c.channel_at.ensures ∙ c.in-Some.is)
-    (c.in-Err-InUse.ensures {u = tt}).refused)
-    (as_old seat s (after c.reserve.new.self) (output_of c.args.self.now) (output_of c.args.self.now) new moment _ c.refuse-in-Err-InUse.result (ap after c.reserve.ensures.kept) refl (c.refuse-in-Err-InUse.ensures seat legal moment))
-
-pub returns-in-Err-Full : goal.returns-in-Err-Full
-returns-in-Err-Full g c legal moment =
-    let seat = g.D.Desk.seat c.args.desk.now in
-    let s = state_of c.args.self.now in
-    let after : Tables Channel (Unit {0}) → State = λ (t : Tables Channel (Unit {0})). record s { channels = t.channels; requests = t.asks } in
-    let new = show seat c.refuse-in-Err-Full.new.self in
-    let refused = (c.in-Err-Full.ensures {u = tt}).refused in
-    as_task (show seat c.args.self.now) new moment _ _ c.refuse-in-Err-Full.result
-    (are_too_many seat.seen.base.site s c.args.kind c.args.req c.args.sub c.args.sid (valued_view c.args.request.now) (channel_at s.channels c.args.sid) c.in-Some.channel (sym c.channel_at.ensures ∙ c.in-Some.is)
-    refused.0 refused.1.full)
-    (as_old seat s (after c.reserve.new.self) (output_of c.args.self.now) (output_of c.args.self.now) new moment _ c.refuse-in-Err-Full.result (ap after c.reserve.ensures.kept) refl (c.refuse-in-Err-Full.ensures seat legal moment))
+    let new = show seat c.refuse_place.new.self in
+    as_old seat s (after c.reserve.new.self) (output_of c.args.self.now) (output_of c.args.self.now) new moment (beginning site s c.args.kind c.args.req c.args.sub c.args.sid v (channel_at s.channels c.args.sid)) c.refuse_place.result
+    (ap after c.reserve.ensures.kept) refl
+    (place_refused site s c.args.kind c.args.req c.args.sub c.args.sid v (channel_at s.channels c.args.sid) c.in-Some.channel (sym c.channel_at.ensures ∙ c.in-Some.is)
+    (record c.args.self.now { table = c.reserve.new.self }) c.refuse_place.new.self seat legal moment c.in-Err.answer c.args.self.now.table c.refuse_place.result refl (c.in-Err.ensures {u = tt}).refused c.refuse_place.ensures)
