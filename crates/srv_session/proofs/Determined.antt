@@ -124,9 +124,6 @@ abbrev status_in : Status → Option Status → Status
 status_in d None = d
 status_in d (Some s) = s
 
-
-
-
 outcome : (a : calls.Asked) (answer : Result Done PutAnswer) (marks : List Mark) (status : Status) → ArePut a answer marks → put_status answer ≡ Some status → Outcome a marks status
 outcome a (Ok d) marks status p s =
     let all = added_entries a p.entries marks p.added in done p.entries p.asked all.0 all.1 (sym (ap (status_in status) s))

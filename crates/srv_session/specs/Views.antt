@@ -145,7 +145,7 @@ abbrev pub PutsPart : Seat → Seat → Session → Session → Moment → Whole
 PutsPart here there old new moment whole sid req sub found part result =
     (ask : Asked) → request_on (state_of old) sid req ≡ Some (ask, found.channel) → found.atomic ≡ ask.atomic
     → HeedsHearing here there old new moment
-        (heard_unread here.seen.base.site whole (state_of old).types req sub (ask, found.channel) part) result
+    (heard_unread here.seen.base.site whole (state_of old).types req sub (ask, found.channel) part) result
 
 -- What is said to a client whose put had this answer, where memory didn't run out.
 abbrev pub IsProblem : Result Done PutAnswer → Result (Option (Bor (List ℕ))) NoMemory → Type 0

@@ -156,7 +156,9 @@ impl Session {
                 sub,
                 request,
                 part,
-            } => self.answer_put(alloc, message, *sid, *req, *sub, request, part, desk, moment),
+            } => self.answer_put(
+                alloc, message, *sid, *req, *sub, request, part, desk, moment,
+            ),
             ToServer::DestroyRequest { sid, req } => stopping(self.destroy_request(*sid, *req)),
             ToServer::Cancel { .. } => stopping(self.pass_over()),
             ToServer::Message { .. } => stopping(self.pass_over()),

@@ -6,6 +6,7 @@ ghost use Rattle.srv_session.specs.State.{buffer_for, segment_for, opening};
 ghost use Rattle.pva_messages.specs.Rows.{byte_of};
 ghost use Rattle.srv_session.specs.Replies.{methods, greeting, command_of_kind};
 
+use crate::writing::{write_answer, write_created, write_destroyed, write_validated, write_value};
 use chan_table::{AskKind, Table};
 use desk_api::Channel;
 use pva_frames::{write_control, write_message};
@@ -15,10 +16,6 @@ use pvd_desc::Registry;
 use pvd_type::{Name, NoMemory, PvType};
 use pvd_value::PvValue;
 use std::alloc::Global;
-
-use crate::writing::{
-    write_answer, write_created, write_destroyed, write_validated, write_value,
-};
 
 /// The control command that tells the byte order to use (pvAccess Protocol Specification, "Message Header").
 const SET_BYTE_ORDER: u8 = 2;

@@ -40,11 +40,7 @@ fn write_error(out: &mut Vec<u8>, order: Order, text: &str) -> Result<(), NoMemo
 }
 
 /// Appends how a message went: OK, or ERROR with the text of the problem.
-fn write_outcome(
-    out: &mut Vec<u8>,
-    order: Order,
-    problem: Option<&str>,
-) -> Result<(), NoMemory>
+fn write_outcome(out: &mut Vec<u8>, order: Order, problem: Option<&str>) -> Result<(), NoMemory>
     ensures { OnOk result (out.new.items ≡ out.old.items ++ canonical_status order (outcome (option_map (λ t. t.now) problem.entry))) }
 {
     match problem {

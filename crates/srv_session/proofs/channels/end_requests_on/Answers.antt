@@ -16,10 +16,11 @@ pub loop-ended-preserved : goal.loop-ended-preserved
 loop-ended-preserved c =
     let taken = c.in-Some.ensures {u = tt} in
     let before : Requests = c.loop-ended.table.asks in
-    let id = c.in-Some._ended.0 in
-    (ap (λ (t : Tables Channel (Unit {0})). t.channels) taken.rest ∙ c.loop-ended.invariant.0,
-     ap (λ (t : Tables Channel (Unit {0})). without_channel c.args.sid t.asks) taken.rest
-        ∙ taken_first c.args.sid before id (sid_is_on before c.args.sid id taken.least.on) ∙ c.loop-ended.invariant.1)
+    let id = c.in-Some._ended.0 in (
+      ap (λ (t : Tables Channel (Unit {0})). t.channels) taken.rest ∙ c.loop-ended.invariant.0,
+      ap (λ (t : Tables Channel (Unit {0})). without_channel c.args.sid t.asks) taken.rest
+          ∙ taken_first c.args.sid before id (sid_is_on before c.args.sid id taken.least.on) ∙ c.loop-ended.invariant.1,
+    )
 
 pub returns-clause-requests : goal.returns-clause-requests
 returns-clause-requests c =

@@ -40,7 +40,7 @@ returns-then-asks_back g c =
     let new = show (g.D.Desk.seat c.get.new.desk) c.get.new.self in
     heeds_so old new c.args.moment (cond (begins c.args.sub) begun (cond (asks_back c.args.sub) (asks task s.types) puts)) (asks task s.types) c.stopping-then-asks_back.result
     (ap (λ (b : Bool). cond b begun (cond (asks_back c.args.sub) (asks task s.types) puts)) (sym c.begins.ensures ∙ c.if-begins.false)
-        ∙ ap (λ (b : Bool). cond b (asks task s.types) puts) (sym c.asks_back.ensures ∙ c.if-asks_back.true))
+    ∙ ap (λ (b : Bool). cond b (asks task s.types) puts) (sym c.asks_back.ensures ∙ c.if-asks_back.true))
     (heeds_as old new c.args.moment task c.get.result c.stopping-then-asks_back.result c.stopping-then-asks_back.ensures (c.get.ensures c.args.moment))
 
 pub put_part-requires-clause-there : goal.put_part-requires-clause-there
@@ -60,8 +60,8 @@ returns-in-Ok g c =
     heeds_so (show seat c.args.self.now) (show (g.D.Desk.seat c.put_part.new.desk) c.put_part.new.self) c.args.moment (cond (begins c.args.sub) begun (cond (asks_back c.args.sub) gets puts))
     (heard_unread site whole s.types c.args.req c.args.sub (h.ask, c.in-Ok.found.channel) part) c.put_part.result
     (ap (λ (b : Bool). cond b begun (cond (asks_back c.args.sub) gets puts)) (sym c.begins.ensures ∙ c.if-begins.false)
-        ∙ ap (λ (b : Bool). cond b gets puts) (sym c.asks_back.ensures ∙ c.if-asks_back.false)
-        ∙ ap (heard_putting site whole s.types c.args.req c.args.sub part) h.phase)
+    ∙ ap (λ (b : Bool). cond b gets puts) (sym c.asks_back.ensures ∙ c.if-asks_back.false)
+    ∙ ap (heard_putting site whole s.types c.args.req c.args.sub part) h.phase)
     (c.put_part.ensures h.ask h.here h.atomic)
 
 pub returns-in-Err : goal.returns-in-Err
@@ -79,6 +79,6 @@ returns-in-Err g c =
     let task = refuse (refused kinds.Put c.args.req c.args.sub c.in-Err.text.now) in
     heeds_so old new c.args.moment (cond (begins c.args.sub) begun (cond (asks_back c.args.sub) gets puts)) (asks task s.types) c.stopping-in-Err.result
     (ap (λ (b : Bool). cond b begun (cond (asks_back c.args.sub) gets puts)) (sym c.begins.ensures ∙ c.if-begins.false)
-        ∙ ap (λ (b : Bool). cond b gets puts) (sym c.asks_back.ensures ∙ c.if-asks_back.false)
-        ∙ ap (heard_putting site whole s.types c.args.req c.args.sub part) (not_here s kinds.Put c.args.sid c.args.req c.in-Err.text (c.in-Err.ensures {u = tt})))
+    ∙ ap (λ (b : Bool). cond b gets puts) (sym c.asks_back.ensures ∙ c.if-asks_back.false)
+    ∙ ap (heard_putting site whole s.types c.args.req c.args.sub part) (not_here s kinds.Put c.args.sid c.args.req c.in-Err.text (c.in-Err.ensures {u = tt})))
     (heeds_as old new c.args.moment task c.refuse.result c.stopping-in-Err.result c.stopping-in-Err.ensures (c.refuse.ensures seat c.has_legal_history.ensures c.args.moment))

@@ -37,13 +37,13 @@ returns c seat legal moment =
     let u = c.remove_channel.new.self in
     let after : Tables Channel (Unit {0}) → State = λ (t : Tables Channel (Unit {0})). record m { channels = t.channels; requests = t.asks } in
     let here : is_open s.channels c.args.sid c.args.cid ≡ true =
-        sym (open_test c.args.self.now.table c.args.sid c.args.cid) ∙ sym c.has_channel.ensures ∙ c.if-not-has_channel.false in
+    sym (open_test c.args.self.now.table c.args.sid c.args.cid) ∙ sym c.has_channel.ensures ∙ c.if-not-has_channel.false in
     let still : is_open t.channels c.args.sid c.args.cid ≡ true =
-        ap (λ (z : Channels). is_open z c.args.sid c.args.cid) (c.end_requests_on.ensures.channels ∙ ap (λ (z : State). z.channels) said_.state) ∙ here in
+    ap (λ (z : Channels). is_open z c.args.sid c.args.cid) (c.end_requests_on.ensures.channels ∙ ap (λ (z : State). z.channels) said_.state) ∙ here in
     let out = taken_out t u c.args.sid c.args.cid c.remove_channel.result c.remove_channel.ensures.value still c.remove_channel.ensures.removed in
     as_answered (end_task s c.args.sid c.args.cid _ here)
     (said_one seat moment s (after u) (output_of c.args.self.now) (output_of c.say_destroyed.new.self) (destroy_channel c.args.sid c.args.cid) (Ok tt) (said (reply.channel_destroyed c.args.sid c.args.cid)) legal (says_this _)
     (ap after out
-        ∙ (λ i. record m { channels = remove (c.end_requests_on.ensures.channels i) c.args.sid; requests = c.end_requests_on.ensures.requests i })
-        ∙ ap (λ (z : State). record z { channels = remove z.channels c.args.sid; requests = without_channel c.args.sid z.requests }) said_.state)
+    ∙ (λ i. record m { channels = remove (c.end_requests_on.ensures.channels i) c.args.sid; requests = c.end_requests_on.ensures.requests i })
+    ∙ ap (λ (z : State). record z { channels = remove z.channels c.args.sid; requests = without_channel c.args.sid z.requests }) said_.state)
     said_.ok tt)

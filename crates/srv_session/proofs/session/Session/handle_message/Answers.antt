@@ -17,9 +17,9 @@ returns-then-message-eq-ECHO g c =
     let old = show seat c.args.self.now in
     let new = show seat c.echo.new.self in
     let handles =
-        heeds_so old new c.args.moment (heard_whole seat.seen.base.site s whole) (asks (echo whole.payload) s.types) c.stopping.result
-        (heard_echo seat.seen.base.site s whole c.if-message-eq-ECHO.true)
-        (heeds_as old new c.args.moment (echo whole.payload) c.echo.result c.stopping.result c.stopping.ensures (c.echo.ensures seat c.has_legal_history.ensures c.args.moment)) in
+    heeds_so old new c.args.moment (heard_whole seat.seen.base.site s whole) (asks (echo whole.payload) s.types) c.stopping.result
+    (heard_echo seat.seen.base.site s whole c.if-message-eq-ECHO.true)
+    (heeds_as old new c.args.moment (echo whole.payload) c.echo.result c.stopping.result c.stopping.ensures (c.echo.ensures seat c.has_legal_history.ensures c.args.moment)) in
     record { handles = handles; site = handled_on_site old new c.args.moment (Message whole) c.stopping.result handles c.requires }
 
 pub returns-then-not-is_heard : goal.returns-then-not-is_heard
@@ -30,9 +30,9 @@ returns-then-not-is_heard g c =
     let old = show seat c.args.self.now in
     let new = show seat c.pass_over.new.self in
     let handles =
-        heeds_so old new c.args.moment (heard_whole seat.seen.base.site s whole) (asks pass_over s.types) c.stopping-then-not-is_heard.result
-        (heard_early seat.seen.base.site s whole (sym c.is_heard.ensures ∙ c.if-not-is_heard.true))
-        (heeds_as old new c.args.moment pass_over c.pass_over.result c.stopping-then-not-is_heard.result c.stopping-then-not-is_heard.ensures (c.pass_over.ensures seat c.has_legal_history.ensures c.args.moment)) in
+    heeds_so old new c.args.moment (heard_whole seat.seen.base.site s whole) (asks pass_over s.types) c.stopping-then-not-is_heard.result
+    (heard_early seat.seen.base.site s whole (sym c.is_heard.ensures ∙ c.if-not-is_heard.true))
+    (heeds_as old new c.args.moment pass_over c.pass_over.result c.stopping-then-not-is_heard.result c.stopping-then-not-is_heard.ensures (c.pass_over.ensures seat c.has_legal_history.ensures c.args.moment)) in
     record { handles = handles; site = handled_on_site old new c.args.moment (Message whole) c.stopping-then-not-is_heard.result handles c.requires }
 
 pub returns-in_err-request : goal.returns-in_err-request
@@ -44,8 +44,8 @@ returns-in_err-request g c =
     let fault = c.in_err-request.field-0.0 in
     let exact = (c.in_err-request.ensures {u = tt}).exact in
     let handles =
-        not_heard seat s t (output_of c.args.self.now) (output_of c.args.self.now) c.args.moment (heard_whole seat.seen.base.site s whole) (stop_by fault) c.from_residual.result c.from_residual.ensures.1
-        (stops_unread seat.seen.base.site s whole (sym c.is_heard.ensures ∙ c.if-not-is_heard.false) fault exact.0 exact.1) c.has_legal_history.ensures refl in
+    not_heard seat s t (output_of c.args.self.now) (output_of c.args.self.now) c.args.moment (heard_whole seat.seen.base.site s whole) (stop_by fault) c.from_residual.result c.from_residual.ensures.1
+    (stops_unread seat.seen.base.site s whole (sym c.is_heard.ensures ∙ c.if-not-is_heard.false) fault exact.0 exact.1) c.has_legal_history.ensures refl in
     record {
       handles = handles;
       site = handled_on_site (show seat c.args.self.now) (record { seat = seat; state = t; output = output_of c.args.self.now }) c.args.moment (Message whole) c.from_residual.result handles c.requires;
@@ -64,6 +64,6 @@ returns g c =
     let new = show (g.D.Desk.seat c.handle_request.new.desk) c.handle_request.new.self in
     let exact = (c.in_ok-request.ensures {u = tt}).exact in
     let handles =
-        heeds_read seat s (knowing s known) (output_of c.args.self.now) (output_of c.args.self.now) new c.args.moment whole known (request_view c.in_ok-request.request) exact.0 c.handle_request.result
-        (sym c.is_heard.ensures ∙ c.if-not-is_heard.false) exact.1 refl refl c.handle_request.ensures in
+    heeds_read seat s (knowing s known) (output_of c.args.self.now) (output_of c.args.self.now) new c.args.moment whole known (request_view c.in_ok-request.request) exact.0 c.handle_request.result
+    (sym c.is_heard.ensures ∙ c.if-not-is_heard.false) exact.1 refl refl c.handle_request.ensures in
     record { handles = handles; site = handled_on_site (show seat c.args.self.now) new c.args.moment (Message whole) c.handle_request.result handles c.requires }

@@ -113,7 +113,7 @@ returns-in-Get g c =
     let new = show (g.D.Desk.seat c.answer_get.new.desk) c.answer_get.new.self in
     let task = asked_get seat.seen.base.site s c.in-Get.sid c.in-Get.req c.in-Get.sub (valued_view c.in-Get.request) in
     heeds_so old new c.args.moment (hears c.args.request.now) (asks task s.types) c.stopping-in-Get.result (ap hears c.in-Get.is)
-    (heeds_as old new c.args.moment task c.answer_get.result c.stopping-in-Get.result c.stopping-in-Get.ensures (c.answer_get.ensures  c.args.moment))
+    (heeds_as old new c.args.moment task c.answer_get.result c.stopping-in-Get.result c.stopping-in-Get.ensures (c.answer_get.ensures c.args.moment))
 
 pub returns-in-Create : goal.returns-in-Create
 returns-in-Create g c =

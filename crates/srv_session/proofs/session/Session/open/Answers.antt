@@ -21,7 +21,7 @@ returns-in-Ok-clause-state g c =
     let after : Tables Channel (Unit {0}) → State = λ (t : Tables Channel (Unit {0})). record s { channels = t.channels; requests = t.asks } in
     on_ok c.say_created-in-Ok.result
     (c.say_created-in-Ok.ensures.state ∙ ap after added.ok
-        ∙ ap (λ (x : Channels). record s { channels = x }) (opens s.channels c.args.cid c.in-Some.channel (channel_named site c.args.name.now) is c.in-Ok.sid added.few added.least))
+    ∙ ap (λ (x : Channels). record s { channels = x }) (opens s.channels c.args.cid c.in-Some.channel (channel_named site c.args.name.now) is c.in-Ok.sid added.few added.least))
 
 pub returns-in-Ok-clause-ok : goal.returns-in-Ok-clause-ok
 returns-in-Ok-clause-ok g c =

@@ -9,8 +9,8 @@ use Rattle.srv_session.proofs.session.Session.refuse_option.Goals as goal
 pub returns : goal.returns
 returns c seat legal moment =
     let text : c.deref.result.now ≡ codes "bad option " ++ c.args.option.now =
-        c.deref.ensures ∙ (c.in_ok-push_str-2.ensures {u = tt}).bytes
-        ∙ ap (λ (xs : List ℕ). xs ++ c.as_str.result.now) ((c.in_ok-push_str.ensures {u = tt}).bytes ∙ ap (λ (xs : List ℕ). xs ++ codes "bad option ") c.new-text.ensures.bytes)
-        ∙ ap (λ (xs : List ℕ). codes "bad option " ++ xs) c.as_str.ensures.text in
+    c.deref.ensures ∙ (c.in_ok-push_str-2.ensures {u = tt}).bytes
+    ∙ ap (λ (xs : List ℕ). xs ++ c.as_str.result.now) ((c.in_ok-push_str.ensures {u = tt}).bytes ∙ ap (λ (xs : List ℕ). xs ++ codes "bad option ") c.new-text.ensures.bytes)
+    ∙ ap (λ (xs : List ℕ). codes "bad option " ++ xs) c.as_str.ensures.text in
     as_task (show seat c.args.self.now) (show seat c.refuse.new.self) moment (refuse (refused c.args.kind c.args.req c.args.sub c.deref.result.now)) _ c.refuse.result
     (ap (λ (xs : List ℕ). refuse (refused c.args.kind c.args.req c.args.sub xs)) (sym text)) (c.refuse.ensures seat legal moment)

@@ -24,7 +24,7 @@ pub returns-in_ok-host-in-ca : goal.returns-in_ok-host-in-ca
 returns-in_ok-host-in-ca c seat legal moment =
     as_task (show seat c.args.self.now) (show seat c.accept-in-ca.new.self) moment (validate c.args.buffer c.args.registry c.in_ok-user-in-ca.user c.in_ok-host-in-ca.host) _ c.accept-in-ca.result
     (by_ca c.args.buffer c.args.registry c.args.method.now (valued_view c.args.argument.now) (sym c.as_str.ensures.text ∙ c.in-ca.is)
-        ∙ (λ i. validate c.args.buffer c.args.registry (sym (c.in_ok-user-in-ca.ensures {u = tt}) i) (sym (c.in_ok-host-in-ca.ensures {u = tt}) i)))
+    ∙ (λ i. validate c.args.buffer c.args.registry (sym (c.in_ok-user-in-ca.ensures {u = tt}) i) (sym (c.in_ok-host-in-ca.ensures {u = tt}) i)))
     (c.accept-in-ca.ensures seat legal moment)
 
 pub returns-in_default : goal.returns-in_default
