@@ -20,8 +20,8 @@ use Rattle.srv_session.specs.Steps.{IsAnswer, PartOf, after_hearing}
 use Rattle.srv_session.specs.declared.stop.SessionStop.{SessionStop}
 use Rattle.srv_session.specs.declared.stop.SessionStop.TheVariants as stops
 
--- A session is one of a site where its channels are the site's, and its requests are on open channels, each for at least one
--- leaf of its channel.
+-- A session is one of a site where its channels are the site's, and its requests are on open channels, each for at
+-- least one leaf of its channel.
 
 -- it has selected leaves of the channel, at least one
 pub record Selects (site : SiteData) (channel : Channel) (ask : Asked) : Type 0 where
@@ -34,7 +34,8 @@ pub record IsAskOf (site : SiteData) (channels : Channels) (ask : Asked) : Type 
   pub selects : Selects site channel ask
 
 pub record IsOf (site : SiteData) (s : State) : Type 0 where
-  pub channels : (sid : ℕ) (channel : Channel) → channel_at s.channels sid ≡ Some channel → IsTrue (is_channel site channel)
+  pub channels : (sid : ℕ) (channel : Channel) → channel_at s.channels sid ≡ Some channel
+      → IsTrue (is_channel site channel)
   pub requests : (req : ℕ) (ask : Asked) → at s.requests req ≡ Some ask → IsAskOf site s.channels ask
 
 -- what a session and its desk show

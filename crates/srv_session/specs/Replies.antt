@@ -58,8 +58,8 @@ abbrev pub outcome : Option (List ℕ) → Status
 outcome None = good
 outcome (Some text) = error text
 
--- A reply to a message about a request: its kind, the id of the request and the subcommand are those of the message; the
--- status; the type, where the request has begun; the part of a value. Only gets and puts are replied to so far.
+-- A reply to a message about a request: its kind, the id of the request and the subcommand are those of the message;
+-- the status; the type, where the request has begun; the part of a value. Only gets and puts are replied to so far.
 
 abbrev pub IsServed : AskKind → Type 0
 IsServed kinds.Get = Unit {0}

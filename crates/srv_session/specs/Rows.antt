@@ -1,5 +1,5 @@
--- What a session says to what it is asked: one row for each task, which names the marks of its desk and the replies; and
--- the state that it leaves (pvAccess Protocol Specification, "Application Messages").
+-- What a session says to what it is asked: one row for each task, which names the marks of its desk and the replies;
+-- and the state that it leaves (pvAccess Protocol Specification, "Application Messages").
 use Rattle.std.specs.Prelude.{◌≡◌, ℕ, true, false, List, [], ◌∷◌, Option, None, Some, Result, Ok, Err, codes, if◌then◌else◌}
 use Rattle.std.specs.FinMap.{insert, remove}
 use Rattle.std.specs.FinSet.{FinSet}
@@ -124,7 +124,8 @@ NoPart marks = marks ≡ []
 
 abbrev pub PutPart : SiteData → Asked → Channel → FinSet nat_cmp → Data → List Mark → Type 0
 PutPart site ask channel mask value marks =
-    (moment : Moment) × (answer : Result Done PutAnswer) × ArePut (asked site ask channel mask value moment) answer marks
+    (moment : Moment) × (answer : Result Done PutAnswer)
+    × ArePut (asked site ask channel mask value moment) answer marks
 
 abbrev pub Part : SiteData → State → Task → List Mark → Type 0
 Part site s (get kind req sub ask channel) = IsPartOfGet site channel ask.atomic

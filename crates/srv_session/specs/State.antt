@@ -21,9 +21,9 @@ Asked = Ask (Unit {0})
 abbrev pub Requests : Type 0
 Requests = FinMap nat_cmp Asked
 
--- The byte order that it writes in; whether a validation was answered OK, and what the last such one said: the most payload
--- that a frame to the client has, the number of types that the client's registry holds, its user and its host; the types
--- that the client has defined; the channels and the requests.
+-- The byte order that it writes in; whether a validation was answered OK, and what the last such one said: the most
+-- payload that a frame to the client has, the number of types that the client's registry holds, its user and its host;
+-- the types that the client has defined; the channels and the requests.
 pub record State : Type 0 where
   pub order : Order
   pub validated : Bool

@@ -127,7 +127,8 @@ RefusesPlace old new kind req sub places.NoMemory (Ok u) = ⊥
 RefusesPlace old new kind req sub places.NoMemory (Err e) = output_of new ≡ output_of old
 
 -- What the request that was found gets.
-abbrev pub GetsFrom : Seat → Seat → Session → Session → AskKind → ℕ → ℕ → ℕ → Found → Result (Unit {0}) NoMemory → Type 0
+abbrev pub GetsFrom : Seat → Seat → Session → Session → AskKind → ℕ → ℕ → ℕ → Found
+    → Result (Unit {0}) NoMemory → Type 0
 GetsFrom here there old new kind sid req sub found result =
     (ask : Asked) → request_on (state_of old) sid req ≡ Some (ask, found.channel) → found.atomic ≡ ask.atomic
     → AnswersAnytime here there old new (get kind req sub ask found.channel) result
