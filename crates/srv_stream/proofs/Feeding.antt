@@ -36,8 +36,8 @@ pub passed_on_site : {old mid : Seat} {told : Option Moment} {v u : View} {xs : 
 passed_on_site {old} {mid} {told} {v} {u} {xs} a ok =
     subst (λ (z : Base). IsOf z.site u.state) (sym a.adds.grows.base) (subst (IsOf old.seen.base.site) (sym a.state) (steps_on_site old.seen.base.site v.state a.steps ok))
 
-pub handled_on_site : {old new : Shown} {moment : Moment} {e : Event} → Handled old new moment e → IsOf (site_of old) old.state → IsOf (site_of new) new.state
-handled_on_site {old} {new} {moment} {e} x ok =
+pub handled_on_site : {old new : Shown} {moment : Moment} (e : Event) → Handled old new moment e → IsOf (site_of old) old.state → IsOf (site_of new) new.state
+handled_on_site {old} {new} {moment} e x ok =
     let step : Step = record { event = e; marks = x.marks; sent = x.sent } in
     subst (λ (z : Base). IsOf z.site new.state) (sym x.adds.grows.base) (subst (IsOf (site_of old)) (sym x.state) (step_on_site (site_of old) old.state step ok))
 
