@@ -1,4 +1,4 @@
--- What is known of a port over a writer: no drives are told, but the lines that its writer got are, where the writer tells them.
+-- What is known of a port over a writer: it tells no drives, and the lines that its writer got where the writer does.
 use Rattle.std.specs.Prelude.{ℕ, List, [], ◌∷◌, ◌++◌, Option, None}
 use Rattle.pva_outside.specs.Ports.{PortView}
 use Rattle.pva_outside.specs.declared.port.WriterPort.{WriterPort}
