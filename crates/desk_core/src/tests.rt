@@ -74,7 +74,7 @@ fn put_value<D: Desk>(
     ensures { (D.seat desk.new).seen.base ≡ (D.seat desk.old).seen.base }
 {
     match leaves(alloc, desk, value, marked) {
-        Ok(mask) => Ok(desk.put(alloc, RECORD, &mask, value, Moment::new(100, 5))),
+        Ok(mask) => Ok(desk.put(alloc, RECORD, &mask, value, Moment::new(100, 5), None)),
         Err(no_memory) => Err(no_memory),
     }
 }
@@ -137,7 +137,7 @@ fn got<D: Desk>(
     requires { IsTrue (is_channel (D.seat desk.old).seen.base.site RECORD) }
     ensures { (D.seat desk.new).seen.base ≡ (D.seat desk.old).seen.base }
 {
-    match desk.get(alloc, RECORD) {
+    match desk.get(alloc, RECORD, None) {
         Ok(value) => {
             let shown = shown_with(&value, message);
             discard(value);

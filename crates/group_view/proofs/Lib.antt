@@ -1,0 +1,14 @@
+pub mod Walks
+pub mod Viewing
+pub mod Placing
+pub mod Entering
+pub mod Froms
+pub mod Fitting
+pub mod Misplacing
+pub mod Depending
+pub mod Reaching
+pub mod Parting
+pub mod Heads
+pub mod Ready
+pub mod Keeping
+pub mod Putting
