@@ -39,7 +39,7 @@ use Rattle.group_view.specs.Pieces.{piece_tree}
 use Rattle.group_view.specs.declared.piece.Piece.{Piece}
 use Rattle.group_view.specs.declared.piece.Piece.TheVariants as pieces
 use Rattle.group_view.specs.Puts.{Place, place_cmp, placed_by, writing_of, writer_of, with_writer, writers_among, writers, IsWritten}
-use Rattle.group_view.specs.Slots.{Slot, level, Slots, structure_of, slots_of, in_order, entries_of, EachShown, EachOfShown}
+use Rattle.group_view.specs.Slots.{Slot, level, Slots, structure_of, slots_of, slots_to, in_order, entries_of, EachShown, EachOfShown}
 use Rattle.group_view.specs.Types.{slot_tree, group_tree}
 use Rattle.group_view.specs.Views.{slot_shown, slots_shown, group_shown, IsPart, IsReadyUnder, AreReadyUnder, IsReadyFor}
 use Rattle.group_view.specs.Sources.{Source}
@@ -48,6 +48,7 @@ use Rattle.group_view.specs.declared.reach.Reach.{Reach}
 use Rattle.group_view.specs.declared.writer.Writer.{Writer}
 use Rattle.group_view.specs.declared.writer.Writing.{Writing}
 use Rattle.group_view.specs.declared.writer.Writing.TheVariants.{Writes, Processes}
+use Rattle.group_view.proofs.Cutting.{cut, slots_to_is, cut_fault, nothing_cut}
 use Rattle.group_view.proofs.Depending.{at, each_there, length_sources, slots_ready}
 use Rattle.group_view.proofs.Fitting.{slots_fit}
 use Rattle.group_view.proofs.Froms.{IsFrom, IsPieceOf, from_members, each_of_then}
@@ -260,6 +261,35 @@ each_writer P g h =
     values_so P _ (writers_so P (leaves_of g) 0 g.members []
     (λ n m is. subst (λ (j : ℕ). IfSome (writer_of j m (leaves_of g j)) (λ w. P w.1)) (omega arith) (h n m is)) tt)
 
+-- there are at most as many as members
+entries_few : (es : List (Place × Writer)) (k : Place) (w : Writer) → length (insert_entry place_cmp es k w) ≤ length es + 1
+entries_few [] k w = omega arith
+entries_few (e ∷ es) k w =
+    elim (place_cmp k e.0) as (λ o. length (match_ordering o ((k, w) ∷ e ∷ es) ((e.0, w) ∷ es) (e ∷ insert_entry place_cmp es k w)) ≤ length (e ∷ es) + 1) [
+      | Less ↦ omega arith
+      | Equal ↦ omega arith
+      | Greater ↦ let rest = entries_few es k w in omega (arith, rest)
+    ]
+
+with_few : (es : List (Place × Writer)) (o : Option (Place × Writer)) → length (with_writer es o) ≤ length es + 1
+with_few es None = omega arith
+with_few es (Some w) = entries_few es w.0 w.1
+
+among_few : (leaves : ℕ → List ℕ) (k : ℕ) (ms : List Member) (es : List (Place × Writer)) → length (writers_among leaves es (enumerate_from k ms)) ≤ length es + length ms
+among_few leaves k [] es = omega arith
+among_few leaves k (m ∷ ms) es =
+    let next = with_writer es (writer_of k m (leaves k)) in
+    let rest = among_few leaves (k + 1) ms next in
+    omega (arith, rest, with_few es (writer_of k m (leaves k)))
+
+pub writers_few : (g : GroupData) → length (writers g) ≤ length g.members
+unfolding writers
+writers_few g = let es = writers_among (leaves_of g) [] (enumerate_from 0 g.members) in omega (arith, length_values es, among_few (leaves_of g) 0 g.members [])
+  where
+    length_values : (xs : List (Place × Writer)) → length (map (λ e. e.1) xs) ≡ length xs
+    length_values [] = refl
+    length_values (x ∷ xs) = ap suc (length_values xs)
+
 linked_so : (configs : List Config) (n : ℕ) (order : Option ℤ) (link : Option Link) (writing : Option Writing) → MatchOption link ⊤ (IsLinkOf configs)
     → IfSome (placed_by n order link writing) (λ w. IsLinkOf configs w.1.link)
 linked_so configs n (Some order) (Some l) (Some writing) h = h
@@ -345,16 +375,31 @@ fault_free g slots ty structure is placed single none =
     ∙ ap (λ b. cond b (Some (faults.SameMember g.name)) (option_map faults.Shape (type_fault (group_tree g)))) single
     ∙ ap (λ t. option_map faults.Shape (type_fault t)) (sym (is ∙ tree_is g slots structure)) ∙ ap (option_map faults.Shape) none
 
-pub shape_fault_is : (g : GroupData) (slots : Slots) (t : Tree) (fault : GroupFault) → level g.id slots ≡ structure_of g → t ≡ slot_tree (level g.id slots)
+-- the structure that is made, of which what lies too deep is left out
+pub whole_is : (g : GroupData) (slots : Slots) (ty : Tree) → slots ≡ slots_to 32 (in_order (entries_of g.members)) → ty ≡ slot_tree (level g.id slots) → type_fault ty ≡ None
+    → slots ≡ slots_of (in_order (entries_of g.members))
+whole_is g slots ty is tree none =
+    let ss = slots_of (in_order (entries_of g.members)) in
+    let made : slots ≡ cut ss 32 = is ∙ slots_to_is 32 (in_order (entries_of g.members)) in
+    made ∙ nothing_cut g.id ss (sym (ap type_fault (tree ∙ ap (λ (s : Slots). slot_tree (level g.id s)) made)) ∙ none)
+
+pub fault_kept : (g : GroupData) (slots : Slots) (t : Tree) → slots ≡ slots_to 32 (in_order (entries_of g.members)) → t ≡ slot_tree (level g.id slots)
+    → type_fault t ≡ type_fault (group_tree g)
+unfolding group_tree structure_of
+fault_kept g slots t is tree =
+    let ss = slots_of (in_order (entries_of g.members)) in
+    ap type_fault (tree ∙ ap (λ (s : Slots). slot_tree (level g.id s)) (is ∙ slots_to_is 32 (in_order (entries_of g.members)))) ∙ cut_fault g.id ss
+
+pub shape_fault_is : (g : GroupData) (t : Tree) (fault : GroupFault) → type_fault t ≡ type_fault (group_tree g)
     → is_misplaced g.members ≡ false → is_doubled g.members ≡ false → IsShapeFault t fault → IsGroupFault g fault
 unfolding group_fault
-shape_fault_is g slots t fault structure is placed single h = by fault h
+shape_fault_is g t fault same placed single h = by fault h
   where
     whole : group_fault g ≡ option_map faults.Shape (type_fault t)
     whole =
         ap (λ b. cond b (Some (faults.BadMember g.name)) (cond (is_doubled g.members) (Some (faults.SameMember g.name)) (option_map faults.Shape (type_fault (group_tree g))))) placed
         ∙ ap (λ b. cond b (Some (faults.SameMember g.name)) (option_map faults.Shape (type_fault (group_tree g)))) single
-        ∙ ap (λ (u : Tree). option_map faults.Shape (type_fault u)) (sym (is ∙ tree_is g slots structure))
+        ∙ ap (option_map faults.Shape) (sym same)
 
     by : (f : GroupFault) → IsShapeFault t f → IsGroupFault g f
     by faults.NoMemory h = tt
@@ -405,8 +450,8 @@ pub built_is : {Y : Type 0} (g : GroupData) (slots : Slots) (ty : Tree) (shown :
     → ((n : ℕ) → n < length g.members → leaves_at own n ≡ places (is_number n) 0 shown) → records ≡ records_of g.members
     → Reaches records (reach_by (leaves_at own) g.members) reached
     → writable ≡ map (λ e. e.1) (writers_among (leaves_at own) [] (enumerate_from 0 g.members))
-    → is_misplaced g.members ≡ false → is_doubled g.members ≡ false → type_fault ty ≡ None → IsBuilt g ty slots records reached writable
-built_is g slots ty shown own records reached writable structure tree few is long leaves recs reaching writing placed single none =
+    → is_misplaced g.members ≡ false → is_doubled g.members ≡ false → type_fault ty ≡ None → length g.members ≤ 256 → IsBuilt g ty slots records reached writable
+built_is g slots ty shown own records reached writable structure tree few is long leaves recs reaching writing placed single none members_few =
     let same : (n : ℕ) → leaves_at own n ≡ leaves_of g n = own_are g own shown long (is ∙ ap (λ (t : Slot). map member_in (sources t)) structure) leaves in
     record {
       tree = tree ∙ tree_is g slots structure;
@@ -416,6 +461,7 @@ built_is g slots ty shown own records reached writable structure tree few is lon
       reaching = reaches_are g (leaves_at own) records reached same reaching;
       writers_are = writers_are g (leaves_at own) writable same writing;
       faultless = fault_free g slots ty structure tree placed single none;
+      members_few = members_few;
     }
 
 pub structure_is : (g : GroupData) (slots : Slots) → slots ≡ slots_of (in_order (entries_of g.members)) → level g.id slots ≡ structure_of g

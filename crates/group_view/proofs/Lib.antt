@@ -1,11 +1,13 @@
 pub mod Walks
 pub mod Viewing
 pub mod Placing
+pub mod Cutting
 pub mod Entering
 pub mod Froms
 pub mod Fitting
 pub mod Misplacing
 pub mod Depending
+pub mod Once
 pub mod Reaching
 pub mod Parting
 pub mod Heads

@@ -1,10 +1,18 @@
 -- Members that stand below others.
-use Rattle.std.proofs.Common.{◌≡◌, ℕ, ◌+◌, ◌<◌, Bool, true, false, not, ◌&&◌, ◌||◌, cond, eqb, List, ◌∷◌, length, get_or, take, drop, refl, sym, ap, ◌∙◌, add-one}
-use Rattle.std.proofs.lemmas.List.{take_more}
+use Rattle.std.proofs.Common.{◌≡◌, ℕ, ◌+◌, ◌<◌, Bool, true, false, not, ◌&&◌, ◌||◌, cond, eqb, List, ◌∷◌, length, get_or, take, drop, refl, sym, ap, ◌∙◌, arith, add-one}
+use Rattle.std.proofs.lemmas.List.{take_more, length-take-le}
 use Rattle.std.proofs.Math.Seq.{drop-cons}
+use Rattle.std.proofs.lemmas.Map.Text.{is_eq-slice_cmp}
+use Rattle.std.proofs.lemmas.Slice.Eq.{bytes_eq-Decides}
+use Rattle.std.specs.Borrow.{Bor}
+use Rattle.std.specs.BTreeSet.{BTreeSet, contains_by}
+use Rattle.std.specs.declared.cmp.Ordering.TheVariants.{Equal}
+use Rattle.std.specs.Cmp.{tied_then, nat_cmp_is}
+use Rattle.std.specs.Cmp.Lexicographic.{slice_cmp}
+use Rattle.std.specs.Ordering.{nat_cmp, ordering_then, is_eq}
 use Rattle.std.specs.List.{list_any}
 use Rattle.std.specs.Str.{bytes_eq}
-use Rattle.group_view.specs.Faults.{holds_members, closed_names, is_among, is_closed, is_cut, above_from}
+use Rattle.group_view.specs.Faults.{holds_members, closed_names, is_among, has_name, is_closed, is_cut, above_from}
 use Rattle.group_view.specs.declared.member.Member.{Member}
 
 or_swap : (a b c : Bool) → ((a || b) || c) ≡ (b || (a || c))
@@ -15,6 +23,31 @@ or_swap false b c = refl
 pub or_is : (a b : Bool) → cond a true b ≡ (a || b)
 or_is true b = refl
 or_is false b = refl
+
+-- a key is a name's exactly where the name is the same
+pub same_name : (key name : List ℕ) (long : ℕ) → long ≡ length key
+    → is_eq (ordering_then (nat_cmp long (length name)) (slice_cmp nat_cmp key name)) ≡ bytes_eq key name
+same_name key name long is =
+    sym (tied_then (nat_cmp long (length name)) (slice_cmp nat_cmp key name))
+    ∙ ap (λ b. is_eq (nat_cmp long (length name)) && b) (is_eq-slice_cmp key name)
+    ∙ by (bytes_eq key name) refl
+  where
+    none : (b : Bool) → (b && false) ≡ false
+    none true = refl
+    none false = refl
+
+    by : (b : Bool) → bytes_eq key name ≡ b → (is_eq (nat_cmp long (length name)) && bytes_eq key name) ≡ bytes_eq key name
+    by true e =
+        let alike : long ≡ length name = is ∙ ap length ((bytes_eq-Decides key name).0 e) in
+        ap (λ o. is_eq o && bytes_eq key name) (sym (nat_cmp_is long (length name) Equal alike))
+    by false e = ap (λ b. is_eq (nat_cmp long (length name)) && b) e ∙ none (is_eq (nat_cmp long (length name))) ∙ sym e
+
+-- what stands before a place is as long as the place
+pub known_before : (set : BTreeSet (ℕ × Bor (List ℕ))) (name : List ℕ) (place : ℕ) → place < length name
+    → contains_by (λ k. ordering_then (nat_cmp place k.0) (slice_cmp nat_cmp (take place name) k.1.now)) set ≡ has_name set (take place name)
+known_before set name place within =
+    let long : place ≡ length (take place name) = sym (length-take-le place name (omega (arith, within))) in
+    ap (λ (n : ℕ). contains_by (λ k. ordering_then (nat_cmp n k.0) (slice_cmp nat_cmp (take place name) k.1.now)) set) long
 
 pub cut_is : (names : List (List ℕ)) (name : List ℕ) (i byte : ℕ) (found : Bool) → byte ≡ get_or name i 0 → eqb byte 46 ≡ true
     → found ≡ is_among names (take i name) → found ≡ is_cut names name i

@@ -1,12 +1,13 @@
 -- An entry behind slots.
-use Rattle.std.proofs.Common.{◌≡◌, ℕ, ◌<◌, false, List, [], ◌∷◌, ◌++◌, length, get_or, drop, map, Result, Ok, Err, if◌then◌else◌, refl, sym, ap, ◌∙◌, arith}
+use Rattle.std.proofs.Common.{◌≡◌, ℕ, zero, suc, ◌<◌, false, List, [], ◌∷◌, ◌++◌, length, get_or, drop, map, Result, Ok, Err, if◌then◌else◌, refl, sym, ap, ◌∙◌, arith}
 use Rattle.std.specs.Result.{OnOk}
 use Rattle.std.specs.Str.{bytes_eq}
 use Rattle.std.specs.Borrow.{Bor}
 use Rattle.std.proofs.lemmas.Slice.Eq.{bytes_eq-Decides}
 use Rattle.group_view.specs.Seen.{branch_seen, named_seen, slots_seen}
-use Rattle.group_view.specs.Slots.{Slot, shows, level, Slots, no_slots, slot, with_last, in_last, behind}
+use Rattle.group_view.specs.Slots.{Slot, shows, level, Slots, no_slots, slot, with_last, in_last, behind, behind_to}
 use Rattle.group_view.specs.declared.entry.Entry.{Entry}
+use Rattle.group_view.specs.declared.entry.Entry.TheVariants.{Shown, WithId}
 use Rattle.group_view.specs.declared.slots.Named.{Named}
 use Rattle.group_view.proofs.Walks.{named_is}
 
@@ -78,32 +79,38 @@ nothing_left [] h = refl
 nothing_left (x ∷ xs) h = absurd (omega arith)
 
 -- what is put into the structure that stands last
-pub put_in : (path rest : List (Bor (List ℕ))) (first : Bor (List ℕ)) (e : Entry) (before mid after inner filled : Slots) (id name : List ℕ) (made : Slot)
-    → 1 < length path → rest ≡ drop 1 path → name ≡ (get_or path 0 first).now
+pub put_in : (room left : ℕ) (path rest : List (Bor (List ℕ))) (first : Bor (List ℕ)) (e : Entry) (before mid after inner filled : Slots) (id name : List ℕ) (made : Slot)
+    → room ≡ suc left → 1 < length path → rest ≡ drop 1 path → name ≡ (get_or path 0 first).now
     → ((make : List ℕ → Slots → Slot) → in_last name make before ≡ with_last name (make id inner) mid)
-    → filled ≡ behind (map (λ a. a.now) rest) e inner → made ≡ level id filled → after ≡ with_last name made mid
-    → after ≡ behind (map (λ a. a.now) path) e before
-put_in (a ∷ b ∷ path) rest first e before mid after inner filled id name made long is named taken put whole last =
+    → filled ≡ behind_to left (map (λ a. a.now) rest) e inner → made ≡ level id filled → after ≡ with_last name made mid
+    → after ≡ behind_to room (map (λ a. a.now) path) e before
+put_in room left (a ∷ b ∷ path) rest first e before mid after inner filled id name made more long is named taken put whole last =
     last
-    ∙ ap (λ (s : Slot). with_last name s mid) (whole ∙ ap (level id) (put ∙ ap (λ (xs : List (Bor (List ℕ))). behind (map (λ a. a.now) xs) e inner) is))
-    ∙ sym (taken (λ id inner. level id (behind (map (λ a. a.now) (b ∷ path)) e inner)))
-    ∙ ap (λ (n : List ℕ). in_last n (λ id inner. level id (behind (map (λ a. a.now) (b ∷ path)) e inner)) before) named
-put_in (a ∷ []) rest first e before mid after inner filled id name made long is named taken put whole last = absurd (omega arith)
-put_in [] rest first e before mid after inner filled id name made long is named taken put whole last = absurd (omega arith)
+    ∙ ap (λ (s : Slot). with_last name s mid) (whole ∙ ap (level id) (put ∙ ap (λ (xs : List (Bor (List ℕ))). behind_to left (map (λ a. a.now) xs) e inner) is))
+    ∙ sym (taken (λ id inner. level id (behind_to left (map (λ a. a.now) (b ∷ path)) e inner)))
+    ∙ ap (λ (n : List ℕ). in_last n (λ id inner. level id (behind_to left (map (λ a. a.now) (b ∷ path)) e inner)) before) named
+    ∙ sym (ap (λ (k : ℕ). behind_to k (map (λ a. a.now) (a ∷ b ∷ path)) e before) more)
+put_in room left (a ∷ []) rest first e before mid after inner filled id name made more long is named taken put whole last = absurd (omega arith)
+put_in room left [] rest first e before mid after inner filled id name made more long is named taken put whole last = absurd (omega arith)
 
--- a path of several names leads into the structure that stands last
-pub behind_in : (path : List (List ℕ)) (e : Entry) (ss : Slots) (first : List ℕ) → 1 < length path → get_or path 0 first ≡ first
-    → behind path e ss ≡ in_last first (λ id inner. level id (behind (drop 1 path) e inner)) ss
-behind_in (a ∷ b ∷ path) e ss first h is = ap (λ (n : List ℕ). in_last n (λ id inner. level id (behind (b ∷ path) e inner)) ss) is
-behind_in [] e ss first h is = absurd (omega arith)
-behind_in (a ∷ []) e ss first h is = absurd (omega arith)
+-- nothing is put where there is no room, or under no name
+pub put_nowhere : (room : ℕ) (path : List (Bor (List ℕ))) (e : Entry) (ss : Slots) → room ≡ 0 → ss ≡ behind_to room (map (λ a. a.now) path) e ss
+put_nowhere zero path e ss none = refl
+put_nowhere (suc room) path e ss none = absurd (omega arith)
 
-pub behind_one : (path : List (List ℕ)) (e : Entry) (ss : Slots) (first : List ℕ) → length path ≡ 1 → get_or path 0 first ≡ first
-    → behind path e ss ≡ behind (first ∷ []) e ss
-behind_one (a ∷ []) e ss first h is = ap (λ (n : List ℕ). behind (n ∷ []) e ss) is
-behind_one [] e ss first h is = absurd (omega arith)
-behind_one (a ∷ b ∷ path) e ss first h is = absurd (omega arith)
+pub put_unnamed : (room : ℕ) (path : List (Bor (List ℕ))) (e : Entry) (ss : Slots) → length path ≡ 0 → ss ≡ behind_to room (map (λ a. a.now) path) e ss
+put_unnamed zero path e ss none = refl
+put_unnamed (suc room) [] e ss none = refl
+put_unnamed (suc room) (a ∷ path) e ss none = absurd (omega arith)
 
-pub behind_none : (path : List (List ℕ)) (e : Entry) (ss : Slots) → length path ≡ 0 → ss ≡ behind path e ss
-behind_none [] e ss h = refl
-behind_none (a ∷ path) e ss h = absurd (omega arith)
+-- one name
+pub put_named : (room left : ℕ) (path : List (Bor (List ℕ))) (first : Bor (List ℕ)) (e : Entry) (before after : Slots) (name : List ℕ) → room ≡ suc left
+    → length path ≡ 1 → name ≡ (get_or path 0 first).now → after ≡ behind (name ∷ []) e before → after ≡ behind_to room (map (λ a. a.now) path) e before
+put_named room left (a ∷ []) first e before after name more long named is =
+    is ∙ ap (λ (n : List ℕ). behind (n ∷ []) e before) named ∙ by e ∙ sym (ap (λ (k : ℕ). behind_to k (a.now ∷ []) e before) more)
+  where
+    by : (x : Entry) → behind (a.now ∷ []) x before ≡ behind_to (suc left) (a.now ∷ []) x before
+    by (Shown s) = refl
+    by (WithId id) = refl
+put_named room left [] first e before after name more long named is = absurd (omega arith)
+put_named room left (a ∷ b ∷ path) first e before after name more long named is = absurd (omega arith)

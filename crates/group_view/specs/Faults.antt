@@ -5,7 +5,7 @@ use Rattle.std.specs.Borrow.{Bor}
 use Rattle.std.specs.BTreeSet.{BTreeSet, contains_by}
 use Rattle.std.specs.Cmp.Lexicographic.{slice_cmp}
 use Rattle.std.specs.List.{list_any}
-use Rattle.std.specs.Ordering.{nat_cmp}
+use Rattle.std.specs.Ordering.{nat_cmp, ordering_then}
 use Rattle.std.specs.Str.{bytes_eq}
 use Rattle.pvd_type.specs.Check.{type_fault}
 use Rattle.pvd_type.specs.Numbers.{path_of}
@@ -58,11 +58,11 @@ is_closed m name = not (holds_members m.def.kind) && bytes_eq m.def.name name
 abbrev pub is_cut : List (List ℕ) → List ℕ → ℕ → Bool
 is_cut names name i = get_or name i 0 == 46 && is_among names (take i name)
 
--- a set of texts that are borrowed has these names
-abbrev pub has_name : BTreeSet (Bor (List ℕ)) → List ℕ → Bool
-has_name set name = contains_by (λ k. slice_cmp nat_cmp name k.now) set
+-- a set of borrowed texts, each behind its length, has this name
+abbrev pub has_name : BTreeSet (ℕ × Bor (List ℕ)) → List ℕ → Bool
+has_name set name = contains_by (λ k. ordering_then (nat_cmp (length name) k.0) (slice_cmp nat_cmp name k.1.now)) set
 
-abbrev pub Knows : BTreeSet (Bor (List ℕ)) → List (List ℕ) → Type 0
+abbrev pub Knows : BTreeSet (ℕ × Bor (List ℕ)) → List (List ℕ) → Type 0
 Knows set names = (name : List ℕ) → has_name set name ≡ is_among names name
 
 -- whether a name begins with the one that the alarm or the time stamp has at the top
@@ -73,12 +73,24 @@ begins_with name (first ∷ rest) = bytes_eq first name
 abbrev pub is_meta_name : List ℕ → Bool
 is_meta_name name = begins_with (codes "alarm") (path_of name) || begins_with (codes "timeStamp") (path_of name)
 
--- whether a member has the place of the alarm or the time stamp that the empty name places at the top
+-- a `proc` alone has no place in the structure
+abbrev pub is_placed : MemberKind → Bool
+is_placed kinds.Whole = true
+is_placed kinds.Plain = true
+is_placed kinds.Any = true
+is_placed kinds.Meta = true
+is_placed kinds.Structure = true
+is_placed kinds.Proc = false
+
+abbrev pub is_meta_member : Member → Bool
+is_meta_member m = is_placed m.def.kind && is_meta_name m.def.name
+
+-- whether a member stands at or below the place of the alarm or the time stamp that the empty name places at the top
 abbrev pub has_empty_name : List Member → Bool
 has_empty_name ms = list_any (λ m. length m.def.name == 0) ms
 
 abbrev pub has_meta_name : List Member → Bool
-has_meta_name ms = list_any (λ m. is_meta_name m.def.name) ms
+has_meta_name ms = list_any is_meta_member ms
 
 abbrev pub is_doubled : List Member → Bool
 is_doubled ms = has_empty_name ms && has_meta_name ms

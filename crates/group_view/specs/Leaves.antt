@@ -4,6 +4,7 @@ use Rattle.std.specs.Prelude.{Option, None, Some, slice_get, option_map, if◌th
 use Rattle.std.specs.Option.{option_and_then, option_map_or}
 use Rattle.std.specs.declared.vec.Vec.{Vec}
 use Rattle.std.specs.List.{flat_map, filter_map}
+use Rattle.std.specs.BTreeMap.{BTreeMap, get_by}
 use Rattle.std.specs.BTreeSet.{insert_key}
 use Rattle.std.specs.FinSet.{FinSet, empty, insert}
 use Rattle.std.specs.Ordering.{nat_cmp}
@@ -68,6 +69,10 @@ is_about rec (Some l) = l.rec == rec
 -- the members that a record triggers: those that one of its own members names
 abbrev pub triggered_by : List Member → ℕ → List ℕ
 triggered_by ms rec = flat_map (λ m. m.def.trigger) (filter (λ m. is_about rec m.link) ms)
+
+-- the numbers that stand in a map under a record
+abbrev pub numbers_at : {Y : Type 0} → BTreeMap ℕ (Vec ℕ Y) → ℕ → List ℕ
+numbers_at found rec = option_map_or (λ v. v.items) (get_by (nat_cmp rec) found) []
 
 -- The leaves that a record triggers.
 unfoldable pub triggered : GroupData → ℕ → FinSet nat_cmp

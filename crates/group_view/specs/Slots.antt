@@ -1,5 +1,5 @@
 -- Where the members of a group stand in its structure (QSRV manual, "Group PV definitions").
-use Rattle.std.specs.Prelude.{ℕ, ⊤, List, [], ◌∷◌, ◌++◌, map, fold, Option, None, Some, codes, if◌then◌else◌}
+use Rattle.std.specs.Prelude.{ℕ, zero, suc, ⊤, List, [], ◌∷◌, ◌++◌, map, fold, Option, None, Some, codes, if◌then◌else◌}
 use Rattle.std.specs.declared.cmp.Ordering.{Ordering}
 use Rattle.std.specs.BTreeMap.{insert_entry}
 use Rattle.std.specs.Cmp.Lexicographic.{slice_cmp}
@@ -110,6 +110,18 @@ behind (name ∷ next ∷ path) e ss = in_last name (λ id inner. level id (behi
 -- the slots of entries that stand in order
 abbrev pub slots_of : List (Path × Entry) → Slots
 slots_of es = fold (λ ss e. behind e.0 e.1 ss) no_slots es
+
+-- the same with at most so many levels: what lies deeper is left out
+abbrev pub behind_to : ℕ → Path → Entry → Slots → Slots
+behind_to zero path e ss = ss
+behind_to (suc room) [] e ss = ss
+behind_to (suc room) (name ∷ []) (Shown s) ss = with_last name (shows s) ss
+behind_to (suc room) (name ∷ []) (WithId id) ss = in_last name (λ _ inner. level id inner) ss
+behind_to (suc room) (name ∷ next ∷ path) e ss =
+    in_last name (λ id inner. level id (behind_to room (next ∷ path) e inner)) ss
+
+abbrev pub slots_to : ℕ → List (Path × Entry) → Slots
+slots_to room es = fold (λ ss e. behind_to room e.0 e.1 ss) no_slots es
 
 -- each source of a structure is so
 abbrev mutual

@@ -11,7 +11,7 @@ ghost use Rattle.group_view.specs.Built.{IsShapeFault, reach_by, Reaches};
 ghost use Rattle.group_view.specs.Leaves.{leaves_at};
 
 use crate::member::Member;
-use crate::reach::Reach;
+use crate::reach::{Reach, numbers_of, triggers_of};
 use group_defs::GroupFault;
 use pvd_type::{NoMemory, PvType, Shape, TypeFault};
 use std::alloc::Global;
@@ -64,9 +64,10 @@ pub(crate) fn reaches_of(
     requires within { AllByRecursion (λ m. AllByRecursion (λ n. n < length members.now) m.def.trigger) members.now }
     ensures { IfOk result (λ reaches. Reaches records.now (reach_by (leaves_at own.now) members.now) (λ rec. get_by (nat_cmp rec) reaches)) }
 {
+    let triggers = triggers_of(alloc, members)?;
     let mut reaches = BTreeMap::new(alloc);
     for rec in records {
-        let reach = Reach::of(alloc, members, own, *rec)?;
+        let reach = Reach::of(alloc, members, own, numbers_of(&triggers, *rec))?;
         reaches.insert(*rec, reach)?;
     }
     Ok(reaches)

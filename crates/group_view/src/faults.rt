@@ -2,13 +2,16 @@
 ghost use Rattle.std.specs.Prelude.{◌≡◌, ◌<◌, ◌||◌, ℕ, List, length, IfOk, OnOk};
 ghost use Rattle.std.specs.Str.{bytes_eq};
 ghost use Rattle.pvd_type.specs.Numbers.{path_of};
-ghost use Rattle.group_view.specs.Faults.{holds_members, closed_names, is_closed, is_cut, has_name, Knows, is_below, begins_with, is_meta_name, is_misplaced, is_doubled, has_empty_name, has_meta_name};
+ghost use Rattle.group_view.specs.Faults.{holds_members, closed_names, is_closed, is_cut, has_name, Knows, is_below, begins_with, is_meta_name, is_meta_member, is_misplaced, is_doubled, has_empty_name, has_meta_name};
 
 use crate::member::Member;
 use group_defs::MemberKind;
 use pvd_type::NoMemory;
 use std::alloc::Global;
 use std::collections::BTreeSet;
+
+/// Names, each behind its length: a part of a name is then compared with the names of its length alone.
+type Names<'a> = BTreeSet<(usize, &'a [u8])>;
 
 /// Whether a member stands below one that is no `structure`.
 pub(crate) fn is_misplaced(alloc: Global, members: &[Member]) -> Result<bool, NoMemory>
@@ -24,7 +27,7 @@ pub(crate) fn is_misplaced(alloc: Global, members: &[Member]) -> Result<bool, No
 }
 
 /// The names below which no member may stand.
-fn closed_names(alloc: Global, members: &[Member]) -> Result<BTreeSet<&[u8]>, NoMemory>
+fn closed_names(alloc: Global, members: &[Member]) -> Result<Names<'_>, NoMemory>
     ensures { IfOk result (λ closed. Knows closed (closed_names members.now)) }
 {
     let mut closed = BTreeSet::new(alloc);
@@ -35,13 +38,14 @@ fn closed_names(alloc: Global, members: &[Member]) -> Result<BTreeSet<&[u8]>, No
 }
 
 /// Adds the name of a member below which none may stand.
-fn add_closed<'a>(closed: &mut BTreeSet<&'a [u8]>, member: &'a Member) -> Result<(), NoMemory>
+fn add_closed<'a>(closed: &mut Names<'a>, member: &'a Member) -> Result<(), NoMemory>
     ensures { OnOk result ((name : List ℕ) → has_name closed.new name ≡ (is_closed member.now name || has_name closed.old name)) }
 {
     if holds_members(member.def.kind) {
         return Ok(());
     }
-    closed.insert(member.def.name.as_str().as_bytes())?;
+    let name = member.def.name.as_str().as_bytes();
+    closed.insert((name.len(), name))?;
     Ok(())
 }
 
@@ -57,7 +61,7 @@ fn holds_members(kind: MemberKind) -> bool
 }
 
 /// Whether what stands before one of a name's dots is one of these names.
-fn is_below<'a>(closed: &BTreeSet<&'a [u8]>, name: &'a [u8]) -> bool
+fn is_below<'a>(closed: &Names<'a>, name: &'a [u8]) -> bool
     ensures { (names : List (List ℕ)) → Knows closed.now names → result ≡ is_below names name.now }
 {
     for place in 0..name.len() {
@@ -69,17 +73,17 @@ fn is_below<'a>(closed: &BTreeSet<&'a [u8]>, name: &'a [u8]) -> bool
 }
 
 /// Whether the name up to this place is one of these, and a dot follows.
-fn is_cut<'a>(closed: &BTreeSet<&'a [u8]>, name: &'a [u8], place: usize) -> bool
+fn is_cut<'a>(closed: &Names<'a>, name: &'a [u8], place: usize) -> bool
     requires { place < length name.now }
     ensures { (names : List (List ℕ)) → Knows closed.now names → result ≡ is_cut names name.now place }
 {
     if name[place] != b'.' {
         return false;
     }
-    closed.contains(&&name[..place])
+    closed.contains(&(place, &name[..place]))
 }
 
-/// Whether a member has the place of the alarm or the time stamp that the empty name places at the top.
+/// Whether a member stands at or below the place of the alarm or the time stamp that the empty name places at the top.
 pub(crate) fn is_doubled(members: &[Member]) -> bool
     ensures { result ≡ is_doubled members.now }
 {
@@ -101,11 +105,24 @@ fn has_meta_name(members: &[Member]) -> bool
     ensures { result ≡ has_meta_name members.now }
 {
     for member in members {
-        if is_meta_name(member.def.name.as_str()) {
+        if is_meta_member(member) {
             return true;
         }
     }
     false
+}
+
+/// Whether a member has a place in the structure, and it is in the alarm or the time stamp at the top.
+fn is_meta_member(member: &Member) -> bool
+    ensures { result ≡ is_meta_member member.now }
+{
+    match member.def.kind {
+        MemberKind::Proc => false,
+        MemberKind::Whole | MemberKind::Plain | MemberKind::Any => {
+            is_meta_name(member.def.name.as_str())
+        }
+        MemberKind::Meta | MemberKind::Structure => is_meta_name(member.def.name.as_str()),
+    }
 }
 
 /// Whether a dotted name begins with the one that the alarm or the time stamp has at the top.

@@ -20,7 +20,7 @@ use crate::member::{Member, members_of};
 use crate::parts::parts_of;
 use crate::reach::{Reach, own_leaves, records_of};
 use crate::shapes::structure_of;
-use crate::slots::{Named, slots_of};
+use crate::slots::{LEVELS, Named, slots_of};
 use crate::views::values_of;
 use crate::writer::{Writer, writers_of};
 use group_defs::{GroupDef, GroupFault};
@@ -118,7 +118,7 @@ impl Group {
         ensures faultless { IfOk result (λ g. group_fault g ≡ None) }
         ensures fault { IfErr result (IsGroupFault (record { name = name; id = id; atomic = atomic; members = members.items })) }
     {
-        let slots = slots_of(alloc, entries_of(alloc, &members)?)?;
+        let slots = slots_of(alloc, entries_of(alloc, &members)?, LEVELS)?;
         let mut shown = Vec::new(alloc);
         let shape = structure_of(&id, &slots, &mut shown, alloc)?;
         let ty = match checked(alloc, shape) {
@@ -212,6 +212,7 @@ impl Group {
         ensures writers { result.now ≡ writers self.now }
         ensures leaves { AllByRecursion (λ w. IsWritten (group_tree self.now) w.link w.writing) result.now }
         ensures over { (configs : List Config) → IsOver configs self.now → AllByRecursion (λ w. IsLinkOf configs w.link) result.now }
+        ensures few { length result.now ≤ 256 }
     {
         &self.writers
     }

@@ -1,15 +1,15 @@
 // What the records of a group trigger, and what is read for it.
-ghost use Rattle.std.specs.Prelude.{◌≡◌, ◌≤◌, ◌<◌, ◌==◌, ◌++◌, ◌∷◌, [], if◌then◌else◌, ℕ, length, fold, slice_get, option_and_then, IfOk, OnOk};
+ghost use Rattle.std.specs.Prelude.{◌≡◌, ◌≤◌, ◌<◌, ◌==◌, ◌++◌, ◌∷◌, [], false, if◌then◌else◌, ℕ, length, fold, slice_get, option_and_then, IfOk, OnOk};
 ghost use Rattle.std.specs.FinSet as set;
 ghost use Rattle.std.specs.List.{AllByRecursion, flat_map};
-ghost use Rattle.group_view.specs.Leaves.{places, is_number, leaves_at, is_about, read_by, triggered_by, records_read, records_of};
+ghost use Rattle.group_view.specs.Leaves.{places, is_number, leaves_at, is_about, read_by, numbers_at, rising, triggered_by, records_read, records_of};
 
 use crate::member::Member;
 use group_defs::MemberKind;
 use pvd_type::{BitSet, NoMemory};
 use rec_kinds::Items;
 use std::alloc::Global;
-use std::collections::BTreeSet;
+use std::collections::{BTreeMap, BTreeSet};
 
 /// What a record of a group triggers.
 #[derive(Drop)]
@@ -21,23 +21,82 @@ pub(crate) struct Reach {
 }
 
 impl Reach {
-    /// What a record triggers, in a group whose members show these leaves.
+    /// What the members of these numbers reach, in a group whose members show these leaves.
     pub fn of(
         alloc: Global,
         members: &[Member],
         own: &[Vec<u16>],
-        rec: u32,
+        triggers: &[u32],
     ) -> Result<Reach, NoMemory>
-        requires same { length own.now ≡ length members.now }
-        requires within { AllByRecursion (λ m. AllByRecursion (λ n. n < length members.now) m.def.trigger) members.now }
-        ensures { IfOk result (λ reach. reach ≡ record { triggered = fold set.insert set.empty (flat_map (leaves_at own.now) (triggered_by members.now rec)); footprint = records_read members.now (triggered_by members.now rec) }) }
+        requires { AllByRecursion (λ n. n < length own.now) triggers.now }
+        ensures { IfOk result (λ reach. reach ≡ record { triggered = fold set.insert set.empty (flat_map (leaves_at own.now) triggers.now); footprint = records_read members.now triggers.now }) }
     {
-        let numbers = triggered_by(alloc, members, rec)?;
+        let numbers = each_once(alloc, triggers)?;
         Ok(Reach {
             triggered: leaves_in(alloc, own, &numbers)?,
             footprint: Items::from_vec(records_read(alloc, members, &numbers)?),
         })
     }
+}
+
+/// What the members of each record trigger, one after another.
+pub(crate) type Triggers = BTreeMap<u32, Vec<u32>>;
+
+/// What the members of each record trigger.
+pub(crate) fn triggers_of(alloc: Global, members: &[Member]) -> Result<Triggers, NoMemory>
+    ensures { IfOk result (λ found. (rec : ℕ) → numbers_at found rec ≡ triggered_by members.now rec) }
+{
+    let mut found = BTreeMap::new(alloc);
+    for member in members {
+        add_triggers(alloc, &mut found, member)?;
+    }
+    Ok(found)
+}
+
+/// Adds what a member triggers to what its record does.
+fn add_triggers(alloc: Global, found: &mut Triggers, member: &Member) -> Result<(), NoMemory>
+    ensures { OnOk result ((rec : ℕ) → numbers_at found.new rec ≡ numbers_at found.old rec ++ (if is_about rec member.now.link then member.now.def.trigger else [])) }
+{
+    let Some(link) = &member.link else {
+        return Ok(());
+    };
+    let rec = link.rec();
+    let mut numbers = take_numbers(alloc, found, rec);
+    numbers.extend_from_slice(member.def.trigger.as_slice())?;
+    found.insert(rec, numbers)?;
+    Ok(())
+}
+
+/// Takes what a record triggers out of a map.
+fn take_numbers(alloc: Global, found: &mut Triggers, rec: u32) -> Vec<u32>
+    ensures numbers { result.items ≡ numbers_at found.old rec }
+    ensures others { (other : ℕ) → (rec == other) ≡ false → numbers_at found.new other ≡ numbers_at found.old other }
+{
+    match found.remove(&rec) {
+        Some(numbers) => numbers,
+        None => Vec::new(alloc),
+    }
+}
+
+/// What the members of a record trigger, one after another.
+pub(crate) fn numbers_of(found: &Triggers, rec: u32) -> &[u32]
+    ensures { result.now ≡ numbers_at found.now rec }
+{
+    match found.get(&rec) {
+        Some(numbers) => numbers,
+        None => &[],
+    }
+}
+
+/// Numbers in rising order, each once.
+fn each_once(alloc: Global, numbers: &[u32]) -> Result<Vec<u32>, NoMemory>
+    ensures { IfOk result (λ list. list.items ≡ rising numbers.now) }
+{
+    let mut found = BTreeSet::new(alloc);
+    for number in numbers {
+        found.insert(*number)?;
+    }
+    in_order(alloc, found)
 }
 
 /// Which leaves each of so many members shows, where this says which member shows the leaf under each number.
@@ -71,29 +130,6 @@ fn add_leaf(own: &mut Vec<Vec<u16>>, member: u32, number: u16) -> Result<(), NoM
         leaves.push(number)?;
     }
     Ok(())
-}
-
-/// The members that a record triggers.
-fn triggered_by(alloc: Global, members: &[Member], rec: u32) -> Result<Vec<u32>, NoMemory>
-    ensures { IfOk result (λ numbers. numbers.items ≡ triggered_by members.now rec) }
-{
-    let mut numbers = Vec::new(alloc);
-    for member in members {
-        if is_about(member, rec) {
-            numbers.extend_from_slice(member.def.trigger.as_slice())?;
-        }
-    }
-    Ok(numbers)
-}
-
-/// Whether a member is about this record.
-fn is_about(member: &Member, rec: u32) -> bool
-    ensures { result ≡ is_about rec member.now.link }
-{
-    match &member.link {
-        Some(link) => link.rec() == rec,
-        None => false,
-    }
 }
 
 /// The leaves that the members of these numbers show.

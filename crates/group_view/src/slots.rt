@@ -1,7 +1,7 @@
 // The structure of a group as a tree.
 ghost use Rattle.std.specs.Prelude.{◌≡◌, ℕ, List, [], ◌∷◌, map, IfOk, IfErr, OnOk};
 ghost use Rattle.group_view.specs.Seen.{entries_seen, slots_seen, branch_seen, named_seen};
-ghost use Rattle.group_view.specs.Slots.{Slot, Slots, level, no_slots, slot, with_last, in_last, behind, slots_of};
+ghost use Rattle.group_view.specs.Slots.{Slot, Slots, level, no_slots, slot, with_last, in_last, behind, behind_to, slots_to};
 
 use crate::entry::Entry;
 use crate::source::Source;
@@ -27,30 +27,39 @@ pub(crate) struct Named {
     pub branch: Branch,
 }
 
-/// The structure that entries make.
+/// How many levels are made below the root: one more than a type may have, so that a type's check finds what is too deep. A
+/// name with very many dots then makes no more.
+pub(crate) const LEVELS: usize = 32;
+
+/// The structure that entries make, with at most so many levels.
 pub(crate) fn slots_of(
     alloc: Global,
     entries: BTreeMap<Vec<&str>, Entry>,
+    room: usize,
 ) -> Result<Vec<Named>, NoMemory>
-    ensures { IfOk result (λ slots. slots_seen slots.items ≡ slots_of (entries_seen entries.entry.entries)) }
+    ensures { IfOk result (λ slots. slots_seen slots.items ≡ slots_to room (entries_seen entries.entry.entries)) }
 {
     let mut left = entries;
     let mut slots = Vec::new(alloc);
     while let Some((path, entry)) = left.pop_first() {
-        put_behind(alloc, &mut slots, &path, entry)?;
+        put_behind(alloc, &mut slots, &path, entry, room)?;
     }
     Ok(slots)
 }
 
-/// Puts an entry behind slots, each of which comes before it.
+/// Puts an entry behind slots, each of which comes before it, with at most so many levels.
 fn put_behind(
     alloc: Global,
     slots: &mut Vec<Named>,
     path: &[&str],
     entry: Entry,
+    room: usize,
 ) -> Result<(), NoMemory>
-    ensures { OnOk result (slots_seen slots.new.items ≡ behind (map (λ part. part.now) path.now) entry (slots_seen slots.old.items)) }
+    ensures { OnOk result (slots_seen slots.new.items ≡ behind_to room (map (λ part. part.now) path.now) entry (slots_seen slots.old.items)) }
 {
+    if room == 0 {
+        return Ok(());
+    }
     if path.is_empty() {
         return Ok(());
     }
@@ -59,7 +68,7 @@ fn put_behind(
         return put_last(alloc, slots, name, entry);
     }
     let (id, mut inner) = take_last(alloc, slots, name)?;
-    put_behind(alloc, &mut inner, &path[1..], entry)?;
+    put_behind(alloc, &mut inner, &path[1..], entry, room - 1)?;
     push(alloc, slots, name, Branch::Level(id, inner))
 }
 

@@ -469,6 +469,15 @@ const BOTH: &str =
 const TWICE: &str =
     r#"{"G":{"":{"+type":"meta","+channel":"VAL"},"alarm":{"+type":"plain","+channel":"VAL"}}}"#;
 
+const INSIDE: &str =
+    r#"{"G":{"":{"+type":"meta","+channel":"VAL"},"alarm.b":{"+type":"plain","+channel":"VAL"}}}"#;
+
+const INSIDE_PROC: &str =
+    r#"{"G":{"":{"+type":"meta","+channel":"VAL"},"alarm.b":{"+type":"proc","+channel":"VAL"},
+"timeStamp":{"+type":"proc","+channel":"VAL"}}}"#;
+
+const ONLY_PROC: &str = r#"{"G":{"p":{"+type":"proc","+channel":"PROC","+putorder":0}}}"#;
+
 #[test]
 fn the_first_fault_is_told(rt: HostRuntime) -> Result<(), Fail> {
     let rows = [
@@ -476,6 +485,12 @@ fn the_first_fault_is_told(rt: HostRuntime) -> Result<(), Fail> {
         (BELOW_PROC, "BadMember"),
         (BOTH, "BadMember"),
         (TWICE, "SameMember"),
+        (INSIDE, "SameMember"),
+        (
+            INSIDE_PROC,
+            "{ alarm:alarm_t timeStamp:time_t } = ( ( 0 0 '' ) ( 0 0 0 ) )",
+        ),
+        (ONLY_PROC, "{ } = ( )"),
         (DEEP_TWICE, "SameMember"),
         (DEEP, "TooDeep"),
         (r#"{"G":{}}"#, "{ } = ( )"),
@@ -485,6 +500,49 @@ fn the_first_fault_is_told(rt: HostRuntime) -> Result<(), Fail> {
         let told = words_of(rt.alloc(), &given)?;
         assert_eq!(rt; told.as_str(), words);
     }
+    Ok(())
+}
+
+/// A group with one member, whose name has so many parts.
+fn deep(alloc: Global, parts: u32) -> Result<String, NoMemory> {
+    let mut json = String::from_str(alloc, "{\"G\":{\"a")?;
+    for _ in 1..parts {
+        json.push_str(".a")?;
+    }
+    json.push_str("\":{\"+type\":\"plain\",\"+channel\":\"VAL\"}}}")?;
+    Ok(json)
+}
+
+#[test]
+fn a_name_of_very_many_parts_is_too_deep(rt: HostRuntime) -> Result<(), Fail> {
+    let json = deep(rt.alloc(), 200_000)?;
+    let words = words_of(rt.alloc(), &[(Kind::Longout, "A", "VAL=1", json.as_str())])?;
+    assert_eq!(rt; words.as_str(), "TooDeep");
+    Ok(())
+}
+
+const POSITION: &str =
+    r#"{"G":{"pos":{"+channel":"VAL","+type":"plain","+putorder":1,"+trigger":"*"},
+"":{"+channel":"VAL","+type":"meta"}}}"#;
+
+const MODE: &str = r#"{"G":{"mode":{"+channel":"VAL","+putorder":0,"+trigger":""}}}"#;
+
+#[test]
+fn the_empty_name_places_alarm_and_time_stamp_at_the_top(rt: HostRuntime) -> Result<(), Fail> {
+    let given = [
+        (
+            Kind::Longout,
+            "Pos",
+            "VAL=1200;HIHI=5000;HHSV=MAJOR",
+            POSITION,
+        ),
+        (Kind::Mbbo, "Mode", "ZRST=Hold;ONST=Move;VAL=0", MODE),
+    ];
+    let words = words_of(rt.alloc(), &given)?;
+    assert_eq!(rt;
+        words.as_str(),
+        "{ alarm:alarm_t mode:epics:nt/NTEnum:1.0{ value:enum_t{ index:int choices:string[] } alarm:alarm_t timeStamp:time_t } pos:int timeStamp:time_t } = ( ( 0 0 '' ) ( ( 0 'Hold''Move' ) ( 0 0 '' ) ( 0 0 0 ) ) 1200 ( 0 0 0 ) )"
+    );
     Ok(())
 }
 
@@ -519,12 +577,15 @@ const REFUSING: [Given<'static>; 3] = [
     (Kind::Longout, "C", "", PROC),
 ];
 
+const ALONE: [Given<'static>; 1] = [(Kind::Longout, "X", "VAL=5", ONLY_PROC)];
+
 #[test]
 fn members_are_put_in_put_order(rt: HostRuntime) -> Result<(), Fail> {
-    let rows: [(&[Given], &[Given], &[u16], &str); 9] = [
+    let rows: [(&[Given], &[Given], &[u16], &str); 10] = [
         (&LONGOUTS, &PUTS, &[2, 12, 22], " 1=20 2=30 0=10"),
         (&LONGOUTS, &PUTS, &[12], " 1=20"),
         (&LONGOUTS, &PUTS, &[0, 1, 4], "NothingWritable"),
+        (&ALONE, &ALONE, &[], " 0!"),
         (&CHOICES, &CHOSEN, &[], " 2!"),
         (&CHOICES, &CHOSEN, &[1, 2, 5], " 0=10 2! 1#1 1#1"),
         (&CHOICES, &CHOSEN, &[4], " 2!"),
@@ -539,9 +600,25 @@ fn members_are_put_in_put_order(rt: HostRuntime) -> Result<(), Fail> {
     Ok(())
 }
 
+const PLAIN: &str = r#"{"G":{"a":{"+type":"plain","+channel":"VAL","+trigger":"*"}}}"#;
+
+const ANY: &str =
+    r#"{"G":{"b":{"+type":"any","+channel":"VAL","+trigger":"a,c,a"},"s":{"+type":"structure"}}}"#;
+
+const ANY_PROC: &str = r#"{"G":{"c":{"+type":"proc","+channel":"VAL"}}}"#;
+
+const META: &str = r#"{"G":{"d":{"+type":"meta","+channel":"VAL"}}}"#;
+
+const MIXED: [Given<'static>; 4] = [
+    (Kind::Longout, "A", "VAL=1", PLAIN),
+    (Kind::Mbbo, "B", "ZRST=Hold;ONST=Move", ANY),
+    (Kind::Longout, "C", "", ANY_PROC),
+    (Kind::Stringout, "D", "", META),
+];
+
 #[test]
 fn a_record_triggers_leaves_and_reads_their_records(rt: HostRuntime) -> Result<(), Fail> {
-    let rows: [(&[Given], u32, &str); 5] = [
+    let rows: [(&[Given], u32, &str); 7] = [
         (
             &LONGOUTS,
             0,
@@ -551,6 +628,8 @@ fn a_record_triggers_leaves_and_reads_their_records(rt: HostRuntime) -> Result<(
         (&LONGOUTS, 3, " of in 0 1 2"),
         (&CHOICES, 1, " 2 5 6 8 9 10 12 13 14 of 1 in 0 1 2"),
         (&CHOICES, 2, " of in 0 1 2"),
+        (&MIXED, 0, " 1 2 5 6 7 9 10 11 of 0 1 3 in 0 1 2 3"),
+        (&MIXED, 1, " 1 of 0 in 0 1 2 3"),
     ];
     for (given, rec, words) in rows {
         let told = reach_words(rt.alloc(), given, rec)?;
