@@ -7,6 +7,9 @@ pub mod Fitting
 pub mod Misplacing
 pub mod Depending
 pub mod Reaching
+pub mod Merging
+pub mod Lists
+pub mod Triggering
 pub mod Parting
 pub mod Heads
 pub mod Ready
