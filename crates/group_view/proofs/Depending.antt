@@ -59,10 +59,10 @@ unrising_from : (P : ℕ → Type 0) (ks ns : List ℕ) → AllByRecursion P (fo
 unrising_from P ks [] a = (a, tt)
 unrising_from P ks (n ∷ ns) a = let b = unrising_from P (insert_key nat_cmp ks n) ns a in let c = unkeyed P ks n b.0 in (c.0, (c.1, b.1))
 
-unrising : (P : ℕ → Type 0) (ns : List ℕ) → AllByRecursion P (rising ns) → AllByRecursion P ns
+pub unrising : (P : ℕ → Type 0) (ns : List ℕ) → AllByRecursion P (rising ns) → AllByRecursion P ns
 unrising P ns a = (unrising_from P [] ns a).1
 
-unfiltered : {A : Type 0} (P : ℕ → Type 0) (f : A → Option ℕ) (xs : List A) → AllByRecursion P (filter_map f xs) → AllByRecursion (λ x. IfSome (f x) P) xs
+pub unfiltered : {A : Type 0} (P : ℕ → Type 0) (f : A → Option ℕ) (xs : List A) → AllByRecursion P (filter_map f xs) → AllByRecursion (λ x. IfSome (f x) P) xs
 unfiltered P f [] a = tt
 unfiltered P f (x ∷ xs) a =
     elim (f x) as (λ o. AllByRecursion P (cons_option o (filter_map f xs)) → IfSome o P × AllByRecursion (λ x. IfSome (f x) P) xs) [
@@ -70,12 +70,12 @@ unfiltered P f (x ∷ xs) a =
       | Some n ↦ λ b. (b.0, unfiltered P f xs b.1)
     ] a
 
-flat : {A : Type 0} (R : A → Type 0) (P : ℕ → Type 0) (f : A → List ℕ) → ((x : A) → R x → AllByRecursion P (f x)) → (xs : List A) → AllByRecursion R xs
+pub flat : {A : Type 0} (R : A → Type 0) (P : ℕ → Type 0) (f : A → List ℕ) → ((x : A) → R x → AllByRecursion P (f x)) → (xs : List A) → AllByRecursion R xs
     → AllByRecursion P (flat_map f xs)
 flat R P f h [] a = tt
 flat R P f h (x ∷ xs) a = all_append P (f x) (flat_map f xs) (h x a.0) (flat R P f h xs a.1)
 
-in_set : (P : ℕ → Type 0) (xs : List ℕ) (s : FinSet nat_cmp) → AllByRecursion P xs → ((k : ℕ) → contains s k ≡ true → P k)
+pub in_set : (P : ℕ → Type 0) (xs : List ℕ) (s : FinSet nat_cmp) → AllByRecursion P xs → ((k : ℕ) → contains s k ≡ true → P k)
     → (k : ℕ) → contains (fold insert s xs) k ≡ true → P k
 in_set P [] s a h k e = h k e
 in_set P (x ∷ xs) s a h k e = in_set P xs (insert s x) a.1 (λ q i. added q (sym (in_insert s x q) ∙ i)) k e
@@ -83,7 +83,7 @@ in_set P (x ∷ xs) s a h k e = in_set P xs (insert s x) a.1 (λ q i. added q (s
     added : (q : ℕ) → (eqb q x || contains s q) ≡ true → P q
     added q i = elim (eqb_tells q x) [ inl p ↦ subst P (sym p.1) a.0 | inr p ↦ h q (sym (ap (λ b. b || contains s q) p.0) ∙ i) ]
 
-all_places : {A : Type 0} (test : A → Bool) (P : ℕ → Type 0) (k : ℕ) (xs : List A) → ((j : ℕ) (x : A) → slice_get xs j ≡ Some x → test x ≡ true → P (k + j))
+pub all_places : {A : Type 0} (test : A → Bool) (P : ℕ → Type 0) (k : ℕ) (xs : List A) → ((j : ℕ) (x : A) → slice_get xs j ≡ Some x → test x ≡ true → P (k + j))
     → AllByRecursion P (places test k xs)
 all_places test P k [] h = tt
 all_places test P k (x ∷ xs) h =
@@ -241,7 +241,7 @@ mutual
   each_among P no_slots h = tt
   each_among P (slot name s ss) h = all_append _ (sources s) (sources_among ss) (each_there P s h.0) (each_among P ss h.1)
 
-read_is : (ms : List Member) (s : Source) → IsFrom ms s → option_and_then read_by (slice_get ms s.member) ≡ Some s.link.rec
+pub read_is : (ms : List Member) (s : Source) → IsFrom ms s → option_and_then read_by (slice_get ms s.member) ≡ Some s.link.rec
 read_is ms s from =
     ap (option_and_then read_by) from.at
     ∙ ap (λ b. cond b (option_map (λ l. l.rec) from.member.link) None) from.reading

@@ -31,7 +31,7 @@ abbrev by_itself : Kind → Element → List (List ℕ) → Datum → Data
 by_itself kind ftvl choices (Index i) = single (int (pos i))
 by_itself kind ftvl choices d = datum_shown kind ftvl choices d
 
-by_itself_fits : (left : ℕ) (kind : Kind) (ftvl : Element) (cs : List (List ℕ)) (d : Datum) → is_of (sort_of kind ftvl) d ≡ true
+pub by_itself_fits : (left : ℕ) (kind : Kind) (ftvl : Element) (cs : List (List ℕ)) (d : Datum) → is_of (sort_of kind ftvl) d ≡ true
     → fits_of left (by_itself kind ftvl cs d) (value_tree kind ftvl) ≡ true
 by_itself_fits left Longin ftvl cs (Num n) h = refl
 by_itself_fits left Longin ftvl cs _ h = absurd (false≢true h)
@@ -72,7 +72,7 @@ by_itself_fits left Waveform elements.I64 cs _ h = absurd (false≢true h)
 by_itself_fits left Waveform elements.U64 cs (Nums ns) h = refl
 by_itself_fits left Waveform elements.U64 cs _ h = absurd (false≢true h)
 
-is_by_itself : (config : Config) (d : Datum) → plain_shown config d ≡ by_itself config.kind config.ftvl config.choices d
+pub is_by_itself : (config : Config) (d : Datum) → plain_shown config d ≡ by_itself config.kind config.ftvl config.choices d
 is_by_itself config (Index i) = refl
 is_by_itself config (Num n) = refl
 is_by_itself config (Text t) = refl

@@ -15,7 +15,7 @@ use Rattle.std.proofs.lemmas.List.{take_more}
 use Rattle.pvd_type.specs.Check.{type_fault}
 use Rattle.pvd_type.specs.Numbers.{numbered, is_leaf}
 use Rattle.pvd_type.specs.Tree.{Tree}
-use Rattle.pvd_value.specs.Data.{Data, members, Row}
+use Rattle.pvd_value.specs.Data.{Data, members}
 use Rattle.pvd_value.specs.Fits.{fits_of}
 use Rattle.pvd_value.specs.View.{view, row_view}
 use Rattle.pvd_value.specs.declared.value.PvValue.{PvValue, Struct, the_lemmas}
@@ -41,7 +41,7 @@ use Rattle.group_view.specs.declared.piece.Piece.TheVariants as pieces
 use Rattle.group_view.specs.Puts.{Place, place_cmp, placed_by, writing_of, writer_of, with_writer, writers_among, writers, IsWritten}
 use Rattle.group_view.specs.Slots.{Slot, level, Slots, structure_of, slots_of, slots_to, in_order, entries_of, EachShown, EachOfShown}
 use Rattle.group_view.specs.Types.{slot_tree, group_tree}
-use Rattle.group_view.specs.Views.{slot_shown, slots_shown, group_shown, IsPart, IsReadyUnder, AreReadyUnder, IsReadyFor}
+use Rattle.group_view.specs.Views.{slot_shown, slots_shown, group_shown, IsReadyUnder, AreReadyUnder, IsReadyFor}
 use Rattle.group_view.specs.Sources.{Source}
 use Rattle.group_view.specs.declared.member.Member.{Member}
 use Rattle.group_view.specs.declared.reach.Reach.{Reach}
@@ -80,12 +80,6 @@ module _ (g : GroupData) (slots : Slots) (structure : level g.id slots ≡ struc
   pub under_is : (mask : FinSet nat_cmp) (states : List RecState) → IsReadyFor mask states g → AreReadyUnder mask states 1 slots
   unfolding IsReadyFor
   under_is mask states ready = subst (IsReadyUnder mask states 0) (sym structure) ready
-
-  -- a part of the slots is a part of the whole
-  pub part_is : (mask : FinSet nat_cmp) (states : List RecState) (row : Row) → IsPart mask 0 (slot_tree (level g.id slots)) (members row) (members (slots_shown states slots))
-      → IsPart mask 0 (group_tree g) (members row) (group_shown g states)
-  part_is mask states row h = subst (λ (t : Tree). IsPart mask 0 t (members row) (group_shown g states)) tree_is
-      (subst (λ (d : Data). IsPart mask 0 (slot_tree (level g.id slots)) (members row) d) (shown_is states) h)
 
 -- ---- what a record triggers
 

@@ -9,6 +9,9 @@ pub mod Misplacing
 pub mod Depending
 pub mod Once
 pub mod Reaching
+pub mod Merging
+pub mod Lists
+pub mod Triggering
 pub mod Parting
 pub mod Heads
 pub mod Ready

@@ -1,11 +1,12 @@
 -- What a group shows, as a function of the states of all records.
-use Rattle.std.specs.Prelude.{◌≡◌, ◌≤◌, ◌<◌, ◌+◌, ⊤, true, ℕ, List, length, Option, None, Some, slice_get}
+use Rattle.std.specs.Prelude.{◌≡◌, ◌≤◌, ◌<◌, ◌+◌, ⊤, Bool, true, false, ℕ, List, length, Option, None, Some, slice_get, nat_lt}
 use Rattle.std.specs.FinSet.{FinSet, contains}
 use Rattle.std.specs.Ordering.{nat_cmp}
 use Rattle.pvd_type.specs.Numbers.{numbered}
 use Rattle.pvd_type.specs.Tree.{Tree, Fields}
-use Rattle.pvd_value.specs.Blank.{blank_of, blank_row}
+use Rattle.pvd_value.specs.Blank.{blank_of}
 use Rattle.pvd_value.specs.Data.{Data, members, Row, end, more}
+use Rattle.pvd_value.specs.Fits.{fits_of}
 use Rattle.pvd_value.specs.Merge.{merged, merged_row}
 use Rattle.rec_kinds.specs.declared.state.RecState.{RecState}
 use Rattle.group_view.specs.Groups.{GroupData, HasState}
@@ -40,14 +41,17 @@ abbrev pub part_shown : GroupData → FinSet nat_cmp → List RecState → Data
 part_shown g mask states =
     merged (contains mask) 0 (group_tree g) (blank_of (group_tree g)) (group_shown g states)
 
--- of a type that is numbered from n: the value has the leaves of the mask as the whole has them
+-- of a type that is numbered from n: a value has the leaves of the mask as the whole has them,
 abbrev pub IsPart : FinSet nat_cmp → ℕ → Tree → Data → Data → Type 0
 IsPart mask n t part whole =
-    merged (contains mask) n t (blank_of t) part ≡ merged (contains mask) n t (blank_of t) whole
+    (old : Data) → fits_of 16 old t ≡ true → merged (contains mask) n t old part ≡ merged (contains mask) n t old whole
 
-abbrev pub IsRowPart : FinSet nat_cmp → ℕ → Fields → Row → Row → Type 0
-IsRowPart mask n fs part whole =
-    merged_row (contains mask) n fs (blank_row fs) part ≡ merged_row (contains mask) n fs (blank_row fs) whole
+-- and it has the other leaves as an old value has them
+abbrev pub IsKept : FinSet nat_cmp → ℕ → Tree → Data → Data → Type 0
+IsKept mask n t old new = merged (contains mask) n t old new ≡ new
+
+abbrev pub IsRowKept : FinSet nat_cmp → ℕ → Fields → Row → Row → Type 0
+IsRowKept mask n fs old new = merged_row (contains mask) n fs old new ≡ new
 
 -- a number of the mask, among so many from a start on
 pub record HasNumber (mask : FinSet nat_cmp) (start count : ℕ) : Type 0 where
@@ -55,6 +59,11 @@ pub record HasNumber (mask : FinSet nat_cmp) (start count : ℕ) : Type 0 where
   pub from : start ≤ number
   pub to : number < start + count
   pub marked : contains mask number ≡ true
+
+-- whether there is a number and it is below another
+abbrev pub IsBefore : Bool → Option ℕ → ℕ → Type 0
+IsBefore b None bound = b ≡ false
+IsBefore b (Some n) bound = b ≡ nat_lt n bound
 
 -- Each record that is shown under a number of the mask has a state that it may be in.
 abbrev mutual

@@ -1,7 +1,10 @@
 // Groups of records.
-ghost use Rattle.std.specs.Prelude.{◌≡◌, ◌≤◌, ◌<◌, true, false, None, List, length, IfOk, IfErr};
+ghost use Rattle.std.specs.Prelude.{◌≡◌, ◌≤◌, ◌<◌, ℕ, true, false, None, List, length, IfOk, IfErr, OnOk};
+ghost use Rattle.std.specs.FinSet as set;
 ghost use Rattle.std.specs.List.{AllByRecursion};
 ghost use Rattle.pvd_value.specs.Fits.{fits_of};
+ghost use Rattle.pvd_value.specs.Leaves.{leaf_at};
+ghost use Rattle.pvd_value.specs.Merge.{merged};
 ghost use Rattle.pvd_value.specs.View.{view};
 ghost use Rattle.group_defs.specs.Sound.{IsGroup};
 ghost use Rattle.group_view.specs.Faults.{group_fault, IsGroupFault, is_misplaced, is_doubled};
@@ -11,13 +14,13 @@ ghost use Rattle.rec_kinds.specs.Configs.{Config};
 ghost use Rattle.group_view.specs.Puts.{writers, IsWritten};
 ghost use Rattle.group_view.specs.Seen.{configs_seen};
 ghost use Rattle.group_view.specs.Types.{group_tree};
-ghost use Rattle.group_view.specs.Views.{group_shown, part_shown, IsPart, IsReadyFor};
+ghost use Rattle.group_view.specs.Views.{group_shown, part_shown, IsReadyFor};
 
 use crate::building::{checked, reaches_of};
 use crate::entry::entries_of;
 use crate::faults::{is_doubled, is_misplaced};
 use crate::member::{Member, members_of};
-use crate::parts::parts_of;
+use crate::parts::write_level;
 use crate::reach::{Reach, own_leaves, records_of};
 use crate::shapes::structure_of;
 use crate::slots::{LEVELS, Named, slots_of};
@@ -25,7 +28,7 @@ use crate::views::values_of;
 use crate::writer::{Writer, writers_of};
 use group_defs::{GroupDef, GroupFault};
 use pvd_type::{BitSet, Name, NoMemory, PvType};
-use pvd_value::{PvValue, blank, take_leaves};
+use pvd_value::{PvValue, blank};
 use rec_kinds::{Items, RecConfig, RecState};
 use std::alloc::Global;
 use std::collections::BTreeMap;
@@ -185,26 +188,28 @@ impl Group {
         ensures shown { IfOk result (λ v. view v ≡ part_shown self.now mask.now states.now) }
         ensures fits { IfOk result (λ v. fits_of 16 (view v) (group_tree self.now) ≡ true) }
     {
-        let mut part = self.marked_part(alloc, states, mask)?;
         let mut value = blank(alloc, &self.ty)?;
-        take_leaves(&self.ty, &mut value, mask, &mut part);
+        self.view_into(alloc, states, mask, &mut value)?;
         Ok(value)
     }
 
-    /// The members with a number in the mask; the others are blank.
-    fn marked_part(
+    /// Writes the leaves of a mask, as the group shows them where the records have these states, into a value that the caller
+    /// keeps. Structures without a marked leaf are passed over, and only the records are read that are shown under a number of
+    /// the mask. Where memory runs out, some of the marked leaves may be written; the others are as they were.
+    pub fn view_into(
         &self,
         alloc: Global,
         states: &[RecState],
         mask: &BitSet,
-    ) -> Result<PvValue, NoMemory>
-        requires { IsReadyFor mask.now states.now self.now }
-        ensures part { IfOk result (λ v. IsPart mask.now 0 (group_tree self.now) (view v) (group_shown self.now states.now)) }
-        ensures fits { IfOk result (λ v. fits_of 16 (view v) (group_tree self.now) ≡ true) }
+        value: &mut PvValue,
+    ) -> Result<(), NoMemory>
+        requires fits { fits_of 16 (view value.old) (group_tree self.now) ≡ true }
+        requires ready { IsReadyFor mask.now states.now self.now }
+        ensures shown { OnOk result (view value.new ≡ merged (set.contains mask.now) 0 (group_tree self.now) (view value.old) (group_shown self.now states.now)) }
+        ensures kept { (k : ℕ) → set.contains mask.now k ≡ false → leaf_at k (group_tree self.now) (view value.new) ≡ leaf_at k (group_tree self.now) (view value.old) }
+        ensures still { fits_of 16 (view value.new) (group_tree self.now) ≡ true }
     {
-        let mut number = 1;
-        let values = parts_of(&self.slots, &mut number, mask, states, alloc)?;
-        Ok(PvValue::Struct(values))
+        write_level(&self.slots, self.ty.sizes(), 0, mask, states, value, alloc)
     }
 
     /// The writable members in put order.

@@ -23,10 +23,12 @@ mod writer;
 pub use group::Group;
 pub use group_defs::{GroupDef, GroupFault, MemberDef, MemberKind};
 pub use laws::{
-    ready_groups_are_ready_for_parts, valid_states_are_ready, value_reads_footprint,
-    value_reads_records,
+    footprint_makes_parts_ready, parts_read_footprint, ready_groups_are_ready_for_parts,
+    valid_states_are_ready, value_reads_footprint, value_reads_records,
 };
 pub use rec_fields::FieldAnswer;
 
+#[cfg(test)]
+mod part_tests;
 #[cfg(test)]
 mod tests;

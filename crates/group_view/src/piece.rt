@@ -1,16 +1,21 @@
 // What members show of their records.
-ghost use Rattle.std.specs.Prelude.{◌≡◌, IfOk};
+ghost use Rattle.std.specs.Prelude.{◌≡◌, true, IfOk};
 ghost use Rattle.pvd_type.specs.View.{shape_view};
+ghost use Rattle.pvd_value.specs.Fits.{fits_of};
 ghost use Rattle.pvd_value.specs.View.{view};
+ghost use Rattle.rec_kinds.specs.Sorts.{suits};
 ghost use Rattle.rec_kinds.specs.Validity.{IsValid};
 ghost use Rattle.rec_fields.specs.Plain.{plain_tree};
-ghost use Rattle.group_view.specs.Pieces.{piece_tree, piece_shown, meta_tree, meta_shown};
+ghost use Rattle.rec_fields.specs.Shown.{shown};
+ghost use Rattle.rec_fields.specs.Types.{record_tree};
+ghost use Rattle.group_view.specs.Pieces.{piece_tree, piece_shown, meta_tree, meta_shown, list_number, value_without_list};
+ghost use Rattle.group_view.specs.Views.{IsPart};
 
 use nt_types::{alarm, time};
-use pvd_type::{Member, Name, NoMemory, Node, PvType, Shape};
-use pvd_value::PvValue;
+use pvd_type::{BitSet, Member, Name, NoMemory, Node, PvType, Shape};
+use pvd_value::{Items, PvValue, blank_shape};
 use rec_fields::{alarm_view, plain_shape, plain_view, time_view, type_of, view};
-use rec_kinds::{RecConfig, RecState};
+use rec_kinds::{Datum, Kind, RecConfig, RecState};
 use std::alloc::Global;
 
 /// What a member shows of its record at one place.
@@ -63,6 +68,80 @@ impl Piece {
             Piece::Alarm => alarm_view(alloc, state),
             Piece::Time => time_view(alloc, state),
         }
+    }
+
+    /// The same, where the leaves are those of the mask; what it has elsewhere isn't said. A list that isn't marked is not
+    /// copied.
+    pub fn part(
+        self,
+        alloc: Global,
+        config: &RecConfig,
+        state: &RecState,
+        mask: &BitSet,
+    ) -> Result<PvValue, NoMemory>
+        requires { IsValid config.now state.now }
+        ensures part { IfOk result (λ v. IsPart mask.now 0 (piece_tree self config.now) (view v) (piece_shown self config.now state.now)) }
+        ensures fits { IfOk result (λ v. fits_of 16 (view v) (piece_tree self config.now) ≡ true) }
+    {
+        match self {
+            Piece::Whole => whole_part(alloc, config, state, mask),
+            Piece::Plain | Piece::Any | Piece::Meta | Piece::Alarm | Piece::Time => {
+                self.view(alloc, config, state)
+            }
+        }
+    }
+}
+
+/// A record's structure, without its list where that isn't marked.
+fn whole_part(
+    alloc: Global,
+    config: &RecConfig,
+    state: &RecState,
+    mask: &BitSet,
+) -> Result<PvValue, NoMemory>
+    requires { IsValid config.now state.now }
+    ensures part { IfOk result (λ v. IsPart mask.now 0 (record_tree config.now) (view v) (shown config.now state.now)) }
+    ensures fits { IfOk result (λ v. fits_of 16 (view v) (record_tree config.now) ≡ true) }
+{
+    if mask.contains(list_number(config.kind())) {
+        return view(alloc, config, state);
+    }
+    let value = value_without_list(alloc, config, &state.datum)?;
+    let alarm = alarm_view(alloc, state)?;
+    let time = time_view(alloc, state)?;
+    Ok(PvValue::Struct(vec![in alloc; value, alarm, time]?))
+}
+
+/// The number of the list in a record's structure: the elements of a waveform, or the choices of an index. Where there is no
+/// list it is the number of the value.
+fn list_number(kind: Kind) -> u32
+    ensures { result ≡ list_number kind }
+{
+    match kind {
+        Kind::Bi | Kind::Bo | Kind::Mbbi | Kind::Mbbo => 3,
+        Kind::Longin
+        | Kind::Longout
+        | Kind::Int64in
+        | Kind::Int64out
+        | Kind::Stringin
+        | Kind::Stringout
+        | Kind::Waveform => 1,
+    }
+}
+
+/// What a record's structure has as its value, with an empty list in place of its own.
+fn value_without_list(alloc: Global, config: &RecConfig, datum: &Datum) -> Result<PvValue, NoMemory>
+    requires { suits config.now datum.now ≡ true }
+    ensures { IfOk result (λ v. view v ≡ value_without_list config.now datum.now) }
+{
+    match datum {
+        Datum::Index(index) => {
+            let choices = PvValue::List(Items::Text(Vec::new(alloc)));
+            let index = PvValue::I32(i32::from(*index));
+            Ok(PvValue::Struct(vec![in alloc; index, choices]?))
+        }
+        Datum::Nums(_) | Datum::Texts(_) => blank_shape(alloc, &plain_shape(config)),
+        Datum::Num(_) | Datum::Text(_) => plain_view(alloc, config, datum),
     }
 }
 

@@ -5,11 +5,11 @@ ghost use Rattle.pvd_value.specs.Fits.{fits_of};
 ghost use Rattle.pvd_value.specs.View.{view};
 ghost use Rattle.group_view.specs.Groups.{HasState};
 ghost use Rattle.group_view.specs.Types.{source_tree};
-ghost use Rattle.group_view.specs.Views.{source_shown};
+ghost use Rattle.group_view.specs.Views.{source_shown, IsPart};
 
 use crate::link::Linked;
 use crate::piece::Piece;
-use pvd_type::{NoMemory, PvType};
+use pvd_type::{BitSet, NoMemory, PvType};
 use pvd_value::PvValue;
 use rec_kinds::RecState;
 use std::alloc::Global;
@@ -74,5 +74,21 @@ impl Source {
     {
         let state = &states[self.link.rec() as usize];
         self.piece.view(alloc, self.link.config(), state)
+    }
+
+    /// The same, where the leaves are those of the mask, whose numbers count from the first node of what is shown; what it has
+    /// elsewhere isn't said. A list that isn't marked is not copied.
+    pub fn part(
+        &self,
+        alloc: Global,
+        states: &[RecState],
+        mask: &BitSet,
+    ) -> Result<PvValue, NoMemory>
+        requires { HasState states.now self.now.link }
+        ensures part { IfOk result (λ v. IsPart mask.now 0 (source_tree self.now) (view v) (source_shown states.now self.now)) }
+        ensures fits { IfOk result (λ v. fits_of 16 (view v) (source_tree self.now) ≡ true) }
+    {
+        let state = &states[self.link.rec() as usize];
+        self.piece.part(alloc, self.link.config(), state, mask)
     }
 }
