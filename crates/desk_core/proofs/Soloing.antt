@@ -21,8 +21,8 @@ use Rattle.journal_core.proofs.Keeping.{valid_entry}
 use Rattle.journal_core.specs.declared.entry.Entry.{Entry}
 use Rattle.desk_api.specs.History.{entries, commits, state_at, kept_at, IsLegal}
 use Rattle.desk_api.specs.Puts.{footprint_by}
-use Rattle.desk_api.specs.Calls.{Adds, Calls, first_seat, with_mark, now, EndsAtLastMark}
-use Rattle.desk_api.proofs.Adding.{as_many, adds_nothing}
+use Rattle.desk_api.specs.Calls.{Adds, first_seat, with_mark, now, EndsAtLastMark}
+use Rattle.desk_api.proofs.Adding.{as_many}
 use Rattle.desk_api.specs.declared.history.Base.{Base}
 use Rattle.desk_api.specs.declared.history.RollItem.{RollItem}
 use Rattle.desk_api.specs.declared.history.SiteData.{SiteData}
@@ -31,11 +31,11 @@ use Rattle.desk_api.specs.declared.mark.Mark.TheVariants.{Entered, Overweight}
 use Rattle.desk_api.specs.declared.mark.Seat.{Seat}
 use Rattle.desk_api.specs.declared.put.PutAnswer.{PutAnswer}
 use Rattle.desk_api.specs.declared.put.PutAnswer.TheVariants as answers
-use Rattle.desk_core.specs.Begun.{Enters, IsHeld, IsAddedNow, IsFullNow, IsStoppedNow, IsPutNow}
+use Rattle.desk_core.specs.Begun.{Enters, IsHeld, IsPutNow}
 use Rattle.desk_core.specs.Effects.{IsBroken, IsDraft, restored}
 use Rattle.desk_core.specs.Ports.{Ports}
 use Rattle.desk_core.specs.Standing.{Stands}
-use Rattle.desk_core.proofs.Doing.{writes_within, done_broken}
+use Rattle.desk_core.proofs.Doing.{done_broken}
 use Rattle.desk_core.proofs.Marking.{entries_now, adds_mark, ends_at, looks, looks_end, still, same_seen}
 
 -- a record of the opening has a cell, and the other way round

@@ -1,11 +1,8 @@
 // A desk that nobody shares.
-ghost use Rattle.std.specs.Prelude.{◌≡◌, ◌<◌, ◌≤◌, [], ◌∷◌, false, length, map, option_map, slice_get, Some, true, IfErr, IfOk, IsTrue, Ok, OnOk};
+ghost use Rattle.std.specs.Prelude.{◌≡◌, ◌<◌, ◌≤◌, [], ◌∷◌, false, length, map, option_map, slice_get, Some, true, IfOk, IsTrue, OnOk};
 ghost use Rattle.std.specs.List.{AllByRecursion};
 ghost use Rattle.desk_api.specs.History.{IsLegal, commits};
 ghost use Rattle.desk_api.specs.Calls.{first_seat, Calls, OnTold, EndsAtItsMarks};
-ghost use Rattle.desk_api.specs.Puts.{IsRefusal, actions_of as actions_wanted};
-ghost use Rattle.desk_api.specs.Sites.{is_channel};
-ghost use Rattle.desk_api.specs.Types.{type_of};
 ghost use Rattle.desk_core.specs.Ports.{ports_there, ports_wanted};
 ghost use Rattle.desk_core.specs.Standing.{Stands, answer_of, base_of};
 ghost use Rattle.group_view.specs.Puts.{MayBeDoneBy};
@@ -15,7 +12,6 @@ ghost use Rattle.pvd_value.specs.Fits.{fits_of};
 ghost use Rattle.pvd_value.specs.View.{view};
 
 use crate::cells::{Cells, groups_over_records, names_and_configs, opening_of};
-use crate::driving::discard;
 use crate::entering::enter;
 use crate::log::{Log, Terms};
 use crate::looks::note_looks;
@@ -102,35 +98,6 @@ impl<P: Port> SoloDesk<P> {
         names_and_configs(&self.terms.site);
         self.cells.ports[rec].as_ref()
     }
-}
-
-/// The actions that a put of the marked leaves asks of a channel of the site, at most as many as a group has members.
-fn actions_of(
-    alloc: Global,
-    site: &Site,
-    channel: Channel,
-    value: &PvValue,
-    mask: &BitSet,
-) -> Result<Vec<(u32, Action)>, FieldAnswer>
-    requires channel { IsTrue (is_channel site.now channel) }
-    requires fits { fits_of 16 (view value.now) (type_of site.now channel) ≡ true }
-    ensures actions { IfOk result (λ actions. actions_wanted site.now channel mask.now (view value.now) ≡ Ok actions.items) }
-    ensures refusal { IfErr result (IsRefusal site.now channel mask.now (view value.now)) }
-    ensures may { IfOk result (λ actions. AllByRecursion (MayBeDoneBy site.now.configs) actions.items) }
-    ensures within { IfOk result (λ actions. AllByRecursion (λ a. a.0 < length site.now.configs) actions.items) }
-    ensures some { IfOk result (λ actions. 0 < length actions.items) }
-    ensures few { IfOk result (λ actions. length actions.items ≤ 256) }
-{
-    let actions = match site.actions(alloc, channel, value, mask) {
-        Ok(actions) => actions,
-        Err(answer) => return Err(answer),
-    };
-    // No group has more members, and so none has more actions.
-    if actions.len() > 256 {
-        discard(actions);
-        return Err(FieldAnswer::NoMemory);
-    }
-    Ok(actions)
 }
 
 /// The list of one action.
@@ -230,10 +197,15 @@ impl<P: Port> Desk for SoloDesk<P> {
     ghost use Rattle.desk_api.specs.Types as types;
     ghost use Rattle.desk_core.specs.Desks.{ports_of};
     ghost use Rattle.desk_core.specs.Ports.{DrivesPorts};
+    ghost use Rattle.histories.specs.History.{deeds_by, tagged};
 
     ghost seat = { λ desk. desk.log };
 
-    fn has_legal_history(&self) {}
+    /// Nothing is done. It tells that the history is legal, and that every deed of it is this desk's own.
+    fn has_legal_history(&self)
+        ensures legal { IsLegal self.now.log.seen }
+        ensures own { self.now.log.seen.deeds ≡ tagged self.now.log.number (deeds_by self.now.log.number self.now.log.seen.deeds) }
+    {}
 
     fn find(&self, name: &str) -> Option<Channel> {
         self.terms.site.find(name)
@@ -289,7 +261,7 @@ impl<P: Port> Desk for SoloDesk<P> {
         ensures base { self.new.log.seen.base ≡ self.old.log.seen.base }
         ensures ports { DrivesPorts self.old.log self.new.log (ports_of P.port self.old) (ports_of P.port self.new) (record { site = self.old.log.seen.base.site; channel = channel; mask = mask.now; value = view value.now; moment = moment; atomic = atomic }) result }
     {
-        let actions = match actions_of(alloc, &self.terms.site, channel, value, mask) {
+        let actions = match self.terms.site.actions(alloc, channel, value, mask) {
             Ok(actions) => actions,
             Err(answer) => return Err(not_done(answer)),
         };
