@@ -8,5 +8,6 @@ pub mod Heeding
 pub mod Finding
 pub mod Opening
 pub mod Beginning
+pub mod Places
 pub mod Parts
 pub mod Validating

@@ -17,7 +17,7 @@ use Rattle.pva_frames.specs.declared.event.Event.TheVariants.{Message, Control}
 use Rattle.pva_messages.specs.Fields.{Valued}
 use Rattle.pva_messages.specs.Reading.{request_at}
 use Rattle.pva_messages.specs.Requests as said
-use Rattle.pva_messages.specs.Requests.{Request, PutPart, absent, unread, given}
+use Rattle.pva_messages.specs.Requests.{Request}
 use Rattle.pva_messages.specs.Subcommands.{begins, asks_back, ends}
 use Rattle.pvd_request.specs.Requests.{request_of}
 use Rattle.pvd_request.specs.declared.request.Request.{Request as Wanted}
@@ -34,7 +34,7 @@ use Rattle.desk_api.specs.declared.history.SiteData.{SiteData}
 use Rattle.desk_api.specs.declared.mark.Mark.{Mark}
 use Rattle.srv_session.specs.State.{State, Channels, Requests, Asked, channel_at, is_full, is_on, is_open, least_free, without_channel, opening}
 use Rattle.srv_session.specs.Tasks.{Task, pass_over, echo_control, refuse, validate, echo, create, destroy_channel, begin, get, put, destroy_request, Hearing, asks, not_built, unreadable}
-use Rattle.srv_session.specs.Tasks.{heard, heard_control, validated_by, beginning, beginning_as, found_for, in_phase, getting, asked_get, heard_part, heard_unread, heard_putting, heard_put, asked_end, asked_request_end, heard_message, heard_read, heard_whole, is_heard}
+use Rattle.srv_session.specs.Tasks.{heard, heard_control, validated_by, beginning, beginning_as, found_for, in_phase, getting, asked_get, heard_part, heard_putting, heard_put, asked_end, asked_request_end, heard_message, heard_read, heard_whole, is_heard}
 use Rattle.srv_session.specs.Rows.{opened, all_opened, ask_of, behind, after_task}
 use Rattle.srv_session.specs.Steps.{knowing, after_hearing, after_event}
 use Rattle.srv_session.specs.Calls.{Selects, IsAskOf, IsOf}
@@ -203,14 +203,9 @@ module _ (site : SiteData) (s : State) where
   part_so whole req sub found (Ok x) = tt
   part_so whole req sub found (Err fault) = tt
 
-  unread_so : (whole : Whole) (types : Types) (req sub : ℕ) (found : Asked × Channel) (part : PutPart) → IsHeardOf site s (heard_unread site whole types req sub found part)
-  unread_so whole types req sub found (unread place) = part_so whole req sub found _
-  unread_so whole types req sub found absent = tt
-  unread_so whole types req sub found (given part) = tt
-
-  puts_so : (whole : Whole) (types : Types) (req sub : ℕ) (part : PutPart) (r : Result (Asked × Channel) (List ℕ)) → IsHeardOf site s (heard_putting site whole types req sub part r)
-  puts_so whole types req sub part (Ok found) = unread_so whole types req sub found part
-  puts_so whole types req sub part (Err why) = tt
+  puts_so : (whole : Whole) (types : Types) (req sub : ℕ) (r : Result (Asked × Channel) (List ℕ)) → IsHeardOf site s (heard_putting site whole types req sub r)
+  puts_so whole types req sub (Ok found) = part_so whole req sub found _
+  puts_so whole types req sub (Err why) = tt
 
   either_heard : (b : Bool) (x y : Hearing) → IsHeardOf site s x → IsHeardOf site s y → IsHeardOf site s (cond b x y)
   either_heard true x y p q = p
@@ -225,7 +220,7 @@ module _ (site : SiteData) (s : State) where
       either (begins sub) _ _ (begins_so kinds.Get req sub sid v (channel_at s.channels sid) refl) (gets_so kinds.Get req sub (found_for s kinds.Get sid req))
   message_so whole types (said.put sid req sub v part) =
       either_heard (begins sub) _ _ (begins_so kinds.Put req sub sid v (channel_at s.channels sid) refl)
-      (either_heard (asks_back sub) _ _ (gets_so kinds.Put req sub (found_for s kinds.Put sid req)) (puts_so whole types req sub part (found_for s kinds.Put sid req)))
+      (either_heard (asks_back sub) _ _ (gets_so kinds.Put req sub (found_for s kinds.Put sid req)) (puts_so whole types req sub (found_for s kinds.Put sid req)))
   message_so whole types (said.destroy_request sid req) = either (is_on sid (at s.requests req)) _ _ tt tt
   message_so whole types (said.cancel sid req) = tt
   message_so whole types (said.message req kind words) = tt

@@ -11,17 +11,15 @@ use Rattle.pvd_codec.specs.Faults.{IsFaultOf}
 use Rattle.pvd_codec.specs.Reading.{Read, State as Source, part_at}
 use Rattle.pvd_codec.proofs.Holding.{marked_holds}
 use Rattle.pva_frames.specs.declared.event.Whole.{Whole}
-use Rattle.pva_messages.specs.Views.{put_part_view}
+use Rattle.pva_messages.specs.Requests.{part_place}
 use Rattle.pva_messages.specs.declared.fault.MessageFault.{MessageFault}
-use Rattle.pva_messages.specs.declared.part.PutPart as put_parts
-use Rattle.pva_messages.specs.declared.part.PutPart.TheVariants.{Unread}
 use Rattle.journal_core.specs.Moments.{Moment}
 use Rattle.desk_api.specs.Types.{type_of, HoldsLeaves}
 use Rattle.desk_api.specs.declared.channel.Channel.{Channel}
 use Rattle.desk_api.specs.declared.history.SiteData.{SiteData}
 use Rattle.desk_api.specs.declared.mark.Seat.{Seat}
 use Rattle.srv_session.specs.State.{State, Asked}
-use Rattle.srv_session.specs.Tasks.{Task, Hearing, asks, put, heard_part, heard_unread}
+use Rattle.srv_session.specs.Tasks.{Task, Hearing, asks, put, heard_part, heard_putting}
 use Rattle.srv_session.specs.Steps.{knowing}
 use Rattle.srv_session.specs.Calls.{Shown, Takes, Heeds}
 use Rattle.srv_session.specs.Views.{stop_by, stopping}
@@ -29,21 +27,19 @@ use Rattle.srv_session.specs.declared.stop.SessionStop.{SessionStop}
 use Rattle.srv_session.proofs.Rows.{shown}
 use Rattle.srv_session.proofs.Heeding.{StopsAt, stops_at_fault, heeds_as, known_heeds}
 
-module _ (site : SiteData) (whole : Whole) (before : Types) (req sub : ℕ) (found : Asked × Channel) (place : ℕ) (part : put_parts.PutPart) (ty : Tree) (part_is : part ≡ Unread place) (ty_is : ty ≡ type_of site found.1) where
+module _ (site : SiteData) (whole : Whole) (before : Types) (req sub : ℕ) (found : Asked × Channel) (ty : Tree) (ty_is : ty ≡ type_of site found.1) where
   abbrev read : Read Source (FinSet nat_cmp × Data)
-  read = part_at whole.order ty (drop place whole.payload, before)
+  read = part_at whole.order ty (drop part_place whole.payload, before)
 
-  reads : heard_unread site whole before req sub found (put_part_view part) ≡ heard_part whole req sub found read
-  reads =
-      ap (λ (p : put_parts.PutPart). heard_unread site whole before req sub found (put_part_view p)) part_is
-      ∙ ap (λ (t : Tree). heard_part whole req sub found (part_at whole.order t (drop place whole.payload, before))) (sym ty_is)
+  reads : heard_putting site whole before req sub (Ok found) ≡ heard_part whole req sub found read
+  reads = ap (λ (t : Tree). heard_part whole req sub found (part_at whole.order t (drop part_place whole.payload, before))) (sym ty_is)
 
   pub part_read : (mask : FinSet nat_cmp) (value : Data) (rest : List ℕ) (after : Types) → read ≡ Ok ((mask, value), (rest, after))
-      → heard_unread site whole before req sub found (put_part_view part) ≡ asks (put req sub found.0 found.1 mask value) after
+      → heard_putting site whole before req sub (Ok found) ≡ asks (put req sub found.0 found.1 mask value) after
   part_read mask value rest after read_is = reads ∙ ap (heard_part whole req sub found) read_is
 
   pub part_stops : (fault : MessageFault) → fault.command ≡ whole.command → IsFaultOf (length whole.payload) fault.cause read
-      → StopsAt (stop_by fault) (heard_unread site whole before req sub found (put_part_view part))
+      → StopsAt (stop_by fault) (heard_putting site whole before req sub (Ok found))
   part_stops fault is f =
       subst (λ (h : Hearing). StopsAt (stop_by fault) h) (sym reads)
       (stops_at_fault whole (heard_part whole req sub found) (λ x. refl) fault read is f)

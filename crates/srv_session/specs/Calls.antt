@@ -1,5 +1,5 @@
 -- What the calls of a session do.
-use Rattle.std.specs.Prelude.{◌≡◌, ◌≢◌, ℕ, List, ◌++◌, Option, None, Some, Result, Ok, Err, IsTrue}
+use Rattle.std.specs.Prelude.{◌≡◌, ◌≢◌, ℕ, Bool, false, List, ◌++◌, Option, None, Some, Result, Ok, Err, IsTrue}
 use Rattle.std.specs.FinMap.{get as at}
 use Rattle.std.specs.FinSet as set
 use Rattle.pva_frames.specs.declared.event.Event.{Event}
@@ -16,7 +16,7 @@ use Rattle.srv_session.specs.State.{State, Channels, Asked, channel_at}
 use Rattle.srv_session.specs.Replies.{Sent, spelled_all}
 use Rattle.srv_session.specs.Tasks.{Task, Hearing, not_built, unreadable, heard}
 use Rattle.srv_session.specs.Rows.{Row, Part, after_task}
-use Rattle.srv_session.specs.Steps.{IsAnswer, PartOf, after_hearing}
+use Rattle.srv_session.specs.Steps.{IsAnswer, PartOf, AreEndings, after_hearing}
 use Rattle.srv_session.specs.declared.stop.SessionStop.{SessionStop}
 use Rattle.srv_session.specs.declared.stop.SessionStop.TheVariants as stops
 
@@ -107,3 +107,14 @@ Responds old new moment e (Err no_memory) = GaveUp old new moment (PartOf (site_
 
 abbrev pub Handles : Shown → Shown → Moment → Event → Result (Unit {0}) SessionStop → Type 0
 Handles old new moment e result = Heeds old new moment (heard_by old e) result
+
+-- A pump popped nothing and says so: no request is a monitor so far.
+pub record Pumped (old new : Shown) (more : Result Bool NoMemory) : Type 0 where
+  pub none : more ≡ Ok false
+  pub same : new ≡ old
+
+-- The session has ended, and its subscriptions with it: the marks are their endings.
+pub record Finished (old : Shown) (seat : Seat) : Type 0 where
+  pub marks : List Mark
+  pub endings : AreEndings old.state marks
+  pub adds : Adds old.seat seat marks

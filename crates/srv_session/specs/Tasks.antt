@@ -20,7 +20,7 @@ use Rattle.pva_messages.specs.Reading.{request_at}
 use Rattle.pva_messages.specs.Replies as reply
 use Rattle.pva_messages.specs.Replies.{Reply}
 use Rattle.pva_messages.specs.Requests as said
-use Rattle.pva_messages.specs.Requests.{Request, PutPart, absent, unread, given}
+use Rattle.pva_messages.specs.Requests.{Request, part_place}
 use Rattle.pva_messages.specs.Subcommands.{begins, asks_back}
 use Rattle.pva_messages.specs.declared.fault.MessageFault.{MessageFault}
 use Rattle.pvd_request.specs.Requests.{request_of}
@@ -145,23 +145,18 @@ abbrev pub heard_part : Whole → ℕ → ℕ → Asked × Channel → Read Sour
 heard_part whole req sub found (Ok (part, (rest, types))) = asks (put req sub found.0 found.1 part.0 part.1) types
 heard_part whole req sub found (Err fault) = unreadable (fault_in whole fault)
 
--- A put's part is read here, where nothing else decides; a message that was read has left it unread.
-abbrev pub heard_unread : SiteData → Whole → Types → ℕ → ℕ → Asked × Channel → PutPart → Hearing
-heard_unread site whole types req sub found (unread place) =
-    heard_part whole req sub found (part_at whole.order (type_of site found.1) (drop place whole.payload, types))
-heard_unread site whole types req sub found absent = not_built
-heard_unread site whole types req sub found (given part) = not_built
-
-abbrev pub heard_putting : SiteData → Whole → Types → ℕ → ℕ → PutPart → Result (Asked × Channel) (List ℕ) → Hearing
-heard_putting site whole types req sub part (Ok found) = heard_unread site whole types req sub found part
-heard_putting site whole types req sub part (Err why) = asks (refuse (refused kinds.Put req sub why)) types
+-- A put's part is read here, where nothing else decides. It stands behind the ids and the subcommand.
+abbrev pub heard_putting : SiteData → Whole → Types → ℕ → ℕ → Result (Asked × Channel) (List ℕ) → Hearing
+heard_putting site whole types req sub (Ok found) =
+    heard_part whole req sub found (part_at whole.order (type_of site found.1) (drop part_place whole.payload, types))
+heard_putting site whole types req sub (Err why) = asks (refuse (refused kinds.Put req sub why)) types
 
 -- a put's request also gets its present value
-abbrev pub heard_put : SiteData → State → Whole → Types → ℕ → ℕ → ℕ → Valued → PutPart → Hearing
-heard_put site s whole types sid req sub v part =
+abbrev pub heard_put : SiteData → State → Whole → Types → ℕ → ℕ → ℕ → Valued → Hearing
+heard_put site s whole types sid req sub v =
     if begins sub then asks (beginning site s kinds.Put req sub sid v (channel_at s.channels sid)) types
     else if asks_back sub then asks (getting kinds.Put req sub (found_for s kinds.Put sid req)) types
-    else heard_putting site whole types req sub part (found_for s kinds.Put sid req)
+    else heard_putting site whole types req sub (found_for s kinds.Put sid req)
 
 -- What ends, where it is there.
 
@@ -180,7 +175,7 @@ heard_message site s whole types (said.create channels) = asks (create channels)
 heard_message site s whole types (said.destroy_channel sid cid) =
     asks (asked_end s sid cid) types
 heard_message site s whole types (said.get sid req sub v) = asks (asked_get site s sid req sub v) types
-heard_message site s whole types (said.put sid req sub v part) = heard_put site s whole types sid req sub v part
+heard_message site s whole types (said.put sid req sub v part) = heard_put site s whole types sid req sub v
 heard_message site s whole types (said.destroy_request sid req) =
     asks (asked_request_end s sid req) types
 heard_message site s whole types (said.cancel sid req) = asks pass_over types

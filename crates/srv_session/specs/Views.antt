@@ -1,12 +1,13 @@
 -- What contracts see of a session.
-use Rattle.std.specs.Prelude.{◌≡◌, ℕ, List, ◌++◌, drop, Option, Some, option_map, Result, Ok, Err, codes}
+use Rattle.std.specs.Prelude.{◌≡◌, ◌≤◌, ℕ, List, ◌++◌, drop, Option, Some, option_map, Result, Ok, Err, codes}
 use Rattle.std.specs.FinMap.{get as at}
 use Rattle.std.specs.FinSet.{FinSet}
 use Rattle.std.specs.Ordering.{nat_cmp}
 use denote.Ref.{Bor}
 use Rattle.pvd_codec.specs.declared.fault.ValueFault.{ValueFault}
 use Rattle.pvd_codec.specs.declared.fault.ValueFault.TheVariants as values
-use Rattle.pva_messages.specs.Requests.{PutPart}
+use Rattle.pva_messages.specs.Requests as said
+use Rattle.pva_messages.specs.Requests.{Request, part_place}
 use Rattle.pva_messages.specs.declared.fault.MessageFault.{MessageFault}
 use Rattle.pvd_type.specs.declared.memory.NoMemory.{NoMemory}
 use Rattle.pva_frames.specs.declared.event.Event.{Event}
@@ -29,7 +30,7 @@ use Rattle.desk_api.specs.declared.put.PutAnswer.{PutAnswer}
 use Rattle.srv_session.specs.State.{State, Asked, request_on}
 use Rattle.srv_session.specs.Replies.{refused, outcome}
 use Rattle.srv_session.specs.Rows.{put_status}
-use Rattle.srv_session.specs.Tasks.{Task, begin, refuse, get, put, fault_text, heard_unread, Hearing}
+use Rattle.srv_session.specs.Tasks.{Task, begin, refuse, get, put, fault_text, heard_putting, Hearing}
 use Rattle.srv_session.specs.Calls.{Shown, Takes, Responds, Heeds}
 use Rattle.srv_session.specs.declared.requests.Found.{Found}
 use Rattle.srv_session.specs.declared.session.Session.{Session}
@@ -140,13 +141,18 @@ PutsTo here there old new moment sid req sub found mask value result =
     (ask : Asked) → request_on (state_of old) sid req ≡ Some (ask, found.channel) → found.atomic ≡ ask.atomic
     → AnswersTask here there old new moment (put req sub ask found.channel mask value) result
 
+-- A put that was read is so long that its part has a place.
+abbrev pub HasPlace : Request → ℕ → Type 0
+HasPlace (said.put sid req sub v part) end = part_place ≤ end
+HasPlace request end = Unit {0}
+
 -- What is heard in the part of its put, and what becomes of that.
-abbrev pub PutsPart : Seat → Seat → Session → Session → Moment → Whole → ℕ → ℕ → ℕ → Found → PutPart
+abbrev pub PutsPart : Seat → Seat → Session → Session → Moment → Whole → ℕ → ℕ → ℕ → Found
     → Result (Unit {0}) SessionStop → Type 0
-PutsPart here there old new moment whole sid req sub found part result =
+PutsPart here there old new moment whole sid req sub found result =
     (ask : Asked) → request_on (state_of old) sid req ≡ Some (ask, found.channel) → found.atomic ≡ ask.atomic
     → HeedsHearing here there old new moment
-    (heard_unread here.seen.base.site whole (state_of old).types req sub (ask, found.channel) part) result
+    (heard_putting here.seen.base.site whole (state_of old).types req sub (Ok (ask, found.channel))) result
 
 -- What is said to a client whose put had this answer, where memory didn't run out.
 abbrev pub IsProblem : Result Done PutAnswer → Result (Option (Bor (List ℕ))) NoMemory → Type 0

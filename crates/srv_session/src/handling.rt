@@ -35,16 +35,16 @@ impl Session {
     ghost use Rattle.pvd_codec.specs.Written.{CanEach};
     ghost use Rattle.pva_frames.specs.LentView.{whole_of};
     ghost use Rattle.pva_frames.specs.declared.event.Event.TheVariants.{Message, Control};
-    ghost use Rattle.pva_messages.specs.Faults.{PartWithin};
     ghost use Rattle.pva_messages.specs.Requests.{request_fields};
     ghost use Rattle.pva_messages.specs.Views.{request_view};
     ghost use Rattle.pva_messages.specs.Written.{FitsField};
     ghost use Rattle.srv_session.specs.Calls.{IsOf, Handles};
     ghost use Rattle.srv_session.specs.Tasks as task;
     ghost use Rattle.srv_session.specs.Tasks.{is_heard, heard_message};
-    ghost use Rattle.srv_session.specs.Views.{state_of, show, HandlesControl, HeedsHearing, AnswersAlone};
+    ghost use Rattle.srv_session.specs.Views.{state_of, show, HandlesControl, HasPlace, HeedsHearing, AnswersAlone};
 
-    /// Answers an event of the client. What it puts has this moment.
+    /// Answers an event of the client: adds the replies to the output. What it puts has this moment. The desk has the site that it
+    /// had at the session's last call. After an `Err` the session has ended; the output is as it was before the event.
     pub fn handle<D: Desk>(
         &mut self,
         alloc: Global,
@@ -128,7 +128,7 @@ impl Session {
         moment: Moment,
     ) -> Result<(), SessionStop>
         requires site { IsOf (D.seat desk.old).seen.base.site (state_of self.old) }
-        requires part { PartWithin (request_view request.now) (length message.now.payload.now) }
+        requires place { HasPlace (request_view request.now) (length message.now.payload.now) }
         requires fits { CanEach FitsField (request_fields (request_view request.now)) }
         ensures { HeedsHearing (D.seat desk.old) (D.seat desk.new) self.old self.new moment (heard_message (D.seat desk.old).seen.base.site (state_of self.old) (whole_of message.now) (state_of self.old).types (request_view request.now)) result }
     {
@@ -155,10 +155,8 @@ impl Session {
                 req,
                 sub,
                 request,
-                part,
-            } => self.answer_put(
-                alloc, message, *sid, *req, *sub, request, part, desk, moment,
-            ),
+                ..
+            } => self.answer_put(alloc, message, *sid, *req, *sub, request, desk, moment),
             ToServer::DestroyRequest { sid, req } => stopping(self.destroy_request(*sid, *req)),
             ToServer::Cancel { .. } => stopping(self.pass_over()),
             ToServer::Message { .. } => stopping(self.pass_over()),

@@ -4,6 +4,7 @@
 mod channels;
 mod gets;
 mod handling;
+mod monitors;
 mod puts;
 mod requests;
 mod session;

@@ -11,10 +11,13 @@ use crate::subcommand::asks_back;
 use chan_table::AskKind;
 use desk_api::{Desk, Done, Moment, PutAnswer, PutRefusal};
 use pva_frames::Lent;
-use pva_messages::{PutPart, begins, read_request_part};
+use pva_messages::{begins, read_request_part};
 use pvd_type::{BitSet, NoMemory, PvType};
 use pvd_value::PvValue;
 use std::alloc::Global;
+
+/// Where the part of a put stands in its payload: behind two ids and the subcommand.
+const PART_PLACE: usize = 9;
 
 /// Why a put was refused, in words.
 fn refusal_text(refusal: PutRefusal) -> &'static str
@@ -42,16 +45,16 @@ fn problem_of(answer: Result<Done, PutAnswer>) -> Result<Option<&'static str>, N
 }
 
 impl Session {
-    ghost use Rattle.std.specs.Prelude.{IfOk, IfSome, OnOk, true, false, length};
+    ghost use Rattle.std.specs.Prelude.{◌≤◌, IfSome, true, false, length};
     ghost use Rattle.pvd_value.specs.Fits.{fits_of};
     ghost use Rattle.pvd_value.specs.View.{view};
     ghost use Rattle.pva_frames.specs.LentView.{whole_of};
-    ghost use Rattle.pva_messages.specs.Faults.{IsWithin};
-    ghost use Rattle.pva_messages.specs.Subcommands.{begins, asks_back};
-    ghost use Rattle.pva_messages.specs.Views.{valued_view, put_part_view};
+    ghost use Rattle.pva_messages.specs.Requests.{part_place};
+    ghost use Rattle.pva_messages.specs.Subcommands.{begins};
+    ghost use Rattle.pva_messages.specs.Views.{valued_view};
     ghost use Rattle.desk_api.specs.Types.{type_of, HoldsLeaves};
     ghost use Rattle.srv_session.specs.Calls.{IsOf};
-    ghost use Rattle.srv_session.specs.Tasks.{heard_put, heard_unread};
+    ghost use Rattle.srv_session.specs.Tasks.{heard_put};
     ghost use Rattle.srv_session.specs.Views.{state_of, HeedsHearing, IsThere, PutsPart, PutsTo};
 
     /// Answers a message of the command Put.
@@ -63,14 +66,13 @@ impl Session {
         req: u32,
         sub: u8,
         request: &Option<(PvType, PvValue)>,
-        part: &PutPart,
         desk: &mut D,
         moment: Moment,
     ) -> Result<(), SessionStop>
         requires site { IsOf (D.seat desk.old).seen.base.site (state_of self.old) }
         requires fits { begins sub ≡ true → IfSome request.now (λ r. fits_of 16 (view r.1) r.0 ≡ true) }
-        requires part { IsWithin (put_part_view part.now) (length message.now.payload.now) }
-        ensures { HeedsHearing (D.seat desk.old) (D.seat desk.new) self.old self.new moment (heard_put (D.seat desk.old).seen.base.site (state_of self.old) (whole_of message.now) (state_of self.old).types sid req sub (valued_view request.now) (put_part_view part.now)) result }
+        requires place { part_place ≤ length message.now.payload.now }
+        ensures { HeedsHearing (D.seat desk.old) (D.seat desk.new) self.old self.new moment (heard_put (D.seat desk.old).seen.base.site (state_of self.old) (whole_of message.now) (state_of self.old).types sid req sub (valued_view request.now)) result }
     {
         desk.has_legal_history();
         if begins(sub) {
@@ -80,7 +82,7 @@ impl Session {
             return stopping(self.get(alloc, AskKind::Put, sid, req, sub, desk));
         }
         match self.find(AskKind::Put, sid, req) {
-            Ok(found) => self.put_part(alloc, message, sid, req, sub, found, part, desk, moment),
+            Ok(found) => self.put_part(alloc, message, sid, req, sub, found, desk, moment),
             Err(text) => stopping(self.refuse(AskKind::Put, req, sub, text)),
         }
     }
@@ -94,27 +96,23 @@ impl Session {
         req: u32,
         sub: u8,
         found: Found,
-        part: &PutPart,
         desk: &mut D,
         moment: Moment,
     ) -> Result<(), SessionStop>
         requires site { IsOf (D.seat desk.old).seen.base.site (state_of self.old) }
         requires there { IsThere (state_of self.old) sid req found }
         requires sub { begins sub ≡ false }
-        requires part { IsWithin (put_part_view part.now) (length message.now.payload.now) }
-        ensures { PutsPart (D.seat desk.old) (D.seat desk.new) self.old self.new moment (whole_of message.now) sid req sub found (put_part_view part.now) result }
+        requires place { part_place ≤ length message.now.payload.now }
+        ensures { PutsPart (D.seat desk.old) (D.seat desk.new) self.old self.new moment (whole_of message.now) sid req sub found result }
     {
         desk.has_legal_history();
-        let PutPart::Unread(place) = part else {
-            return Err(SessionStop::NotBuilt);
-        };
         let ty = desk.type_of(found.channel).unwrap();
         let (mask, value) = read_request_part(
             alloc,
             message.order,
             message.command,
             message.payload,
-            *place,
+            PART_PLACE,
             &mut self.types,
             ty,
         )?;

@@ -100,6 +100,8 @@ impl Session {
     ghost use Rattle.pva_messages.specs.Subcommands.{begins};
     ghost use Rattle.pva_messages.specs.Views.{reply_view};
     ghost use Rattle.srv_session.specs.Replies.{CanSay, IsServed, spelled, spelled_all, said, control, greetings, outcome, answered, begun, got};
+    ghost use Rattle.desk_api.specs.declared.history.SiteData.{SiteData};
+    ghost use Rattle.srv_session.specs.Calls.{IsOf};
     ghost use Rattle.srv_session.specs.State.{Asked};
     ghost use Rattle.srv_session.specs.Views.{state_of, output_of, Keeps, HasSelected};
 
@@ -138,10 +140,11 @@ impl Session {
     }
 
     /// A session whose output is the greeting, in this byte order: the order to use, and a validation with the server's sizes
-    /// and methods (pvAccess Protocol Specification, "Connection Validation").
+    /// and methods (pvAccess Protocol Specification, "Connection Validation"). It may serve any site.
     pub fn start(alloc: Global, order: Order) -> Result<Session, NoMemory>
         ensures state { IfOk result (λ s. state_of s ≡ opening order) }
         ensures output { IfOk result (λ s. output_of s ≡ greeting order) }
+        ensures site { IfOk result (λ s. (site : SiteData) → IsOf site (state_of s)) }
     {
         let mut session = Session::silent(alloc, order)?;
         session.greet(alloc)?;

@@ -6,6 +6,8 @@ mod laws;
 mod serve;
 mod serving;
 #[cfg(test)]
+mod session_tests;
+#[cfg(test)]
 mod tests;
 
 pub use ended::{Ended, StreamFault};

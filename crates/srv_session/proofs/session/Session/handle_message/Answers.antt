@@ -1,12 +1,13 @@
-use Rattle.std.proofs.Common.{refl, sym, ◌∙◌}
+use Rattle.std.proofs.Common.{ℕ, List, length, refl, sym, ◌∙◌, subst}
 use Rattle.pva_frames.specs.LentView.{whole_of}
 use Rattle.pva_frames.specs.declared.event.Event.TheVariants.{Message}
 use Rattle.pva_messages.specs.Views.{request_view}
 use Rattle.srv_session.specs.Steps.{knowing}
 use Rattle.srv_session.specs.Tasks.{asks, echo, pass_over, heard_whole}
-use Rattle.srv_session.specs.Views.{state_of, output_of, show, stop_by}
+use Rattle.srv_session.specs.Views.{state_of, output_of, show, stop_by, HasPlace}
 use Rattle.srv_session.proofs.Heeding.{heeds_as, heeds_so, heard_echo, heard_early, not_heard, stops_unread, heeds_read, handled_on_site}
 use Rattle.srv_session.proofs.OnSite.{knowing_on_site}
+use Rattle.srv_session.proofs.Places.{put_has_place}
 use Rattle.srv_session.proofs.session.Session.handle_message.Goals as goal
 
 pub returns-then-message-eq-ECHO : goal.returns-then-message-eq-ECHO
@@ -54,6 +55,14 @@ returns-in_err-request g c =
 pub handle_request-requires-clause-site : goal.handle_request-requires-clause-site
 handle_request-requires-clause-site g c =
     knowing_on_site (g.D.Desk.seat c.args.desk.now).seen.base.site (state_of c.args.self.now) c.read_request.new.registry c.requires
+
+pub handle_request-requires-clause-place : goal.handle_request-requires-clause-place
+handle_request-requires-clause-place g c =
+    let message = c.args.message.now in
+    let m = request_view c.in_ok-request.request in
+    let (front, follow, is, parts) = (c.in_ok-request.ensures {u = tt}).spelled in
+    subst (λ (b : List ℕ). HasPlace m (length b)) (sym parts)
+    (put_has_place message.order message.command (state_of c.args.self.now).types front follow m c.read_request.new.registry is)
 
 pub returns : goal.returns
 returns g c =

@@ -1,4 +1,4 @@
-use Rattle.std.proofs.Common.{◌∙◌, ℕ, List, sym, ap, subst}
+use Rattle.std.proofs.Common.{◌∙◌, ℕ, List, length, sym, ap, subst}
 use Rattle.pva_frames.specs.LentView.{whole_of}
 use Rattle.pva_messages.specs.Requests.{request_fields}
 use Rattle.pva_messages.specs.Views.{request_view, valued_view}
@@ -6,7 +6,7 @@ use Rattle.pva_messages.specs.declared.to_server.ToServer.{ToServer}
 use Rattle.pva_messages.specs.Written.{FitsField}
 use Rattle.pvd_codec.specs.Written.{CanEach}
 use Rattle.srv_session.specs.Tasks.{Hearing, asks, echo, create, pass_over, validated_by, asked_get, asked_end, asked_request_end, heard_message}
-use Rattle.srv_session.specs.Views.{state_of, show}
+use Rattle.srv_session.specs.Views.{state_of, show, HasPlace}
 use Rattle.srv_session.proofs.Beginning.{get_fits, put_fits}
 use Rattle.srv_session.proofs.Heeding.{heeds_as, heeds_so}
 use Rattle.srv_session.proofs.session.Session.handle_request.Goals as goal
@@ -18,6 +18,9 @@ answer_get-requires-clause-fits g c =
 pub answer_put-requires-clause-fits : goal.answer_put-requires-clause-fits
 answer_put-requires-clause-fits g c =
     put_fits c.in-Put.sid c.in-Put.req c.in-Put.sub c.in-Put.request c.in-Put.part (subst (λ (r : ToServer). CanEach FitsField (request_fields (request_view r))) c.in-Put.is c.requires.fits)
+
+pub answer_put-requires-clause-place : goal.answer_put-requires-clause-place
+answer_put-requires-clause-place g c = subst (λ (r : ToServer). HasPlace (request_view r) (length c.args.message.now.payload.now)) c.in-Put.is c.requires.place
 
 pub returns-in-Validation : goal.returns-in-Validation
 returns-in-Validation g c =
