@@ -7,10 +7,14 @@ trap 'rm -rf "$work"' EXIT
 server=crates/pvaserve/out/pvaserve
 [ -x "$server" ] || (cd crates/pvaserve && rt run -- --version) </dev/null >/dev/null
 
+validation() {
+    printf '\xCA\x02\x00\x01\x13\x00\x00\x00\x00\x00\x01\x00\x00\x00\x00\x00\x09anonymous\xFF'
+}
+
 # What a client sends first: a validation, a channel of X or of another name of one byte, and request 1, which begins by the
 # command whose byte is given.
 opening() {
-    printf '\xCA\x02\x00\x01\x13\x00\x00\x00\x00\x00\x01\x00\x00\x00\x00\x00\x09anonymous\xFF'
+    validation
     printf '\xCA\x02\x00\x07\x08\x00\x00\x00\x01\x00\x07\x00\x00\x00\x01%s' "${2:-X}"
     printf "\\xCA\\x02\\x00\\x$1"'\x0C\x00\x00\x00\x00\x00\x00\x00\x01\x00\x00\x00\x08\x80\x00\x00'
 }
