@@ -76,8 +76,8 @@ impl Model for Group {
 
 impl Group {
     /// The group of a definition, over records that are so configured. The first fault of these is answered:
-    /// `BadMember`, a member stands below one that is no `structure`; `SameMember`, a member has the place of the alarm or the
-    /// time stamp that the empty name places at the top; `Shape`, the members make no type. The first two name the group.
+    /// `BadMember`, a member stands below one that is no `structure`; `SameMember`, a member other than a `proc` stands at or
+    /// below the alarm or the time stamp that the empty name places at the top; `Shape`, the members make no type. The first two name the group.
     pub fn build(
         alloc: Global,
         def: GroupDef,
