@@ -1,4 +1,4 @@
-ghost use Rattle.std.specs.Prelude.{◌≡◌, ◌<◌, length, IfOk, true};
+ghost use Rattle.std.specs.Prelude.{◌≡◌, ◌<◌, [], ◌∷◌, length, IfOk, true};
 ghost use Rattle.std.specs.Arc.{arc_value};
 ghost use Rattle.pvd_value.specs.Fits.{fits_of};
 ghost use Rattle.pvd_value.specs.View.{view};
@@ -275,9 +275,20 @@ fn part_of_first(
     requires some { 0 < length states.now }
 {
     footprint_makes_parts_ready();
-    match group.footprint(0) {
-        [0] => Ok(Some(group.view_part(alloc, &states[..1], group.triggered(0))?)),
-        _ => Ok(None),
+    if is_alone(group.footprint(0)) {
+        let part = group.view_part(alloc, &states[..1], group.triggered(0))?;
+        return Ok(Some(part));
+    }
+    Ok(None)
+}
+
+/// Whether record 0 is the only one of these.
+fn is_alone(records: &[u32]) -> bool
+    ensures { result ≡ true → records.now ≡ 0 ∷ [] }
+{
+    match records {
+        [only] => *only == 0,
+        _ => false,
     }
 }
 

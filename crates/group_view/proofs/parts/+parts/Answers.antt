@@ -1,18 +1,17 @@
-use Rattle.std.proofs.Common.{◌≡◌, ◌+◌, ◌<◌, ◌≤◌, ℕ, List, [], refl, sym, ap, ◌∙◌, subst, length, get_or, take, drop, set, rules, arith}
+use Rattle.std.proofs.Common.{◌≡◌, ◌+◌, ◌<◌, ◌≤◌, ℕ, [], refl, sym, ap, ◌∙◌, subst, length, get_or, drop, rules, arith}
 use Rattle.std.specs.FinSet as fin
-use Rattle.std.proofs.lemmas.List.{length-append, length-set}
-use Rattle.pvd_type.specs.Numbers.{numbered, numbered_fields, IsMeasured}
+use Rattle.std.proofs.lemmas.List.{length-set}
+use Rattle.pvd_type.specs.Numbers.{numbered, numbered_fields}
 use Rattle.pvd_type.specs.Tree.{node, struct}
 use Rattle.pvd_value.specs.Data.{Row}
-use Rattle.pvd_value.specs.Fits.{fits_of, row_fits}
+use Rattle.pvd_value.specs.Fits.{row_fits}
 use Rattle.pvd_value.specs.View.{view, row_view}
-use Rattle.pvd_value.specs.Merge.{merged_row}
 use Rattle.group_view.specs.Seen.{branch_seen, slots_seen}
-use Rattle.group_view.specs.Slots.{Slot, level}
+use Rattle.group_view.specs.Slots.{level}
 use Rattle.group_view.specs.Types.{slot_tree, slot_fields}
-use Rattle.group_view.specs.Views.{slot_shown, slots_shown, IsRowKept, IsReadyUnder, AreReadyUnder}
+use Rattle.group_view.specs.Views.{slot_shown, IsRowKept, IsReadyUnder}
 use Rattle.group_view.proofs.Merging.{unmarked, merged_same}
-use Rattle.group_view.proofs.Walks.{level_is, size_of, sizes_of, size_within}
+use Rattle.group_view.proofs.Walks.{level_is, size_of, size_within}
 use Rattle.group_view.proofs.Parting.{within, misses, still_first, few_first, total_rest, ready_first, ready_rest, measures, fits_split, left_new, same_more, kept_more, kept_here, fits_more, fits_here, slots_length, same_all, kept_all, fits_all, level_fits, level_measured}
 use Rattle.group_view.proofs.parts.+parts.Goals as goal
 

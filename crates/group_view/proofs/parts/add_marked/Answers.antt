@@ -1,4 +1,4 @@
-use Rattle.std.proofs.Common.{◌≡◌, ◌&&◌, ◌||◌, eqb, ap, ◌∙◌}
+use Rattle.std.proofs.Common.{◌&&◌, ◌||◌, eqb, ap, ◌∙◌}
 use Rattle.std.specs.FinSet as fin
 use Rattle.std.specs.FinSet.{FinSet}
 use Rattle.std.specs.Ordering.{nat_cmp}

@@ -1,4 +1,4 @@
-use Rattle.std.proofs.Common.{◌≡◌, ◌+◌, ◌<◌, ◌≤◌, ◌&&◌, ◌||◌, ℕ, eqb, ltb, ap, ◌∙◌, rules, arith}
+use Rattle.std.proofs.Common.{◌≡◌, ◌+◌, ◌≤◌, ◌&&◌, ◌||◌, ℕ, eqb, ltb, ap, ◌∙◌, rules, arith}
 use Rattle.std.specs.FinSet as fin
 use Rattle.group_view.proofs.Parting.{counted_none, counted_more}
 use Rattle.group_view.proofs.parts.counted_from.Goals as goal
