@@ -10,6 +10,7 @@ mod laws;
 mod mark;
 mod put;
 mod records;
+mod rows;
 mod serving;
 mod site;
 #[cfg(test)]
@@ -32,4 +33,5 @@ pub use pvd_type::{NoMemory, PvType};
 pub use pvd_value::PvValue;
 pub use rec_fields::FieldAnswer;
 pub use rec_kinds::{Action, Moment, PutRefusal, RecState};
+pub use rows::RecRow;
 pub use site::{Site, is_record_name};

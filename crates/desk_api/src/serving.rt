@@ -79,6 +79,7 @@ impl Site {
             ChannelKind::Rec => self.record_view(alloc, number, states),
             ChannelKind::Desc => desc_view(alloc, self.config(number)),
             ChannelKind::Group => self.group(number).view(alloc, states),
+            ChannelKind::Service => Ok(PvValue::Struct(Vec::new(alloc))),
         }
     }
 
@@ -117,7 +118,9 @@ impl Site {
     {
         match channel.kind {
             ChannelKind::Rec => self.record_actions(alloc, channel.number, value, mask),
-            ChannelKind::Desc => Err(FieldAnswer::Refused(PutRefusal::NothingWritable)),
+            ChannelKind::Desc | ChannelKind::Service => {
+                Err(FieldAnswer::Refused(PutRefusal::NothingWritable))
+            }
             ChannelKind::Group => {
                 let number = channel.number as usize;
                 self.group(number).actions(alloc, value, mask)
@@ -154,6 +157,7 @@ impl Site {
             ChannelKind::Rec => one_of(self.numbers.as_slice(), number),
             ChannelKind::Desc => &self.numbers[..0],
             ChannelKind::Group => self.group(number).members(),
+            ChannelKind::Service => self.numbers.as_slice(),
         }
     }
 
@@ -191,7 +195,7 @@ impl Site {
         ensures { result ≡ sites.is_atomic self.now channel wanted }
     {
         match channel.kind {
-            ChannelKind::Rec | ChannelKind::Desc => true,
+            ChannelKind::Rec | ChannelKind::Desc | ChannelKind::Service => true,
             ChannelKind::Group => match wanted {
                 Some(wanted) => wanted,
                 None => self.group(channel.number as usize).is_atomic(),
