@@ -21,7 +21,6 @@ use Rattle.desk_api.specs.declared.history.RollItem.{RollItem}
 use Rattle.desk_api.specs.declared.mark.Mark.{Mark}
 use Rattle.desk_api.specs.declared.mark.Mark.TheVariants.{Read, Entered, Overweight}
 use Rattle.desk_api.specs.declared.mark.Seat.{Seat}
-use Rattle.desk_api.specs.Sites.{footprint_of}
 
 pub as_many : (h : History) → length (entries h) ≡ length (commits h)
 as_many h = counted h.deeds

@@ -1,23 +1,22 @@
 -- The groups of a site, built one after another.
-use Rattle.std.specs.Prelude.{◌≡◌, ℕ, zero, suc, ◌<◌, ◌≤◌, List, [], ◌∷◌, ◌++◌, length, map, Option, Some, None, Result, Ok, Err, slice_get, refl, ⊤}
+use Rattle.std.specs.Prelude.{◌≡◌, ℕ, zero, suc, ◌≤◌, List, [], ◌∷◌, ◌++◌, length, map, Option, Some, None, Result, Ok, Err, slice_get, refl}
 use Rattle.std.specs.List.{AllByRecursion, IsDistinct}
 use Rattle.std.specs.Option.{option_or}
 use Rattle.std.specs.Str.{bytes_eq}
 use Rattle.std.proofs.Common.{arith, take, drop, sym, ◌∙◌, ap, subst}
 use Rattle.std.proofs.lemmas.List.{length-map, map-append}
-use Rattle.std.proofs.lemmas.Option.{none-some, slice_get-map}
+use Rattle.std.proofs.lemmas.Option.{none-some}
 use Rattle.rec_kinds.specs.Configs.{Config}
 use Rattle.rec_kinds.specs.declared.record_text.RecText.{RecText}
 use Rattle.group_defs.specs.Checking.{defined}
 use Rattle.group_defs.specs.Groups.{FailsAs}
-use Rattle.group_defs.specs.Sound.{AreGroups, IsGroup}
+use Rattle.group_defs.specs.Sound.{AreGroups}
 use Rattle.group_defs.specs.Told.{◌>>=◌}
 use Rattle.group_defs.specs.declared.def.GroupDef.{GroupDef}
 use Rattle.group_defs.specs.declared.fault.GroupFault.{GroupFault}
 use Rattle.group_defs.specs.declared.fault.GroupFault.TheVariants.{BadJson, UnknownKey, SameMember, UnknownTrigger, NameTaken, BadMember, Shape, TooMany, NoMemory}
 use Rattle.group_view.specs.Faults.{group_fault, IsGroupFault}
 use Rattle.group_view.specs.Groups.{GroupData, IsOver, group_of}
-use Rattle.group_view.specs.Leaves.{records_of}
 use Rattle.desk_api.proofs.Reaching.{are_over, group_below}
 use Rattle.desk_api.proofs.Stating.{split_at}
 use Rattle.desk_api.specs.Grouping.{AreBelow, IsFaultOver, IsFaultOfGroups, ungrouped}

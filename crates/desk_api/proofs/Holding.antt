@@ -1,8 +1,8 @@
 -- The records that entries hold.
-use Rattle.std.specs.Prelude.{◌≡◌, ℕ, zero, suc, ◌+◌, ◌<◌, ◌≤◌, ◌==◌, ◌||◌, ◌&&◌, Bool, IsTrue, List, [], ◌∷◌, ◌++◌, length, Option, Some, None, set, slice_get, refl, ⊤}
+use Rattle.std.specs.Prelude.{◌≡◌, ℕ, zero, suc, ◌+◌, ◌<◌, ◌≤◌, ◌==◌, ◌||◌, Bool, IsTrue, List, [], ◌∷◌, ◌++◌, length, Option, Some, None, set, slice_get, refl}
 use Rattle.std.specs.List.{AllByRecursion, filter, list_all, list_any, range_with_len}
-use Rattle.std.proofs.Common.{true, false, cond, arith, sym, ◌∙◌, ap, subst, eq-eqb, eqb, ltb}
-use Rattle.std.proofs.lemmas.Bool.{false≢true, eqb-true, ne_eqb, ltb-true, ltb-false}
+use Rattle.std.proofs.Common.{true, false, cond, arith, sym, ◌∙◌, ap, subst, eq-eqb, ltb}
+use Rattle.std.proofs.lemmas.Bool.{false≢true, eqb-true, ltb-true, ltb-false}
 use Rattle.std.proofs.lemmas.Bool.Decides.{same_from_decides}
 use Rattle.rec_kinds.specs.Configs.{Config}
 use Rattle.rec_kinds.specs.declared.datum.Action.{Action}

@@ -10,3 +10,4 @@ pub mod Reaching
 pub mod Building
 pub mod Reading
 pub mod Acting
+pub mod Strict

@@ -1,6 +1,5 @@
 -- What the names of a site stand for.
 use Rattle.std.specs.Prelude.{◌≡◌, ℕ, zero, suc, ◌+◌, ◌<◌, ◌&&◌, ◌||◌, Bool, not, List, [], ◌∷◌, ◌++◌, length, map, Option, Some, None, IsTrue, slice_get, bytes_eq, codes, string_bytes, string_eq, String, option_map, refl}
-use Rattle.std.specs.Bool.{Decides}
 use Rattle.std.specs.List.{AllByRecursion, IsDistinct, list_all, list_any, position_from}
 use Rattle.std.specs.Option.{option_or}
 use Rattle.std.proofs.Common.{true, false, cond, arith, sym, ◌∙◌, ap, subst, append_assoc, take, Global}
@@ -20,7 +19,6 @@ use Rattle.desk_api.specs.Records.{channel_at}
 use Rattle.group_view.specs.Groups.{GroupData}
 use Rattle.desk_api.specs.Sites.{is_record_name, channel_of, names_from, group_names_from, first_named, channel_named, is_channel}
 use Rattle.desk_api.specs.declared.channel.Channel.{Channel}
-use Rattle.desk_api.specs.declared.channel.ChannelKind.{ChannelKind}
 use Rattle.desk_api.specs.declared.channel.ChannelKind.TheVariants.{Rec, Desc, Group}
 use Rattle.desk_api.specs.declared.history.SiteData.{SiteData}
 

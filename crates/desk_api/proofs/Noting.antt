@@ -1,12 +1,12 @@
 -- Numbers that are noted for others.
-use Rattle.std.specs.Prelude.{◌≡◌, ℕ, zero, suc, ◌+◌, ◌<◌, ◌≤◌, ◌==◌, ◌||◌, ◌&&◌, Bool, List, replicate, [], ◌∷◌, ◌++◌, length, fold, set, take, slice_get, map, option_map, Option, Some, None, refl, ⊤}
+use Rattle.std.specs.Prelude.{◌≡◌, ℕ, zero, suc, ◌+◌, ◌<◌, ◌==◌, ◌||◌, ◌&&◌, Bool, List, replicate, [], ◌∷◌, ◌++◌, length, fold, set, take, slice_get, map, option_map, Option, Some, None, refl}
 use Rattle.std.specs.BTreeSet.{insert_key}
 use Rattle.std.specs.List.{list_any, AllByRecursion}
 use Rattle.std.specs.Ordering.{nat_cmp, match_ordering}
 use Rattle.std.specs.declared.cmp.Ordering.{Ordering}
 use Rattle.std.specs.declared.cmp.Ordering.TheVariants.{Less, Equal, Greater}
-use Rattle.std.proofs.Common.{true, false, cond, arith, sym, ◌∙◌, ap, subst, eq-eqb, eqb, add-one}
-use Rattle.std.proofs.lemmas.Bool.{false≢true, eqb-true, eqb-false, ne_eqb}
+use Rattle.std.proofs.Common.{true, false, arith, sym, ◌∙◌, ap, subst, eq-eqb}
+use Rattle.std.proofs.lemmas.Bool.{false≢true, eqb-true, eqb-false}
 use Rattle.std.proofs.lemmas.Map.Lookups.{exact_unsigned}
 use Rattle.std.proofs.lemmas.List.Folds.{list_any-append}
 use Rattle.std.proofs.lemmas.Option.{none-some, slice_get_within, slice_get-map}
@@ -31,7 +31,7 @@ later m ns n is = or_later (m == n) (is_among ns n) is
 -- ---- numbers in rising order
 
 module _ (P : ℕ → Type 0) where
-  all_inserted : (ks : List ℕ) (k : ℕ) → AllByRecursion P ks → P k → AllByRecursion P (insert_key nat_cmp ks k)
+  pub all_inserted : (ks : List ℕ) (k : ℕ) → AllByRecursion P ks → P k → AllByRecursion P (insert_key nat_cmp ks k)
   all_inserted [] k all one = (one, tt)
   all_inserted (x ∷ xs) k all one =
       elim (nat_cmp k x) as (λ (o : Ordering). AllByRecursion P (match_ordering o (k ∷ x ∷ xs) (x ∷ xs) (x ∷ insert_key nat_cmp xs k))) [

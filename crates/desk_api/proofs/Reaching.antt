@@ -1,8 +1,8 @@
 -- The records that groups are about, and those that they read.
 use Rattle.std.specs.Prelude.{◌≡◌, ℕ, zero, suc, ◌<◌, ◌||◌, Bool, List, [], ◌∷◌, length, map, Option, Some, None, MatchOption, option_map, slice_get, refl, ⊤}
-use Rattle.std.specs.List.{AllByRecursion, filter, filter_map, flat_map, list_any, cons_option}
+use Rattle.std.specs.List.{AllByRecursion, filter, filter_map, flat_map, cons_option}
 use Rattle.std.specs.Option.{option_and_then}
-use Rattle.std.proofs.Common.{true, false, cond, sym, ◌∙◌, ap, subst, eqb}
+use Rattle.std.proofs.Common.{true, false, cond, sym, ◌∙◌, ap, eqb}
 use Rattle.std.proofs.lemmas.Bool.{false≢true}
 use Rattle.histories.proofs.Prefixes.{element_within}
 use Rattle.rec_kinds.specs.Configs.{Config}

@@ -1,14 +1,14 @@
 -- The groups that are noted for a record read what all groups read for it.
-use Rattle.std.specs.Prelude.{◌≡◌, ℕ, ◌==◌, Bool, List, Option, Some, None, slice_get, refl}
+use Rattle.std.specs.Prelude.{◌≡◌, ℕ, ◌==◌, Bool, List, Option, Some, slice_get, refl}
 use Rattle.std.specs.List.{list_any}
-use Rattle.std.proofs.Common.{true, false, sym, ◌∙◌, ap, eq-eqb}
+use Rattle.std.proofs.Common.{true, ◌∙◌, ap, eq-eqb}
 use Rattle.std.proofs.lemmas.Bool.{eqb-true}
 use Rattle.std.proofs.lemmas.Bool.Decides.{same_from_decides}
 use Rattle.group_view.specs.Groups.{GroupData}
-use Rattle.group_view.specs.Leaves.{footprint, records_of}
+use Rattle.group_view.specs.Leaves.{footprint}
 use Rattle.desk_api.proofs.Noting.{is_read, some_place, passes_there, read_by_noted}
 use Rattle.desk_api.proofs.Reaching.{about_it}
-use Rattle.desk_api.specs.Grouping.{is_among, is_noted, has_record, noted, AreNoted}
+use Rattle.desk_api.specs.Grouping.{is_among, has_record, noted, AreNoted}
 
 same_bools : (a b : Bool) → (a ≡ true → b ≡ true) → (b ≡ true → a ≡ true) → a ≡ b
 same_bools a b there back = same_from_decides {P = a ≡ true} a b ((λ e. e), (λ e. e)) ((λ e. back e), (λ e. there e))

@@ -1,5 +1,5 @@
 -- Records under their names.
-use Rattle.std.specs.Prelude.{◌≡◌, ℕ, ◌+◌, ◌<◌, ◌≤◌, ◌&&◌, Result, Ok, Err, OnOk, OnErr, IsTrue, string_eq, Bool, List, [], ◌∷◌, ◌++◌, length, map, Option, Some, None, slice_get, bytes_eq, string_bytes, String, refl}
+use Rattle.std.specs.Prelude.{◌≡◌, ℕ, ◌+◌, ◌<◌, ◌≤◌, ◌&&◌, Result, Ok, Err, OnOk, OnErr, IsTrue, string_eq, Bool, List, [], ◌∷◌, ◌++◌, length, map, Some, slice_get, bytes_eq, string_bytes, String, refl}
 use Rattle.std.specs.Option.{option_map}
 use Rattle.std.specs.List.{list_all, position_from}
 use Rattle.std.specs.Map.{keys_of}
@@ -21,7 +21,6 @@ use Rattle.rec_kinds.specs.declared.state.RecState.{RecState}
 use Rattle.desk_api.specs.Records.{channel_at, with_one}
 use Rattle.desk_api.specs.Sites.{channel_of, is_record_name}
 use Rattle.desk_api.specs.Types.{type_shown}
-use Rattle.desk_api.specs.declared.channel.Channel.{Channel}
 use Rattle.desk_api.specs.declared.channel.ChannelKind.{ChannelKind}
 use Rattle.desk_api.specs.declared.history.SiteData.{SiteData}
 use Rattle.desk_api.specs.declared.records.Served.{Served}

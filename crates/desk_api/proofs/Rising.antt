@@ -1,11 +1,11 @@
 -- Numbers that rise.
-use Rattle.std.specs.Prelude.{◌≡◌, ℕ, zero, suc, ◌+◌, ◌<◌, ◌≤◌, ◌==◌, ◌||◌, Bool, List, [], ◌∷◌, length, slice_index_or, slice_get, Some, refl, ⊤}
-use Rattle.std.specs.List.{filter, list_any, range_with_len, AllByRecursion, Contains}
+use Rattle.std.specs.Prelude.{◌≡◌, ℕ, zero, suc, ◌+◌, ◌<◌, ◌≤◌, ◌==◌, Bool, List, [], ◌∷◌, length, slice_index_or, slice_get, Some, refl, ⊤}
+use Rattle.std.specs.List.{filter, range_with_len, AllByRecursion, Contains}
 use Rattle.std.specs.List.Sorted.{IsStrictlyIncreasing, IsStrictlySortedBy}
 use Rattle.std.specs.Ordering.{nat_cmp}
-use Rattle.std.specs.declared.cmp.Ordering.TheVariants.{Less, Equal, Greater}
-use Rattle.std.proofs.Common.{true, false, cond, arith, sym, ◌∙◌, ap, subst, eq-eqb, eqb, ltb, rules}
-use Rattle.std.proofs.lemmas.Bool.{false≢true, eqb-true, ne_eqb, ltb-true, ltb-false}
+use Rattle.std.specs.declared.cmp.Ordering.TheVariants.{Less}
+use Rattle.std.proofs.Common.{true, false, cond, arith, sym, ◌∙◌, ap, subst, eq-eqb, eqb, ltb}
+use Rattle.std.proofs.lemmas.Bool.{eqb-true, ne_eqb, ltb-true, ltb-false}
 use Rattle.std.proofs.lemmas.Bool.Decides.{same_from_decides}
 use Rattle.std.proofs.lemmas.Map.Keys.{sorted_from_strictly_increasing, sorted_head, sorted_tail, any_passes_from_place, below_from_sorted}
 use Rattle.std.proofs.lemmas.Map.Views.{Contains-from_any}

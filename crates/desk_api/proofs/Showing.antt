@@ -11,7 +11,7 @@ use Rattle.rec_kinds.specs.declared.state.RecState.{RecState}
 use Rattle.rec_fields.specs.Shown.{shown}
 use Rattle.rec_fields.specs.Types.{record_tree}
 use Rattle.rec_fields.proofs.Shows.{shown_fits}
-use Rattle.group_view.specs.Groups.{GroupData, IsOver, IsReady, AreReady, HasState, IsLinkOf}
+use Rattle.group_view.specs.Groups.{GroupData, IsOver, AreReady, HasState, IsLinkOf}
 use Rattle.group_view.specs.Links.{Link}
 use Rattle.group_view.specs.Laws.{Agree, ReadsRecords}
 use Rattle.group_view.proofs.Keeping.{shown_fits as group_shown_fits}
@@ -36,7 +36,6 @@ use Rattle.desk_api.specs.declared.channel.ChannelKind.{ChannelKind}
 use Rattle.desk_api.specs.declared.channel.ChannelKind.TheVariants.{Rec, Desc, Group}
 use Rattle.desk_api.specs.declared.history.SiteData.{SiteData}
 use Rattle.desk_api.specs.declared.mark.Mark.{Mark}
-use Rattle.desk_api.specs.declared.mark.Mark.TheVariants.{Read, Entered, Overweight}
 
 -- ---- a group's records have states that they may be in
 

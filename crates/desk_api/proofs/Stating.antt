@@ -6,7 +6,7 @@ use Rattle.std.proofs.lemmas.Bool.{false≢true}
 use Rattle.std.proofs.lemmas.List.{map-append}
 use Rattle.std.proofs.lemmas.Option.{none-some}
 use Rattle.db_load.specs.Forms.{is_among}
-use Rattle.db_load.specs.Grammar.{RecordsAfter, record_is}
+use Rattle.db_load.specs.Grammar.{RecordsAfter}
 use Rattle.db_text.specs.declared.token.Token.{Token}
 use Rattle.rec_kinds.specs.Building.{config_of, opening_of}
 use Rattle.rec_kinds.specs.declared.fault.BuildFault.{BuildFault}

@@ -4,7 +4,7 @@ use Rattle.std.specs.Option.{option_or, option_map}
 use Rattle.db_text.specs.Macros.{Macros}
 use Rattle.db_load.specs.Loading.{RecordsOf, FirstFaultOf}
 use Rattle.db_load.specs.declared.fault.LoadFault.TheVariants as loads
-use Rattle.rec_kinds.specs.Building.{build_fault, config_of}
+use Rattle.rec_kinds.specs.Building.{build_fault}
 use Rattle.rec_kinds.specs.Configs.{Config}
 use Rattle.rec_kinds.specs.declared.fault.BuildFault.{BuildFault}
 use Rattle.rec_kinds.specs.declared.record_text.RecText.{RecText}

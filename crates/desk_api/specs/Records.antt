@@ -3,7 +3,6 @@ use Rattle.std.specs.Prelude.{◌≡◌, ℕ, ◌+◌, false, IsTrue, List, [], 
 use Rattle.std.specs.Prelude.{bytes_eq, ⊤}
 use Rattle.rec_kinds.specs.Building.{config_of, opening_of}
 use Rattle.rec_kinds.specs.Configs.{Config}
-use Rattle.rec_kinds.specs.declared.fault.BuildFault.{BuildFault}
 use Rattle.rec_kinds.specs.declared.record_text.RecText.{RecText}
 use Rattle.rec_kinds.specs.declared.state.RecState.{RecState}
 use Rattle.db_load.specs.Forms.{is_among}

@@ -1,6 +1,7 @@
 // Laws of the definitions. Each is the contract of a function that does nothing.
 ghost use Rattle.std.specs.Prelude.{◌≡◌, ℕ, ◌≤◌, ◌==◌, Bool, true, List, [], ◌++◌, length, Option, Some, IsTrue};
 ghost use Rattle.std.specs.List.{list_all, list_any};
+ghost use Rattle.std.specs.List.Sorted.{IsStrictlyIncreasing};
 ghost use Rattle.histories.specs.History.{Begins};
 ghost use Rattle.journal_core.specs.Legality.{AreProcessed, AreValid};
 ghost use Rattle.desk_api.specs.History.{History, entries, state_at, kept_at, IsLegal};
@@ -50,6 +51,12 @@ pub fn looks_show_states()
 /// An entry writes only records that it holds.
 pub fn entries_write_inside()
     ensures { (site : SiteData) (states : List RecState) (moment : Moment) (actions : List (ℕ × Action)) (drove : List Bool) (writes : List (ℕ × RecState)) → AreProcessed site.configs states moment actions drove writes → IsTrue (list_all (λ write. list_any (λ rec. rec == write.0) (footprint_by site actions)) writes) }
+{}
+
+/// The records that a get reads and those that an entry holds stand in rising order, each once.
+pub fn footprints_rise()
+    ensures gets { (site : SiteData) (channel : Channel) → IsStrictlyIncreasing (footprint_of site channel) }
+    ensures entries { (site : SiteData) (actions : List (ℕ × Action)) → IsStrictlyIncreasing (footprint_by site actions) }
 {}
 
 /// A desk that isn't called adds no mark, and calls one after another add their marks one after another.

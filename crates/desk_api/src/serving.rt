@@ -1,5 +1,5 @@
 // What gets and puts of a channel read and do, as every desk needs it.
-ghost use Rattle.std.specs.Prelude.{◌≡◌, ◌<◌, ◌||◌, ◌∷◌, [], ℕ, true, IfErr, IfOk, IsTrue, OnOk, Ok, Some, drop, length, slice_get, take};
+ghost use Rattle.std.specs.Prelude.{◌≡◌, ◌<◌, ◌≤◌, ◌||◌, ◌∷◌, [], ℕ, true, IfErr, IfOk, IsTrue, OnOk, Ok, Some, drop, length, slice_get, take};
 ghost use Rattle.std.specs.List.{AllByRecursion};
 ghost use Rattle.std.specs.List.Sorted.{IsStrictlyIncreasing};
 ghost use Rattle.desk_api.specs.Grouping.{is_among};
@@ -98,9 +98,9 @@ impl Site {
         view(alloc, self.config(rec), state_of(states, rec))
     }
 
-    /// The actions that a put of the marked leaves of a value asks for, in put order, each with its record; there is at least one.
-    /// Whether the channel takes them is decided before anything is done: a description can't be written, a record tells by
-    /// [`rec_fields::action_of`], and a group by its first member in put order that doesn't take the put.
+    /// The actions that a put of the marked leaves of a value asks for, in put order, each with its record: at least one and at
+    /// most 256. Whether the channel takes them is decided before anything is done: a description can't be written, a record
+    /// tells by [`rec_fields::action_of`], and a group by its first member in put order that doesn't take the put.
     pub fn actions(
         &self,
         alloc: Global,
@@ -115,6 +115,7 @@ impl Site {
         ensures may { IfOk result (λ actions. AllByRecursion (MayBeDoneBy self.now.configs) actions.items) }
         ensures within { IfOk result (λ actions. AllByRecursion (λ a. a.0 < length self.now.configs) actions.items) }
         ensures some { IfOk result (λ actions. 0 < length actions.items) }
+        ensures few { IfOk result (λ actions. length actions.items ≤ 256) }
     {
         match channel.kind {
             ChannelKind::Rec => self.record_actions(alloc, channel.number, value, mask),
@@ -142,6 +143,7 @@ impl Site {
         ensures refusal { IfErr result (IsRefusedBy (to_configured rec mask.now (view value.now) (slice_get self.now.configs rec))) }
         ensures may { IfOk result (λ actions. AllByRecursion (MayBeDoneBy self.now.configs) actions.items) }
         ensures some { IfOk result (λ actions. 0 < length actions.items) }
+        ensures few { IfOk result (λ actions. length actions.items ≤ 256) }
     {
         let action = action_of(alloc, self.config(rec as usize), value, mask)?;
         Ok(one_action(alloc, rec, action)?)

@@ -260,6 +260,35 @@ each_writer P g h =
     values_so P _ (writers_so P (leaves_of g) 0 g.members []
     (λ n m is. subst (λ (j : ℕ). IfSome (writer_of j m (leaves_of g j)) (λ w. P w.1)) (omega arith) (h n m is)) tt)
 
+-- there are at most as many as members
+entries_few : (es : List (Place × Writer)) (k : Place) (w : Writer) → length (insert_entry place_cmp es k w) ≤ length es + 1
+entries_few [] k w = omega arith
+entries_few (e ∷ es) k w =
+    elim (place_cmp k e.0) as (λ o. length (match_ordering o ((k, w) ∷ e ∷ es) ((e.0, w) ∷ es) (e ∷ insert_entry place_cmp es k w)) ≤ length (e ∷ es) + 1) [
+      | Less ↦ omega arith
+      | Equal ↦ omega arith
+      | Greater ↦ let rest = entries_few es k w in omega (arith, rest)
+    ]
+
+with_few : (es : List (Place × Writer)) (o : Option (Place × Writer)) → length (with_writer es o) ≤ length es + 1
+with_few es None = omega arith
+with_few es (Some w) = entries_few es w.0 w.1
+
+among_few : (leaves : ℕ → List ℕ) (k : ℕ) (ms : List Member) (es : List (Place × Writer)) → length (writers_among leaves es (enumerate_from k ms)) ≤ length es + length ms
+among_few leaves k [] es = omega arith
+among_few leaves k (m ∷ ms) es =
+    let next = with_writer es (writer_of k m (leaves k)) in
+    let rest = among_few leaves (k + 1) ms next in
+    omega (arith, rest, with_few es (writer_of k m (leaves k)))
+
+pub writers_few : (g : GroupData) → length (writers g) ≤ length g.members
+unfolding writers
+writers_few g = let es = writers_among (leaves_of g) [] (enumerate_from 0 g.members) in omega (arith, length_values es, among_few (leaves_of g) 0 g.members [])
+  where
+    length_values : (xs : List (Place × Writer)) → length (map (λ e. e.1) xs) ≡ length xs
+    length_values [] = refl
+    length_values (x ∷ xs) = ap suc (length_values xs)
+
 linked_so : (configs : List Config) (n : ℕ) (order : Option ℤ) (link : Option Link) (writing : Option Writing) → MatchOption link ⊤ (IsLinkOf configs)
     → IfSome (placed_by n order link writing) (λ w. IsLinkOf configs w.1.link)
 linked_so configs n (Some order) (Some l) (Some writing) h = h
@@ -405,8 +434,8 @@ pub built_is : {Y : Type 0} (g : GroupData) (slots : Slots) (ty : Tree) (shown :
     → ((n : ℕ) → n < length g.members → leaves_at own n ≡ places (is_number n) 0 shown) → records ≡ records_of g.members
     → Reaches records (reach_by (leaves_at own) g.members) reached
     → writable ≡ map (λ e. e.1) (writers_among (leaves_at own) [] (enumerate_from 0 g.members))
-    → is_misplaced g.members ≡ false → is_doubled g.members ≡ false → type_fault ty ≡ None → IsBuilt g ty slots records reached writable
-built_is g slots ty shown own records reached writable structure tree few is long leaves recs reaching writing placed single none =
+    → is_misplaced g.members ≡ false → is_doubled g.members ≡ false → type_fault ty ≡ None → length g.members ≤ 256 → IsBuilt g ty slots records reached writable
+built_is g slots ty shown own records reached writable structure tree few is long leaves recs reaching writing placed single none members_few =
     let same : (n : ℕ) → leaves_at own n ≡ leaves_of g n = own_are g own shown long (is ∙ ap (λ (t : Slot). map member_in (sources t)) structure) leaves in
     record {
       tree = tree ∙ tree_is g slots structure;
@@ -416,6 +445,7 @@ built_is g slots ty shown own records reached writable structure tree few is lon
       reaching = reaches_are g (leaves_at own) records reached same reaching;
       writers_are = writers_are g (leaves_at own) writable same writing;
       faultless = fault_free g slots ty structure tree placed single none;
+      members_few = members_few;
     }
 
 pub structure_is : (g : GroupData) (slots : Slots) → slots ≡ slots_of (in_order (entries_of g.members)) → level g.id slots ≡ structure_of g

@@ -1,12 +1,12 @@
 -- Actions of one writable member after another.
-use Rattle.std.proofs.Common.{◌≡◌, ℕ, zero, suc, ◌+◌, ◌<◌, List, [], ◌∷◌, ◌++◌, length, get_or, drop, Option, None, Some, Result, Ok, Err, refl, sym, ap, ◌∙◌, subst, arith, add-one}
+use Rattle.std.proofs.Common.{◌≡◌, ℕ, zero, suc, ◌+◌, ◌<◌, ◌≤◌, true, false, cond, List, [], ◌∷◌, ◌++◌, length, get_or, drop, Option, None, Some, Result, Ok, Err, refl, sym, ap, ◌∙◌, subst, arith, add-one}
 use Rattle.std.specs.Prelude.{MatchOption}
-use Rattle.std.specs.FinSet.{FinSet}
+use Rattle.std.specs.FinSet.{FinSet, contains}
 use Rattle.std.specs.List.{AllByRecursion}
 use Rattle.std.specs.Option.{IfSome}
 use Rattle.std.specs.Ordering.{nat_cmp}
 use Rattle.std.proofs.Math.Seq.{drop-cons}
-use Rattle.std.proofs.lemmas.List.{append_assoc}
+use Rattle.std.proofs.lemmas.List.{append_assoc, length-append}
 use Rattle.pvd_type.specs.Tree.{Tree}
 use Rattle.pvd_value.specs.Data.{Data}
 use Rattle.rec_kinds.specs.Configs.{Config}
@@ -14,13 +14,28 @@ use Rattle.rec_kinds.specs.Validity.{MayBeDone}
 use Rattle.rec_kinds.specs.declared.datum.Action.{Action}
 use Rattle.rec_fields.specs.declared.puts.FieldAnswer.{FieldAnswer}
 use Rattle.group_view.specs.Groups.{IsLinkOf}
-use Rattle.group_view.specs.Puts.{also, done_by, done_by_all, listed, unless_none, actions_for, writers, Refuses, MayBeDoneBy}
+use Rattle.group_view.specs.Links.{Link}
+use Rattle.pvd_value.specs.Leaves.{leaf_at}
+use Rattle.rec_fields.specs.Plain.{leaf_action}
+use Rattle.group_view.specs.declared.writer.Writing.{Writing}
+use Rattle.group_view.specs.declared.writer.Writing.TheVariants.{Writes, Processes}
+use Rattle.group_view.specs.Puts.{with_record, put_to, also, done_by, done_by_all, listed, unless_none, actions_for, writers, Refuses, MayBeDoneBy}
 use Rattle.group_view.specs.Groups.{GroupData}
 use Rattle.group_view.specs.Types.{group_tree}
 use Rattle.rec_kinds.specs.declared.put.PutRefusal.TheVariants.{NothingWritable}
 use Rattle.rec_fields.specs.declared.puts.FieldAnswer.TheVariants.{Refused, NoMemory}
 use Rattle.group_view.specs.declared.writer.Writer.{Writer}
 use Rattle.group_view.proofs.Depending.{all_append}
+
+abbrev told : List (ℕ × Action) → Result (List (ℕ × Action)) FieldAnswer
+told xs = Ok xs
+
+all_of : {xs ys : List (ℕ × Action)} → told xs ≡ told ys → xs ≡ ys
+all_of e = cc
+
+recorded_few : (rec : ℕ) (r : Result Action FieldAnswer) (xs : List (ℕ × Action)) → with_record rec r ≡ Ok xs → length xs ≤ 1
+recorded_few rec (Ok action) xs is = omega (arith, ap length (all_of is))
+recorded_few rec (Err answer) xs is = absurd (cc)
 
 also_joined : (xs ys : List (ℕ × Action)) (r : Result (List (ℕ × Action)) FieldAnswer) → also (Ok (xs ++ ys)) r ≡ also (Ok xs) (also (Ok ys) r)
 also_joined xs ys (Ok zs) = ap Ok (append_assoc xs ys zs)
@@ -69,6 +84,34 @@ may_more configs ws i w before after rec action within here is named may linked 
     by : (a : Option Action) → IfSome a (MayBeDone w.link.config) → AllByRecursion (MayBeDoneBy configs) (listed w.link.rec a)
     by None h = tt
     by (Some a) h = (subst (λ o. MatchOption o ⊥ (λ config. MayBeDone config a)) (sym link) h, tt)
+
+-- ---- how many actions there are
+
+module _ (t : Tree) (value : Data) (mask : FinSet nat_cmp) where
+  put_few : (link : Link) (o : Option Data) (xs : List (ℕ × Action)) → put_to link o ≡ Ok xs → length xs ≤ 1
+  put_few link None xs is = let e = all_of is in omega (arith, ap length e)
+  put_few link (Some leaf) xs is = recorded_few link.rec (leaf_action link.config leaf) xs is
+
+  done_few : (link : Link) (writing : Writing) (xs : List (ℕ × Action)) → done_by t value mask link writing ≡ Ok xs → length xs ≤ 1
+  done_few link (Writes leaf) xs is =
+      elim (contains mask leaf) as (λ b. cond b (put_to link (leaf_at leaf t value)) (Ok []) ≡ Ok xs → length xs ≤ 1) [
+        | true ↦ put_few link (leaf_at leaf t value) xs
+        | false ↦ λ e. omega (arith, ap length (all_of e))
+      ] is
+  done_few link Processes xs is = omega (arith, ap length (all_of is))
+
+  pub actions_few : (ws : List Writer) (xs : List (ℕ × Action)) → done_by_all t value mask ws ≡ Ok xs → length xs ≤ length ws
+  actions_few [] xs is = omega (arith, ap length (all_of is))
+  actions_few (w ∷ ws) xs is = by (done_by t value mask w.link w.writing) refl (done_by_all t value mask ws) refl (λ zs more. actions_few ws zs more) is
+    where
+      by : (one : Result (List (ℕ × Action)) FieldAnswer) → done_by t value mask w.link w.writing ≡ one → (rest : Result (List (ℕ × Action)) FieldAnswer) → done_by_all t value mask ws ≡ rest
+          → ((zs : List (ℕ × Action)) → done_by_all t value mask ws ≡ Ok zs → length zs ≤ length ws) → also one rest ≡ Ok xs → length xs ≤ suc (length ws)
+      by (Err answer) one rest more later e = absurd (cc)
+      by (Ok ys) one (Err answer) more later e = absurd (cc)
+      by (Ok ys) one (Ok zs) more later e =
+          let first = done_few w.link w.writing ys one in
+          let others = later zs more in
+          omega (arith, first, others, ap length (all_of e), length-append ys zs)
 
 -- ---- the whole put
 

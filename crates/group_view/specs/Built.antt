@@ -41,7 +41,8 @@ abbrev pub IsShapeFault : Tree → GroupFault → Type 0
 IsShapeFault t faults.NoMemory = ⊤
 IsShapeFault t fault = option_map faults.Shape (type_fault t) ≡ Some fault
 
--- The type, the structure, the records, what each of these triggers, and the writable members are the group's.
+-- The type, the structure, the records, what each of these triggers, and the writable members are the group's, which has
+-- at most 256 members.
 pub record IsBuilt (g : GroupData) (ty : Tree) (slots : Slots) (records : List ℕ) (reached : ℕ → Option Reach)
     (writable : List Writer) : Type 0 where
   pub tree : ty ≡ group_tree g
@@ -51,3 +52,4 @@ pub record IsBuilt (g : GroupData) (ty : Tree) (slots : Slots) (records : List �
   pub reaching : Reaches records (reach_of g) reached
   pub writers_are : writable ≡ writers g
   pub faultless : group_fault g ≡ None
+  pub members_few : length g.members ≤ 256

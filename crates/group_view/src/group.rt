@@ -212,6 +212,7 @@ impl Group {
         ensures writers { result.now ≡ writers self.now }
         ensures leaves { AllByRecursion (λ w. IsWritten (group_tree self.now) w.link w.writing) result.now }
         ensures over { (configs : List Config) → IsOver configs self.now → AllByRecursion (λ w. IsLinkOf configs w.link) result.now }
+        ensures few { length result.now ≤ 256 }
     {
         &self.writers
     }

@@ -1,5 +1,5 @@
 // What a put to a group does.
-ghost use Rattle.std.specs.Prelude.{◌≡◌, ◌++◌, OnOk, Ok, Some, true, IfOk, IfErr, IfSome, List, slice_get};
+ghost use Rattle.std.specs.Prelude.{◌≡◌, ◌≤◌, ◌++◌, length, OnOk, Ok, Some, true, IfOk, IfErr, IfSome, List, slice_get};
 ghost use Rattle.std.specs.List.{AllByRecursion};
 ghost use Rattle.pvd_type.specs.Numbers.{numbered};
 ghost use Rattle.pvd_value.specs.Fits.{fits_of};
@@ -26,7 +26,7 @@ impl Group {
     /// `scalar` is put where its `value` is marked, of an enum its `value.index`, and a `plain` where its leaf is; each `proc`
     /// with a put order processes its record, whatever is marked, also where that record refuses puts. All puts are checked
     /// in this order: the first that its record refuses is the answer. `NothingWritable` is the answer where there is no
-    /// action (QSRV manual, "Group PV definitions").
+    /// action. There is at most one for each member (QSRV manual, "Group PV definitions").
     pub fn actions(
         &self,
         alloc: Global,
@@ -36,6 +36,7 @@ impl Group {
         requires { fits_of 16 (view value.now) (group_tree self.now) ≡ true }
         ensures actions { IfOk result (λ actions. actions_for self.now (view value.now) mask.now ≡ Ok actions.items) }
         ensures may { IfOk result (λ actions. (configs : List Config) → IsOver configs self.now → AllByRecursion (MayBeDoneBy configs) actions.items) }
+        ensures few { IfOk result (λ actions. length actions.items ≤ 256) }
         ensures refusal { IfErr result (IsRefusal self.now (view value.now) mask.now) }
     {
         let actions = match actions_of(alloc, self.writers(), self.type_of(), value, mask) {

@@ -1,5 +1,3 @@
-use Rattle.std.specs.Prelude.{◌≡◌, ℕ, List, ◌++◌, ◌∷◌, [], map, string_bytes}
-use Rattle.std.proofs.Common.{sym, ◌∙◌, ap, String, Global}
 use Rattle.desk_api.proofs.Naming.{pushed_new}
 use Rattle.desk_api.proofs.groups.add_name.Goals as goal
 

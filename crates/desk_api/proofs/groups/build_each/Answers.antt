@@ -1,11 +1,10 @@
-use Rattle.std.specs.Prelude.{◌≡◌, ℕ, ◌<◌, List, ◌++◌, ◌∷◌, [], map, length, take, Some, None, slice_get}
-use Rattle.std.proofs.Common.{sym, ◌∙◌, ap, subst, arith}
+use Rattle.std.specs.Prelude.{◌≡◌, List, ◌++◌, ◌∷◌, [], map, length, take, None}
+use Rattle.std.proofs.Common.{sym, ◌∙◌, ap, subst}
 use Rattle.std.proofs.lemmas.Iterator.Adapters.{YieldsList-from_vec}
 use Rattle.std.proofs.lemmas.Iterator.Consumers.{YieldsList-so_far, YieldsList-turn, YieldsList-end}
-use Rattle.std.proofs.lemmas.List.{length-map, map-append, map-id}
+use Rattle.std.proofs.lemmas.List.{map-append, map-id}
 use Rattle.group_defs.specs.Sound.{IsGroup}
-use Rattle.group_defs.specs.declared.def.GroupDef.{GroupDef}
-use Rattle.group_view.specs.Faults.{group_fault, IsGroupFault}
+use Rattle.group_view.specs.Faults.{group_fault}
 use Rattle.group_view.specs.Groups.{GroupData, group_of}
 use Rattle.group_view.specs.Seen.{configs_seen}
 use Rattle.desk_api.proofs.Building.{all_at, build_fault, built_all, faultless_more}

@@ -1,5 +1,5 @@
 use Rattle.std.specs.Prelude.{◌≡◌, ℕ, zero, suc, ◌+◌, List, ◌++◌, ◌∷◌, [], map, replicate, refl}
-use Rattle.std.proofs.Common.{sym, ◌∙◌, ap, arith, Vec, Global}
+use Rattle.std.proofs.Common.{◌∙◌, ap, arith, Vec, Global}
 use Rattle.std.proofs.lemmas.List.{map-append}
 use Rattle.desk_api.proofs.groups.empty_lists.Goals as goal
 

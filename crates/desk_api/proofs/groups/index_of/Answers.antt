@@ -1,4 +1,4 @@
-use Rattle.std.specs.Prelude.{◌≡◌, ℕ, ◌<◌, List, [], map, length, replicate, take, Some, slice_get}
+use Rattle.std.specs.Prelude.{◌≡◌, ℕ, ◌<◌, List, [], map, length, replicate, take}
 use Rattle.std.specs.List.{AllByRecursion}
 use Rattle.std.proofs.Common.{sym, ◌∙◌, ap, subst, arith, Vec, Global}
 use Rattle.std.proofs.Math.Seq.{take-length}
@@ -8,7 +8,7 @@ use Rattle.group_view.specs.Leaves.{records_of}
 use Rattle.desk_api.proofs.Building.{all_at}
 use Rattle.desk_api.proofs.Noting.{none_noted, noted_all}
 use Rattle.desk_api.proofs.Stating.{there}
-use Rattle.desk_api.specs.Grouping.{is_among, is_noted, AreNoted, IsNotedFor}
+use Rattle.desk_api.specs.Grouping.{AreNoted, IsNotedFor}
 use Rattle.desk_api.proofs.groups.index_of.Goals as goal
 
 pub loop-number-init : goal.loop-number-init

@@ -1,6 +1,5 @@
-use Rattle.std.specs.Prelude.{◌≡◌, ℕ, List, ◌++◌, ◌∷◌, [], map, length, take, Some, slice_get, string_bytes, option_map}
-use Rattle.std.specs.List.{IsDistinct}
-use Rattle.std.proofs.Common.{sym, ◌∙◌, ap, subst, arith, false, String, Global}
+use Rattle.std.specs.Prelude.{◌≡◌, ℕ, List, ◌++◌, ◌∷◌, [], map, take, Some, slice_get, option_map}
+use Rattle.std.proofs.Common.{sym, ◌∙◌, ap, subst, false}
 use Rattle.std.proofs.lemmas.List.{take-map, map-append}
 use Rattle.std.proofs.lemmas.Option.{slice_get-map}
 use Rattle.group_view.specs.Groups.{GroupData}

@@ -1,4 +1,4 @@
-use Rattle.std.proofs.Common.{rules, ◌≡◌, ℕ, Some, slice_get, Vec, Global}
+use Rattle.std.proofs.Common.{ℕ, Vec, Global}
 use Rattle.desk_api.proofs.Noting.{noted_pushed}
 use Rattle.desk_api.proofs.Stating.{there}
 use Rattle.desk_api.proofs.groups.note.Goals as goal

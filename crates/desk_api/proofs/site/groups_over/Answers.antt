@@ -1,6 +1,6 @@
 use Rattle.std.specs.Prelude.{◌≡◌, List, Result, Ok, Err, IfOk}
 use Rattle.std.specs.List.{AllByRecursion}
-use Rattle.std.proofs.Common.{sym, ◌∙◌, ap, subst}
+use Rattle.std.proofs.Common.{sym, ap, subst}
 use Rattle.group_view.specs.Groups.{GroupData, IsOver}
 use Rattle.rec_kinds.specs.Configs.{Config}
 use Rattle.rec_kinds.specs.declared.record_text.RecText.{RecText}

@@ -1,8 +1,7 @@
-use Rattle.std.specs.Prelude.{◌≡◌, ◌||◌, ℕ, ◌<◌, ◌≤◌, Bool, List, [], ◌++◌, ◌∷◌, map, length, take, Option, Some, None, slice_get, option_map, refl}
+use Rattle.std.specs.Prelude.{◌≡◌, ◌||◌, ℕ, ◌<◌, ◌≤◌, Bool, List, [], ◌++◌, map, length, take, Some, slice_get, option_map}
 use Rattle.std.specs.List.{list_any}
-use Rattle.std.proofs.Common.{true, false, get_or, sym, ◌∙◌, ap, subst, arith, Vec, Global}
+use Rattle.std.proofs.Common.{get_or, sym, ◌∙◌, ap, subst, arith, Vec, Global}
 use Rattle.std.proofs.Math.Seq.{take-length}
-use Rattle.std.proofs.lemmas.Bool.{ltb-false}
 use Rattle.std.proofs.lemmas.List.{length-map}
 use Rattle.std.proofs.lemmas.Option.{slice_get-get_or, slice_get_past, slice_get-map}
 use Rattle.group_view.specs.Groups.{GroupData}
@@ -10,7 +9,7 @@ use Rattle.group_view.specs.Leaves.{footprint}
 use Rattle.desk_api.proofs.Noting.{is_read, noted_within, or_false, read_more}
 use Rattle.desk_api.proofs.Reading.{among_at, reads_noted}
 use Rattle.desk_api.proofs.Stating.{next_taken, there}
-use Rattle.desk_api.specs.Grouping.{is_among, is_noted, noted, AreNoted, AreRead}
+use Rattle.desk_api.specs.Grouping.{is_among, noted, AreNoted, AreRead}
 use Rattle.desk_api.proofs.groups.Groups.add_footprints.Goals as goal
 
 abbrev seen : List (Vec ℕ Global) → List (List ℕ)

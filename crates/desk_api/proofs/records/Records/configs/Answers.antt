@@ -1,6 +1,6 @@
-use Rattle.std.specs.Prelude.{◌≡◌, ℕ, ◌<◌, ◌≤◌, List, ◌++◌, ◌∷◌, [], map, length, take, Some, slice_get, option_map}
+use Rattle.std.specs.Prelude.{◌≡◌, ℕ, List, ◌++◌, ◌∷◌, [], map, length, take, Some, slice_get, option_map}
 use Rattle.std.specs.Arc.{arc_value}
-use Rattle.std.proofs.Common.{rules, sym, ◌∙◌, ap, subst, arith}
+use Rattle.std.proofs.Common.{rules, sym, ◌∙◌, ap, arith}
 use Rattle.std.proofs.Math.Seq.{take-length}
 use Rattle.std.proofs.lemmas.List.{length-map, map-append}
 use Rattle.std.proofs.lemmas.Option.{slice_get-map}

@@ -1,7 +1,6 @@
-use Rattle.std.specs.Prelude.{◌≡◌, ℕ, ◌<◌, List, [], ◌∷◌, length, Option, Some, None, MatchOption, Result, Ok, Err, IfOk, slice_get, refl}
+use Rattle.std.specs.Prelude.{◌≡◌, ℕ, ◌<◌, List, length, Result, Ok, Err, IfOk}
 use Rattle.std.specs.List.{AllByRecursion}
-use Rattle.std.proofs.Common.{arith, sym, ◌∙◌, Vec, Global}
-use Rattle.histories.proofs.Prefixes.{element_within}
+use Rattle.std.proofs.Common.{Vec, Global}
 use Rattle.rec_kinds.specs.Configs.{Config}
 use Rattle.rec_kinds.specs.declared.datum.Action.{Action}
 use Rattle.rec_fields.specs.declared.puts.FieldAnswer.{FieldAnswer}
@@ -9,7 +8,7 @@ use Rattle.pvd_value.specs.Data.{Data}
 use Rattle.std.specs.FinSet.{FinSet}
 use Rattle.std.specs.Ordering.{nat_cmp}
 use Rattle.group_view.specs.Groups.{GroupData, IsOver}
-use Rattle.group_view.specs.Puts.{MayBeDoneBy, actions_for, unless_none}
+use Rattle.group_view.specs.Puts.{MayBeDoneBy, actions_for}
 use Rattle.desk_api.proofs.Acting.{all_within, some_actions}
 use Rattle.desk_api.proofs.site.Site.actions.Goals as goal
 

@@ -1,6 +1,6 @@
 use Rattle.std.specs.Prelude.{◌≡◌, ◌==◌, ◌||◌, ℕ, Bool, List, ◌++◌, ◌∷◌, [], Result, Ok, Err, OnOk, refl}
 use Rattle.std.specs.List.{list_any}
-use Rattle.std.proofs.Common.{true, false, sym, ◌∙◌, ap}
+use Rattle.std.proofs.Common.{true, false, ◌∙◌, ap}
 use Rattle.pvd_type.specs.declared.memory.NoMemory.{NoMemory}
 use Rattle.group_view.specs.Groups.{GroupData}
 use Rattle.group_view.specs.Leaves.{footprint}

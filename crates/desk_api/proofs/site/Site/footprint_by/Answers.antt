@@ -1,5 +1,5 @@
-use Rattle.std.specs.Prelude.{◌≡◌, ◌||◌, ℕ, Bool, List, length, take, refl}
-use Rattle.std.proofs.Common.{sym, ◌∙◌, ap, subst, arith}
+use Rattle.std.specs.Prelude.{◌≡◌, ◌||◌, ℕ, Bool, List, length, take}
+use Rattle.std.proofs.Common.{sym, ◌∙◌, ap, arith}
 use Rattle.std.proofs.Math.Seq.{take-length}
 use Rattle.rec_kinds.specs.declared.datum.Action.{Action}
 use Rattle.desk_api.proofs.Holding.{held_last, is_footprint}

@@ -1,6 +1,5 @@
-use Rattle.std.specs.Prelude.{◌≡◌, List, Some, slice_get}
-use Rattle.std.specs.List.{AllByRecursion}
-use Rattle.std.proofs.Common.{sym, ◌∙◌, ap, subst}
+use Rattle.std.specs.Prelude.{List}
+use Rattle.std.proofs.Common.{ap, subst}
 use Rattle.rec_kinds.specs.Configs.{Config}
 use Rattle.group_view.specs.Groups.{IsOver}
 use Rattle.desk_api.proofs.Showing.{over_at}

@@ -1,7 +1,6 @@
-use Rattle.std.specs.Prelude.{◌≡◌, ℕ, ◌<◌, List, length, Option, Some, Result, Ok, Err, IfOk, slice_get}
-use Rattle.std.proofs.Common.{sym, ◌∙◌, ap, subst, arith}
+use Rattle.std.specs.Prelude.{◌≡◌, Option, Some, Result, Ok, Err, IfOk}
+use Rattle.std.proofs.Common.{sym, ◌∙◌}
 use Rattle.pvd_type.specs.declared.memory.NoMemory.{NoMemory}
-use Rattle.pvd_value.specs.Data.{Data}
 use Rattle.pvd_value.specs.View.{view}
 use Rattle.pvd_value.specs.declared.value.PvValue.{PvValue}
 use Rattle.rec_fields.specs.Shown.{shown}

@@ -1,11 +1,11 @@
-use Rattle.std.proofs.Common.{◌≡◌, ◌==◌, false, sym, ◌∙◌, subst, arith}
+use Rattle.std.proofs.Common.{◌≡◌, ◌==◌, ◌≤◌, length, false, sym, ◌∙◌, subst, arith}
 use Rattle.std.proofs.lemmas.Bool.{false≢true, eq-eqb}
 use Rattle.std.proofs.lemmas.Bool.Decides.{Decides-eqb}
 use Rattle.std.specs.Vec.{vec_len}
 use Rattle.pvd_value.specs.View.{view}
 use Rattle.group_view.specs.Puts.{done_by_all, writers, Refuses}
 use Rattle.group_view.specs.Types.{group_tree}
-use Rattle.group_view.proofs.Putting.{actions_are, none_writable, refused_as}
+use Rattle.group_view.proofs.Putting.{actions_are, actions_few, none_writable, refused_as}
 use Rattle.group_view.proofs.group.Group.actions.Goals as goal
 
 pub returns-in-Err-clause-refusal : goal.returns-in-Err-clause-refusal
@@ -40,3 +40,8 @@ returns-clause-actions c =
 
 pub returns-clause-may : goal.returns-clause-may
 returns-clause-may c = λ configs over. c.in-Ok.ensures.may configs (c.writers.ensures.over configs over)
+
+pub returns-clause-few : goal.returns-clause-few
+returns-clause-few c =
+    let each = actions_few c.type_of.result.now (view c.args.value.now) c.args.mask.now c.writers.result.now c.in-Ok.actions.items c.in-Ok.ensures.actions in
+    omega (arith, each, c.writers.ensures.few)

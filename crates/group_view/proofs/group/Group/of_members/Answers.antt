@@ -65,7 +65,7 @@ invariant_of-result c =
       subst (λ (ms : List Member). IsBuilt (record { name = c.args.name; id = c.args.id; atomic = c.args.atomic; members = ms }) c.in-Ok.ty slots
           c.in_ok-records.records.items (λ rec. get_by (nat_cmp rec) c.in_ok-reaches.reaches) c.in_ok-writers.writers.items) (sym c.from_vec.ensures)
           (built_is g slots c.in-Ok.ty c.structure_of.new.shown.items own c.in_ok-records.records.items _ c.in_ok-writers.writers.items structure tree c.in-Ok.ensures.few
-          shown long leaves (c.in_ok-records.ensures ∙ ap records_of c.deref-4.ensures.value) reaching writing c.requires.placed c.requires.single c.in-Ok.ensures.faultless),
+          shown long leaves (c.in_ok-records.ensures ∙ ap records_of c.deref-4.ensures.value) reaching writing c.requires.placed c.requires.single c.in-Ok.ensures.faultless c.requires.few),
       c.new.ensures,
     )
 
