@@ -3,6 +3,7 @@ use Rattle.std.specs.Prelude.{◌≡◌, ◌⊎◌, ℕ, Bool, true, false, List
 use Rattle.std.specs.Prelude.{Some, Result, Ok, Err, slice_get, ⊤}
 use Rattle.std.specs.FinSet.{FinSet}
 use Rattle.std.specs.Ordering.{nat_cmp}
+use Rattle.std.specs.declared.vec.Vec.{Vec}
 use Rattle.pvd_type.specs.declared.memory.NoMemory.{NoMemory}
 use Rattle.pvd_value.specs.Data.{Data}
 use Rattle.pvd_value.specs.View.{view}
@@ -281,7 +282,7 @@ pub record IsSnapshot (site : SiteData) (rows : List RecRow) (marks : List Mark)
 pub record IsPartOfSnapshot (site : SiteData) (marks : List Mark) : Type 0 where
   pub looks : AreLooks (channel_of Service 0) (take (length marks) (all_records site ∷ [])) marks
 
-abbrev pub AreSnapshot : SiteData → Result (Vec RecRow) NoMemory → List Mark → Type 0
+abbrev pub AreSnapshot : {Z : Type 0} → SiteData → Result (Vec RecRow Z) NoMemory → List Mark → Type 0
 AreSnapshot site (Ok rows) marks = IsSnapshot site rows.items marks
 AreSnapshot site (Err e) marks = IsPartOfSnapshot site marks
 

@@ -7,7 +7,6 @@ ghost use Rattle.db_load.specs.Forms.{is_special};
 ghost use Rattle.db_load.specs.Loading.{RecordsOf};
 ghost use Rattle.desk_api.specs.Loading.{Builds, groups_of};
 ghost use Rattle.desk_api.specs.Records.{AreNew, IsLoadFault, records_of, unloaded, with_groups};
-ghost use Rattle.desk_api.specs.Calls.{row_shown, rows_shown};
 ghost use Rattle.desk_api.specs.Sites as sites;
 ghost use Rattle.desk_api.specs.Types as types;
 ghost use Rattle.journal_core.specs.Legality.{AreValid};
@@ -16,12 +15,11 @@ use crate::channel::{Channel, ChannelKind};
 use crate::fault::SiteFault;
 use crate::groups::Groups;
 use crate::records::Records;
-use crate::rows::RecRow;
 use db_load::{LoadFault, read_records};
 use group_view::Group;
 use pvd_type::{Name, NoMemory, PvType};
 use rec_fields::desc_type;
-use rec_kinds::{RecConfig, RecState, RecText, plain_text};
+use rec_kinds::{RecConfig, RecState, RecText};
 use std::alloc::Global;
 use std::marker::Model;
 
@@ -88,18 +86,6 @@ fn numbers(alloc: Global, count: usize) -> Result<Vec<u32>, NoMemory>
         numbers.push(number as u32)?;
     }
     Ok(numbers)
-}
-
-/// What is told of a record of this name in this state.
-fn row_of(alloc: Global, name: &str, state: &RecState) -> Result<RecRow, NoMemory>
-    ensures { IfOk result (λ row. row ≡ row_shown name.now state.now) }
-{
-    Ok(RecRow {
-        name: Name::of(alloc, name)?,
-        text: plain_text(alloc, state)?,
-        severity: state.severity.number(),
-        moment: state.moment,
-    })
 }
 
 /// The service, if this is its name.
@@ -263,34 +249,6 @@ impl Site {
             states.push(self.opening(rec).clone_in(alloc)?)?;
         }
         Ok(states)
-    }
-
-    /// The names of the records, in the order of their text, and then those of the groups, in the order in which the text first
-    /// names them.
-    pub fn names(&self, alloc: Global) -> Result<Vec<Name>, NoMemory>
-        ensures { IfOk result (λ names. names.items ≡ sites.names_of self.now) }
-    {
-        let (records, groups) = (self.records(), self.groups());
-        let mut names = Vec::with_capacity(alloc, records + groups)?;
-        for rec in 0..records {
-            names.push(Name::of(alloc, self.name(rec))?)?;
-        }
-        for number in 0..groups {
-            names.push(Name::of(alloc, self.group_name(number))?)?;
-        }
-        Ok(names)
-    }
-
-    /// A row for each record, in order, of these states.
-    pub fn rows(&self, alloc: Global, states: &[RecState]) -> Result<Vec<RecRow>, NoMemory>
-        requires { length states.now ≡ length self.now.names }
-        ensures { IfOk result (λ rows. rows.items ≡ rows_shown self.now.names states.now) }
-    {
-        let mut rows = Vec::with_capacity(alloc, states.len())?;
-        for (rec, state) in states.iter().enumerate() {
-            rows.push(row_of(alloc, self.name(rec), state)?)?;
-        }
-        Ok(rows)
     }
 
     /// Where the port of a record leads, by the record's number. None exactly where it has none (EPICS record reference, "DTYP",
