@@ -78,9 +78,9 @@ found_is_channel site name channel is =
     either_holds P (first_named name records) (first_named name (groups ++ services)) channel
     (λ e. named_holds P 0 site.names name channel (λ m less. let below : m < length site.names = omega (arith, less) in (lt-ltb m (length site.names) below, lt-ltb m (length site.names) below)) e)
     (λ e. either_holds P (first_named name groups) (first_named name services) channel
-        (λ f. group_holds P 0 site.groups name channel (λ m less. lt-ltb m (length site.groups) (omega (arith, less))) f)
-        (λ f. service_holds P name channel refl f)
-        (sym (first_of_both name groups services) ∙ e))
+    (λ f. group_holds P 0 site.groups name channel (λ m less. lt-ltb m (length site.groups) (omega (arith, less))) f)
+    (λ f. service_holds P name channel refl f)
+    (sym (first_of_both name groups services) ∙ e))
     (sym (first_of_both name records (groups ++ services)) ∙ is)
 
 -- texts that are equal or not

@@ -225,7 +225,7 @@ pub record IsFullAlone (a : Asked) (kept weight limit done : ℕ) (marks : List 
   pub asked : asked_actions a ≡ Ok actions
   pub at : ℕ
   pub marks_are :
-    marks ≡ Overweight at (footprint_with a.site actions (footprint_of a.site a.channel)) actions kept weight limit ∷ []
+      marks ≡ Overweight at (footprint_with a.site actions (footprint_of a.site a.channel)) actions kept weight limit ∷ []
   pub done_is : done ≡ 0
 
 -- Memory ran out before the one entry was added.

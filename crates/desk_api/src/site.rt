@@ -1,5 +1,5 @@
 // The records that are served, as they are configured.
-ghost use Rattle.std.specs.Prelude.{◌≡◌, ◌<◌, ◌≤◌, [], IfErr, IfOk, IsTrue, Ok, Some, length, option_map, option_copied, slice_get};
+ghost use Rattle.std.specs.Prelude.{◌≡◌, ◌<◌, ◌≤◌, ◌++◌, [], IfErr, IfOk, IsTrue, Ok, Some, length, option_map, option_copied, slice_get};
 ghost use Rattle.std.specs.List.{AllByRecursion, range_with_len};
 ghost use Rattle.group_view.specs.Groups.{IsOver};
 ghost use Rattle.desk_api.specs.Grouping.{IsFaultOfGroups};
@@ -191,9 +191,16 @@ impl Site {
     pub fn find(&self, name: &str) -> Option<Channel>
         ensures { result ≡ sites.channel_named self.now name.now }
     {
-        if let Some(channel) = self.records.find(name) {
-            return Some(channel);
+        match self.records.find(name) {
+            Some(channel) => Some(channel),
+            None => self.find_other(name),
         }
+    }
+
+    /// The group of this name, or else the service.
+    fn find_other(&self, name: &str) -> Option<Channel>
+        ensures { result ≡ sites.first_named name.now (sites.group_names_from 0 self.now.groups ++ sites.services) }
+    {
         match self.groups.find(name) {
             Some(channel) => Some(channel),
             None => service_named(name),

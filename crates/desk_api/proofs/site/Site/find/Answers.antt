@@ -10,16 +10,16 @@ use Rattle.desk_api.specs.declared.history.SiteData.{SiteData}
 use Rattle.desk_api.proofs.site.Site.find.Goals as goal
 
 -- what a name stands for of a site of these records and groups
-named : (site records : SiteData) (groups : List GroupData) (name : List ℕ) (found other last : Option Channel) → with_groups records groups ≡ site → found ≡ first_named name (names_from 0 records.names)
-    → other ≡ first_named name (group_names_from 0 groups) → last ≡ first_named name services → option_or found (option_or other last) ≡ channel_named site name
-named site records groups name found other last is record_is group_is last_is =
-    let ours = group_names_from 0 groups in
-    (λ i. option_or (record_is i) (option_or (group_is i) (last_is i)))
-    ∙ ap (option_or (first_named name (names_from 0 records.names))) (sym (first_of_both name ours services))
-    ∙ sym (first_of_both name (names_from 0 records.names) (ours ++ services)) ∙ ap (λ (s : SiteData). channel_named s name) is
+named : (site records : SiteData) (groups : List GroupData) (name : List ℕ) (found other : Option Channel) → with_groups records groups ≡ site → found ≡ first_named name (names_from 0 records.names)
+    → other ≡ first_named name (group_names_from 0 site.groups ++ services) → option_or found other ≡ channel_named site name
+named site records groups name found other is record_is other_is =
+    let others = group_names_from 0 site.groups ++ services in
+    (λ i. option_or (record_is i) (other_is i))
+    ∙ ap (λ (s : SiteData). option_or (first_named name (names_from 0 s.names)) (first_named name others)) is
+    ∙ sym (first_of_both name (names_from 0 site.names) others)
 
 pub returns-in-Some : goal.returns-in-Some
-returns-in-Some c = ?
+returns-in-Some c = named c.args.self.now c.self.inside.records c.self.inside.groups c.args.name.now (Some c.in-Some.channel) _ c.self.view_is (sym c.in-Some.is ∙ c.find.ensures) refl
 
 pub returns-in-None : goal.returns-in-None
-returns-in-None c = ?
+returns-in-None c = named c.args.self.now c.self.inside.records c.self.inside.groups c.args.name.now None c.find_other.result c.self.view_is (sym c.in-None.is ∙ c.find.ensures) c.find_other.ensures

@@ -32,4 +32,4 @@ returns c =
     let more : c.extend_from_slice.new.self.items ≡ c.loop-rec.found.items ++ looked = (c.in_ok-extend_from_slice.ensures {u = tt}).items in
     is_footprint site actions looked c.in_rising_order.new.numbers.items c.are_over.ensures c.requires.within c.requires.below c.in_rising_order.ensures.rises
     (λ n. c.in_rising_order.ensures.same n ∙ ap (λ (l : List ℕ). is_among l n) more ∙ among_both c.loop-rec.found.items looked n
-        ∙ ap (λ (b : Bool). b || is_among looked n) (c.loop-rec.invariant n ∙ ap (λ (l : List (ℕ × Action)). is_held site l n) whole))
+    ∙ ap (λ (b : Bool). b || is_among looked n) (c.loop-rec.invariant n ∙ ap (λ (l : List (ℕ × Action)). is_held site l n) whole))
