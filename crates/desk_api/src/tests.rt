@@ -2,7 +2,8 @@ ghost use Rattle.std.specs.Prelude.{IfSome, IsTrue};
 ghost use Rattle.desk_api.specs.Sites.{is_channel};
 
 use crate::{Channel, ChannelKind, Site, SiteFault, found_channels, is_record_name};
-use pvd_type::{BitSet, Name, NoMemory, PvType};
+use group_defs::GroupFault;
+use pvd_type::{BitSet, NoMemory, PvType};
 use rec_kinds::{Action, Kind, Moment};
 use std::alloc::Global;
 use std::test::Fail;
@@ -29,35 +30,47 @@ fn site_of(alloc: Global, text: &str) -> Result<Site, NoMemory> {
     }
 }
 
-/// What a text can't give a site for.
-#[derive(Clone, Copy, Debug, PartialEq, Eq)]
-enum Stage {
-    Load,
-    Build,
-    Group,
+/// What a fault is about, and the name that it gives.
+fn about(fault: &SiteFault) -> Option<(&'static str, &str)> {
+    match fault {
+        SiteFault::Load(_) => Some(("load", "")),
+        SiteFault::Build(name, _) => Some(("build", name.as_str())),
+        SiteFault::Group(fault) => about_group(fault),
+        SiteFault::NoMemory => None,
+    }
 }
 
-/// Where building a site from a text without macros stops.
-fn stage_of(alloc: Global, text: &str) -> Result<Stage, NoMemory> {
+/// What a fault of a group is about, and the name that it gives.
+fn about_group(fault: &GroupFault) -> Option<(&'static str, &str)> {
+    match fault {
+        GroupFault::BadJson(name) => Some(("no JSON", name.as_str())),
+        GroupFault::NameTaken(name) => Some(("name taken", name.as_str())),
+        GroupFault::BadMember(name) => Some(("bad member", name.as_str())),
+        _ => None,
+    }
+}
+
+/// A fault in words.
+fn in_words(alloc: Global, fault: &SiteFault) -> Result<String, NoMemory> {
+    let Some((what, name)) = about(fault) else {
+        return Err(NoMemory);
+    };
+    Ok(format!(in alloc; "{what}:{name}")?)
+}
+
+/// Why a text without macros gives no site, in words.
+fn fault_of(alloc: Global, text: &str) -> Result<String, NoMemory> {
     match Site::build(alloc, text, &[]) {
         Ok(site) => {
             discard(site);
             Err(NoMemory)
         }
-        Err(fault) => stage_in(fault),
+        Err(fault) => {
+            let words = in_words(alloc, &fault);
+            discard(fault);
+            words
+        }
     }
-}
-
-/// What a fault is about.
-fn stage_in(fault: SiteFault) -> Result<Stage, NoMemory> {
-    let stage = match &fault {
-        SiteFault::Load(_) => Some(Stage::Load),
-        SiteFault::Build(_, _) => Some(Stage::Build),
-        SiteFault::Group(_) => Some(Stage::Group),
-        SiteFault::NoMemory => None,
-    };
-    discard(fault);
-    stage.ok_or(NoMemory)
 }
 
 /// Two records, of which the first has a port.
@@ -69,6 +82,14 @@ record(stringin, \"B:1\") { field(DESC, \"a text\") }
 /// A channel of a site.
 fn channel(kind: ChannelKind, number: u32) -> Option<Channel> {
     Some(Channel { kind, number })
+}
+
+/// Where the ports of the first two records lead.
+fn ports(site: &Site) -> Option<(Option<&str>, Option<&str>)> {
+    if site.records() < 2 {
+        return None;
+    }
+    Some((site.port(0), site.port(1)))
 }
 
 #[test]
@@ -85,8 +106,9 @@ fn a_site_has_the_records_of_its_text_under_their_names(rt: HostRuntime) -> Resu
         site.find("A.VAL.VAL"),
     ];
     let count = site.records();
+    let leads = ports(&site) == Some((Some("a.txt"), None));
     discard(site);
-    assert_eq!(rt; count, 2);
+    assert_eq!(rt; (count, leads), (2, true));
     let first = channel(ChannelKind::Rec, 0);
     let described = channel(ChannelKind::Desc, 0);
     let second = channel(ChannelKind::Rec, 1);
@@ -109,18 +131,29 @@ const MISPLACED: &str = "\
 record(longin, \"A\") { info(Q:group, {\"G\": {\"a\": {+channel:\"VAL\"}, \"a.b\": {+channel:\"VAL\"}}}) }
 ";
 
+/// A group with the name of a record's field.
+const TAKEN: &str = "\
+record(longin, \"A\") { info(Q:group, {\"A.VAL\": {\"a\": {+channel:\"VAL\"}}}) }
+";
+
 #[test]
 fn a_text_is_loaded_before_records_are_built_and_groups_come_last(
     rt: HostRuntime,
 ) -> Result<(), Fail> {
     let alloc = rt.alloc();
     let loaded = format!(in alloc; "{FAULTY} record(")?;
-    for (text, stage) in [
-        (loaded.as_str(), Stage::Load),
-        (FAULTY, Stage::Build),
-        (MISPLACED, Stage::Group),
+    let read = format!(in alloc;
+        "{MISPLACED} record(longin, \"B\") {{ info(Q:group, \"no JSON\") }}"
+    )?;
+    for (text, fault) in [
+        (loaded.as_str(), "load:"),
+        (FAULTY, "build:A"),
+        (read.as_str(), "no JSON:B"),
+        (TAKEN, "name taken:A.VAL"),
+        (MISPLACED, "bad member:G"),
     ] {
-        assert_eq!(rt; stage_of(alloc, text)?, stage, "{text}");
+        let words = fault_of(alloc, text)?;
+        assert_eq!(rt; words.as_str(), fault, "{text}");
     }
     Ok(())
 }
