@@ -1,11 +1,10 @@
 -- The entries of a put, one after another.
-use Rattle.std.proofs.Common.{◌≡◌, ℕ, ◌+◌, ◌≤◌, ◌<◌, zero, suc, Bool, true, false, List, [], ◌∷◌, ◌++◌, length, take, drop, map, option_map, Option, Some, None, Result, Ok, Err, inl, inr, refl, sym, ◌∙◌, ap, subst, arith, length-append, append_assoc}
+use Rattle.std.proofs.Common.{◌≡◌, ℕ, ◌+◌, ◌<◌, suc, Bool, true, false, List, [], ◌∷◌, ◌++◌, length, take, drop, map, option_map, Some, Result, Ok, Err, inl, inr, refl, sym, ◌∙◌, ap, subst, arith, length-append, append_assoc}
 use Rattle.std.specs.List.{slice_get}
 use Rattle.std.proofs.Math.Seq.{take-length}
 use Rattle.std.proofs.lemmas.List.{append-nil, length-map, map-append, take-map}
 use Rattle.std.proofs.lemmas.Option.{slice_get-map}
 use Rattle.rec_kinds.specs.declared.datum.Action.{Action}
-use Rattle.rec_kinds.specs.declared.state.RecState.{RecState}
 use Rattle.rec_fields.specs.declared.puts.FieldAnswer.{FieldAnswer}
 use Rattle.rec_fields.specs.declared.puts.FieldAnswer.TheVariants.{Refused, NoMemory}
 use Rattle.journal_core.specs.Legality.{AreProcessed}
@@ -14,7 +13,7 @@ use Rattle.journal_core.specs.declared.entry.Entry.{Entry}
 use Rattle.desk_api.specs.History.{History, entries, state_at, IsLegal}
 use Rattle.desk_api.specs.Marks.{place}
 use Rattle.desk_api.specs.Puts.{entries_by, footprint_by, IsRefusedBy}
-use Rattle.desk_api.specs.Calls.{Adds, Calls, Asked, asked_actions, asked_entries, entries_of_actions, entries_or_none, AreAdded, IsAdded, ArePut, EndsAtItsMarks, OnTold, first_place, now}
+use Rattle.desk_api.specs.Calls.{Calls, Asked, asked_actions, asked_entries, entries_of_actions, entries_or_none, AreAdded, ArePut, EndsAtItsMarks, OnTold, first_place, now}
 use Rattle.desk_api.specs.Sites.{is_atomic}
 use Rattle.desk_api.proofs.Adding.{adds_nothing, adds_more}
 use Rattle.desk_api.proofs.Holding.{looks_at_none}
@@ -25,9 +24,9 @@ use Rattle.desk_api.specs.declared.mark.Seat.{Seat}
 use Rattle.desk_api.specs.declared.put.Done.{Done}
 use Rattle.desk_api.specs.declared.put.PutAnswer.{PutAnswer}
 use Rattle.desk_api.specs.declared.put.PutAnswer.TheVariants as answers
-use Rattle.desk_core.specs.Begun.{IsHeld, IsAddedNow, IsFullNow, IsPutNow, AreHeld, AreBegun, AreAllPut, AreFullAfter, AreStoppedAfter, ArePutInTurn}
+use Rattle.desk_core.specs.Begun.{IsHeld, IsAddedNow, IsPutNow, AreHeld, AreBegun, AreFullAfter, AreStoppedAfter, ArePutInTurn}
 use Rattle.desk_core.specs.Effects.{IsBroken}
-use Rattle.desk_core.specs.Ports.{Ports, AreDriven, AreDrivenInTurn, AreOwnFrom, AreDrivenInPart, DrivesPorts, actions_or_none, next_actions}
+use Rattle.desk_core.specs.Ports.{Ports, AreDriven, AreDrivenInTurn, AreOwnFrom, DrivesPorts, actions_or_none, next_actions}
 use Rattle.desk_core.specs.Standing.{answer_of}
 use Rattle.desk_core.proofs.Doing.{none_broken}
 

@@ -4,14 +4,14 @@ use Rattle.std.specs.List.{slice_get, AllByRecursion, All, filter, list_any, ran
 use Rattle.std.specs.Prelude.{◌^◌, ◌||◌, true, false, if◌then◌else◌, is_some}
 use Rattle.std.proofs.Math.Seq.{take-length}
 use Rattle.std.proofs.lemmas.List.{length-set}
-use Rattle.std.proofs.lemmas.List.Elements.{All-same, All-cons, All-nil}
+use Rattle.std.proofs.lemmas.List.Elements.{All-cons, All-nil}
 use Rattle.std.proofs.lemmas.List.Sums.{fold-append, sum_by-append, sum_by-cons}
 use Rattle.std.proofs.lemmas.List.FromFn.{length-range_with_len}
 use Rattle.std.proofs.lemmas.Option.{none-some, slice_get_within}
 use Rattle.rec_kinds.specs.Configs.{Config}
 use Rattle.rec_kinds.specs.Texts.{text_of_datum}
 use Rattle.rec_kinds.specs.Processing.{processed, datum_after}
-use Rattle.rec_kinds.specs.Validity.{IsValid, MayBeDone}
+use Rattle.rec_kinds.specs.Validity.{MayBeDone}
 use Rattle.rec_kinds.specs.declared.datum.Action.{Action}
 use Rattle.rec_kinds.specs.declared.state.RecState.{RecState}
 use Rattle.rec_kinds.proofs.Keeping.{valid_after}
@@ -23,7 +23,7 @@ use Rattle.journal_core.specs.declared.entry.Entry.{Entry}
 use Rattle.desk_api.specs.Puts.{footprint_with, is_held}
 use Rattle.desk_api.specs.declared.history.SiteData.{SiteData}
 use Rattle.journal_core.proofs.Keeping.{valid_at, valid_set}
-use Rattle.desk_core.specs.Effects.{restored, IsWritten, IsNextOf, AreDone, IsBroken}
+use Rattle.desk_core.specs.Effects.{restored, IsNextOf, AreDone, IsBroken}
 use Rattle.desk_core.specs.Ports.{Ports, AreDriven, IsDrivenAt, IsTriedAt, ports_there}
 use Rattle.desk_core.proofs.Listing.{next_taken, rest_at}
 use Rattle.desk_core.proofs.Ported.{stay_at, same_set}

@@ -1,9 +1,8 @@
 -- Elements of lists, the cells of records, and what actions weigh.
-use Rattle.std.proofs.Common.{◌≡◌, ◌==◌, ℕ, ◌+◌, ◌*◌, ◌≤◌, ◌<◌, zero, suc, Bool, true, false, if◌then◌else◌, List, [], ◌∷◌, ◌++◌, length, take, drop, get_or, Option, None, Some, refl, sym, ◌∙◌, ap, subst, arith}
+use Rattle.std.proofs.Common.{◌≡◌, ℕ, ◌+◌, ◌*◌, ◌≤◌, ◌<◌, zero, suc, Bool, true, false, if◌then◌else◌, List, [], ◌∷◌, ◌++◌, length, take, drop, get_or, Option, None, Some, refl, sym, ◌∙◌, ap, subst, arith}
 use Rattle.std.specs.List.{slice_get, AllByRecursion, list_all, sum_by}
-use Rattle.std.specs.Prelude.{◌^◌, ◌||◌, IsTrue, is_some, nat_le}
-use Rattle.std.proofs.lemmas.Bool.{eq-eqb, leb-true, and_parts}
-use Rattle.std.proofs.lemmas.List.Elements.{All-same, All-cons, All-nil}
+use Rattle.std.specs.Prelude.{◌^◌, nat_le}
+use Rattle.std.proofs.lemmas.Bool.{leb-true, and_parts}
 use Rattle.std.proofs.lemmas.List.Sums.{sum_by-cons}
 use Rattle.std.proofs.lemmas.Option.{none-some, slice_get_within}
 use Rattle.rec_kinds.specs.Validity.{own_refusal, refused_unless, is_short, MayBeDone}

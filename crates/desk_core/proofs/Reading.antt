@@ -3,10 +3,9 @@ use Rattle.std.proofs.Common.{◌≡◌, ◌==◌, ◌||◌, ℕ, ◌+◌, ◌�
 use Rattle.std.specs.List.{slice_get, list_any, range_with_len, AllByRecursion}
 use Rattle.std.proofs.lemmas.Bool.{eq-eqb, ltb-true}
 use Rattle.std.proofs.lemmas.Option.{none-some}
-use Rattle.rec_kinds.specs.Configs.{Config}
 use Rattle.rec_kinds.specs.declared.state.RecState.{RecState}
 use Rattle.journal_core.specs.Histories.{Journal}
-use Rattle.desk_api.specs.History.{History, commits, entries, state_at, IsLegal}
+use Rattle.desk_api.specs.History.{History, commits, IsLegal}
 use Rattle.desk_api.specs.Marks.{IsLookOf}
 use Rattle.desk_api.specs.Calls.{Adds, Calls, AreGet, AreFindings, AreLooks, AreSnapshot, EndsAtItsMarks, EndsAtLastMark, laid_by, looks_by, looks_of, now, rows_shown}
 use Rattle.desk_api.specs.declared.rows.RecRow.{RecRow}
@@ -28,7 +27,6 @@ use Rattle.desk_api.specs.declared.channel.ChannelKind.TheVariants.{Rec, Desc, G
 use Rattle.desk_api.specs.declared.history.Base.{Base}
 use Rattle.desk_api.specs.declared.history.SiteData.{SiteData}
 use Rattle.desk_api.specs.declared.mark.Mark.{Mark}
-use Rattle.desk_api.specs.declared.mark.Mark.TheVariants.{Read}
 use Rattle.desk_api.specs.declared.mark.Seat.{Seat}
 use Rattle.desk_core.specs.Looking.{look_of, looked, looked_by}
 use Rattle.desk_core.specs.Standing.{Stands}

@@ -32,17 +32,21 @@ use Rattle.desk_api.specs.declared.mark.Mark.TheVariants.{Entered, Overweight}
 use Rattle.desk_api.specs.declared.mark.Seat.{Seat}
 use Rattle.desk_api.specs.declared.put.PutAnswer.{PutAnswer}
 use Rattle.desk_api.specs.declared.put.PutAnswer.TheVariants as answers
-use Rattle.desk_core.specs.Begun.{Enters, IsHeld, IsAddedNow, IsFullNow, IsStoppedNow, IsPutNow}
+use Rattle.desk_core.specs.Begun.{Enters, IsHeld, IsPutNow}
 use Rattle.desk_core.specs.Effects.{IsBroken, IsDraft, restored}
 use Rattle.desk_core.specs.Ports.{Ports}
 use Rattle.desk_core.specs.Standing.{Stands}
-use Rattle.desk_core.proofs.Doing.{writes_within, done_broken}
+use Rattle.desk_core.proofs.Doing.{done_broken}
 use Rattle.desk_core.proofs.Marking.{entries_now, adds_mark, ends_at, looks, looks_end, still, same_seen}
 
 -- a record of the opening has a cell, and the other way round
 pub in_opening : {base : Base} {cells : List RecState} {journal : Journal} (s : Seat) (x : Stands base cells journal s) → length cells ≡ length journal.opening
 in_opening s x =
     omega (arith, ap length x.cells_are, replayed_count s.seen.base.site.opening (take (now s) (commits s.seen)), ap (λ (b : Base). length b.site.opening) x.base_is, ap length x.opening_is)
+
+-- the same of the opening of the site
+pub opening_cells : {base : Base} {cells : List RecState} {journal : Journal} (s : Seat) (x : Stands base cells journal s) → length base.site.opening ≡ length cells
+opening_cells s x = omega (arith, in_opening s x, ap length x.opening_is)
 
 -- where the next entry stands
 pub first_is : {base : Base} {cells : List RecState} {journal : Journal} (s : Seat) (x : Stands base cells journal s) → length journal.entries ≡ now s

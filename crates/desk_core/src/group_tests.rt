@@ -1,28 +1,20 @@
 // Gets and puts of groups.
-ghost use Rattle.std.specs.Prelude.{◌≡◌, IfOk, IsTrue, OnOk, is_some, true};
-ghost use Rattle.desk_api.specs.Sites.{is_channel};
-ghost use Rattle.desk_api.specs.Types.{type_of, HoldsLeaves};
-ghost use Rattle.desk_core.specs.Ports.{ports_there, ports_wanted};
-ghost use Rattle.pvd_value.specs.Fits.{fits_of};
-ghost use Rattle.pvd_value.specs.View.{view};
-
-use crate::{Channel, Desk, Done, Moment, PutAnswer, PvType, PvValue, Site, SoloDesk};
-use desk_api::{ChannelKind, found_channels};
+use crate::driving::discard;
+use crate::tests::{Row, desk_of, done, driven, full, got, put, row, site_of};
+use crate::{Desk, Done, PutAnswer, PvValue, Site, SoloDesk};
+use desk_api::found_channels;
 use pva_outside::MemoryPort;
-use pvd_type::{BitSet, NoMemory};
-use pvd_value::fits;
+use pvd_type::NoMemory;
 use std::alloc::Global;
 use std::test::Fail;
 
-const GROUP: Channel = Channel {
-    kind: ChannelKind::Group,
-    number: 0,
-};
-
-/// Three records, each a member of one group, of which the first triggers all; the second has a port.
+/// Three records, each a member of one group, of which the first triggers all. They are put in another order than that of their
+/// names: b, c, a. The first two records have ports.
 const GROUPED: &str = "\
 record(longout, \"A\") {
   field(VAL, \"1\")
+  field(DTYP, \"File\")
+  field(OUT, \"@file a\")
   info(Q:group, {\"G\": {\"a\": {+channel:\"VAL\", +type:\"scalar\", +putorder:2, +trigger:\"*\"}}})
 }
 record(longout, \"B\") {
@@ -37,19 +29,19 @@ record(longout, \"C\") {
 }
 ";
 
-/// The same records with the values 10, 20 and 30, of which none has a port.
+/// A group of the same type, whose members are 10, 20 and 30.
 const PUT: &str = "\
 record(longout, \"A\") {
   field(VAL, \"10\")
-  info(Q:group, {\"G\": {\"a\": {+channel:\"VAL\", +type:\"scalar\", +putorder:2, +trigger:\"*\"}}})
+  info(Q:group, {\"G\": {\"a\": {+channel:\"VAL\", +type:\"scalar\"}}})
 }
 record(longout, \"B\") {
   field(VAL, \"20\")
-  info(Q:group, {\"G\": {\"b\": {+channel:\"VAL\", +type:\"scalar\", +putorder:0, +trigger:\"\"}}})
+  info(Q:group, {\"G\": {\"b\": {+channel:\"VAL\", +type:\"scalar\"}}})
 }
 record(longout, \"C\") {
   field(VAL, \"30\")
-  info(Q:group, {\"G\": {\"c\": {+channel:\"VAL\", +type:\"scalar\", +putorder:1, +trigger:\"\"}}})
+  info(Q:group, {\"G\": {\"c\": {+channel:\"VAL\", +type:\"scalar\"}}})
 }
 ";
 
@@ -61,23 +53,8 @@ record(longout, \"X\") {
 }
 ";
 
-/// Drops what it is given.
-fn discard<T: Drop>(_value: T) {}
-
-/// The site of a text without macros.
-fn site_of(alloc: Global, text: &str) -> Result<Site, NoMemory> {
-    match Site::build(alloc, text, &[]) {
-        Ok(site) => Ok(site),
-        Err(fault) => {
-            discard(fault);
-            Err(NoMemory)
-        }
-    }
-}
-
-/// What the group of these records opens with.
-fn opening_of(alloc: Global, text: &str) -> Result<PvValue, NoMemory> {
-    let site = site_of(alloc, text)?;
+/// What the group of a site opens with.
+fn opening_in(alloc: Global, site: &Site) -> Result<PvValue, NoMemory> {
     found_channels();
     let Some(channel) = site.find("G") else {
         return Err(NoMemory);
@@ -86,226 +63,156 @@ fn opening_of(alloc: Global, text: &str) -> Result<PvValue, NoMemory> {
     site.view(alloc, channel, states.as_slice())
 }
 
-/// Those of these numbers that are leaves of the type.
-fn leaves_of(alloc: Global, ty: &PvType, numbers: &[u16]) -> Result<BitSet, NoMemory>
-    ensures { IfOk result (HoldsLeaves ty.now) }
-{
-    let mut mask = BitSet::new(alloc);
-    for number in numbers {
-        mask.insert(u32::from(*number))?;
-    }
-    let leaves = ty.leaves(alloc)?;
-    mask.meet(&leaves);
-    Ok(mask)
-}
-
-/// The leaves of the group with these numbers, where the value is one of the group.
-fn mask_for<D: Desk>(
-    alloc: Global,
-    desk: &D,
-    value: &PvValue,
-    numbers: &[u16],
-) -> Result<BitSet, NoMemory>
-    requires { IsTrue (is_channel (D.seat desk.now).seen.base.site GROUP) }
-    ensures fits { OnOk result (fits_of 16 (view value.now) (type_of (D.seat desk.now).seen.base.site GROUP) ≡ true) }
-    ensures leaves { IfOk result (HoldsLeaves (type_of (D.seat desk.now).seen.base.site GROUP)) }
-{
-    let Some(ty) = desk.type_of(GROUP) else {
-        return Err(NoMemory);
-    };
-    if !fits(ty, value) {
-        return Err(NoMemory);
-    }
-    leaves_of(alloc, ty, numbers)
-}
-
-/// Puts leaves of a value at 100 seconds and 5 nanoseconds.
-fn put<D: Desk>(
-    alloc: Global,
-    desk: &mut D,
-    value: &PvValue,
-    numbers: &[u16],
-    atomic: Option<bool>,
-) -> Result<Result<Done, PutAnswer>, NoMemory>
-    requires { IsTrue (is_channel (D.seat desk.old).seen.base.site GROUP) }
-    ensures { (D.seat desk.new).seen.base ≡ (D.seat desk.old).seen.base }
-{
-    match mask_for(alloc, desk, value, numbers) {
-        Ok(mask) => Ok(desk.put(alloc, GROUP, &mask, value, Moment::new(100, 5), atomic)),
-        Err(no_memory) => Err(no_memory),
-    }
-}
-
-/// An int.
-fn int(value: Option<&PvValue>) -> Option<i32> {
-    match value {
-        Some(PvValue::I32(number)) => Some(*number),
-        _ => None,
-    }
-}
-
-/// The value of a member that is shown with its alarm, and the severity of that.
-fn shown(group: &PvValue, member: usize) -> Option<(Option<i32>, Option<i32>)> {
-    let scalar = group.members().get(member)?.members();
-    let alarm = scalar.get(1)?.members();
-    Some((int(scalar.get(0)), int(alarm.get(0))))
-}
-
-/// What three members show.
-type Shown = [Option<(Option<i32>, Option<i32>)>; 3];
-
-/// What the group's three members show.
-fn got<D: Desk>(alloc: Global, desk: &mut D, atomic: Option<bool>) -> Result<Shown, NoMemory>
-    requires { IsTrue (is_channel (D.seat desk.old).seen.base.site GROUP) }
-    ensures { (D.seat desk.new).seen.base ≡ (D.seat desk.old).seen.base }
-{
-    match desk.get(alloc, GROUP, atomic) {
-        Ok(value) => {
-            let members = [shown(&value, 0), shown(&value, 1), shown(&value, 2)];
-            discard(value);
-            Ok(members)
-        }
-        Err(no_memory) => Err(no_memory),
-    }
-}
-
-/// Three members with these values, of which the second has an alarm of this severity.
-const fn members(values: [i32; 3], severity: i32) -> Shown {
-    [
-        Some((Some(values[0]), Some(0))),
-        Some((Some(values[1]), Some(severity))),
-        Some((Some(values[2]), Some(0))),
-    ]
-}
-
-/// Whether a site has three records, of which the second alone has a port, and a group.
-fn is_grouped(site: &Site) -> bool
-    ensures { result ≡ true → IsTrue (is_channel site.now GROUP) }
-{
-    site.groups() == 1
-}
-
-/// A port where one is wanted. Its first drive fails.
-fn port_for(alloc: Global, wanted: bool) -> Result<Option<MemoryPort>, NoMemory>
-    ensures { IfOk result (λ port. is_some port ≡ wanted) }
-{
-    if !wanted {
-        return Ok(None);
-    }
-    Ok(Some(MemoryPort::new(vec![in alloc; 1]?)))
-}
-
-/// A port for each record whose configuration says that it has one.
-fn ports_for(alloc: Global, site: &Site) -> Result<Vec<Option<MemoryPort>>, NoMemory>
-    ensures { IfOk result (λ ports. ports_there ports.items ≡ ports_wanted site.now.configs) }
-{
-    let count = site.records();
-    let mut ports = Vec::with_capacity(alloc, count)?;
-    for rec in 0..count {
-        ports.push(port_for(alloc, site.port(rec).is_some())?)?;
-    }
-    Ok(ports)
-}
-
-/// The desk of a group's records.
-fn desk_of(alloc: Global, text: &str, limit: u64) -> Result<SoloDesk<MemoryPort>, NoMemory>
-    ensures { IfOk result (λ desk. IsTrue (is_channel desk.log.seen.base.site GROUP)) }
-{
+/// What the group of these records opens with.
+fn opening_of(alloc: Global, text: &str) -> Result<PvValue, NoMemory> {
     let site = site_of(alloc, text)?;
-    if !is_grouped(&site) {
-        discard(site);
-        return Err(NoMemory);
-    }
-    let ports = ports_for(alloc, &site)?;
-    SoloDesk::new(alloc, site, ports, limit)
+    let value = opening_in(alloc, &site);
+    discard(site);
+    value
 }
 
-/// What a put of some leaves answers, and what the group shows behind it.
-fn told(
-    alloc: Global,
-    desk: &mut SoloDesk<MemoryPort>,
-    numbers: &[u16],
-    atomic: Option<bool>,
-) -> Result<(Result<Done, PutAnswer>, Shown), NoMemory>
-    requires { IsTrue (is_channel desk.old.log.seen.base.site GROUP) }
-    ensures { desk.new.log.seen.base ≡ desk.old.log.seen.base }
-{
-    let value = opening_of(alloc, PUT)?;
-    let answer = put(alloc, desk, &value, numbers, atomic)?;
+/// What the three members show.
+type Shown = [Row; 3];
+
+/// The rows of the three members.
+fn rows(group: &PvValue) -> Option<Shown> {
+    let members = group.members();
+    Some([
+        row(members.get(0))?,
+        row(members.get(1))?,
+        row(members.get(2))?,
+    ])
+}
+
+/// What the group shows.
+fn shown<D: Desk>(alloc: Global, desk: &mut D, atomic: Option<bool>) -> Option<Shown> {
+    let Some(value) = got(alloc, desk, "G", atomic) else {
+        return None;
+    };
+    let rows = rows(&value);
     discard(value);
-    Ok((answer, got(alloc, desk, atomic)?))
+    rows
+}
+
+/// What a put answers, and what the group shows behind it.
+type Told = (Option<Result<Done, PutAnswer>>, Option<Shown>);
+
+/// Puts marked leaves of a group whose members are 10, 20 and 30, and gets the group.
+fn told<D: Desk>(alloc: Global, desk: &mut D, marked: &[u16], atomic: Option<bool>) -> Told {
+    let Ok(value) = opening_of(alloc, PUT) else {
+        return (None, None);
+    };
+    let answer = put(alloc, desk, "G", &value, marked, atomic);
+    discard(value);
+    (answer, shown(alloc, desk, atomic))
+}
+
+/// What the group opens with, what two puts come to, and how often the ports of the first two records were driven then.
+type Run = (Option<Shown>, [Told; 2], [Option<u64>; 2]);
+
+/// Two puts to the group, with this limit. The first drive of the second record's port fails. The last text of the first
+/// record's port is told.
+fn run(
+    alloc: Global,
+    limit: u64,
+    first: (&[u16], Option<bool>),
+    second: (&[u16], Option<bool>),
+    text: &str,
+) -> Result<Run, NoMemory> {
+    let mut desk = desk_of(alloc, GROUPED, limit, "B")?;
+    let opening = shown(alloc, &mut desk, None);
+    let first = told(alloc, &mut desk, first.0, first.1);
+    let second = told(alloc, &mut desk, second.0, second.1);
+    let drives = [driven(&desk, "A", text), driven(&desk, "B", "20")];
+    discard(desk);
+    Ok((opening, [first, second], drives))
 }
 
 /// The leaves of the values of members a, b and c.
 const VALUES: [u16; 3] = [2, 12, 22];
 
+/// Three members with these numbers, of which the second has an alarm with this severity and status.
+const fn members(numbers: [i32; 3], alarm: [i32; 2]) -> Option<Shown> {
+    Some([
+        [numbers[0], 0, 0],
+        [numbers[1], alarm[0], alarm[1]],
+        [numbers[2], 0, 0],
+    ])
+}
+
+/// No alarm, and that of a port that failed.
+const QUIET: [i32; 2] = [0, 0];
+
+const WRITE: [i32; 2] = [3, 2];
+
 #[test]
-fn an_atomic_put_is_one_entry_of_all_members_and_a_port_that_fails_leaves_its_alarm(
+fn an_atomic_put_is_one_entry_of_all_members_and_one_of_a_member_alone_weighs_its_record(
     rt: HostRuntime,
 ) -> Result<(), Fail> {
-    let mut desk = desk_of(rt.alloc(), GROUPED, 280)?;
-    let opening = got(rt.alloc(), &mut desk, None)?;
-    let whole = told(rt.alloc(), &mut desk, &VALUES, None)?;
-    let full = told(rt.alloc(), &mut desk, &[12], None)?;
-    discard(desk);
-    let too_much = PutAnswer::JournalFull {
-        kept: 280,
-        entry: 136,
-        limit: 280,
-        done: 0,
-    };
-    assert_eq!(rt; opening, members([1, 2, 3], 0));
+    let (opening, puts, drives) = run(rt.alloc(), 280, (&VALUES, None), (&[12], None), "10")?;
+    assert_eq!(rt; opening, members([1, 2, 3], QUIET));
+    assert_eq!(rt; puts[0], (done(0), members([10, 20, 30], WRITE)));
     assert_eq!(rt;
-        whole,
-        (Ok(Done { first: 0, count: 1 }), members([10, 20, 30], 3))
+        puts[1],
+        (full(280, 136, 280, 0), members([10, 20, 30], WRITE))
     );
-    assert_eq!(rt; full, (Err(too_much), members([10, 20, 30], 3)));
+    assert_eq!(rt; drives, [Some(1), Some(2)]);
     Ok(())
 }
 
 #[test]
-fn a_put_that_is_not_atomic_is_an_entry_for_each_member_up_to_the_limit(
-    rt: HostRuntime,
-) -> Result<(), Fail> {
-    let mut desk = desk_of(rt.alloc(), GROUPED, 472)?;
-    let each = told(rt.alloc(), &mut desk, &VALUES, Some(false))?;
-    discard(desk);
-    let mut desk = desk_of(rt.alloc(), GROUPED, 300)?;
-    let part = told(rt.alloc(), &mut desk, &VALUES, Some(false))?;
-    discard(desk);
-    let too_much = PutAnswer::JournalFull {
-        kept: 272,
-        entry: 200,
-        limit: 300,
-        done: 2,
-    };
+fn a_put_that_is_not_atomic_is_an_entry_for_each_member(rt: HostRuntime) -> Result<(), Fail> {
+    let apart = (&VALUES[..], Some(false));
+    let (_, puts, drives) = run(rt.alloc(), 680, apart, (&[12, 22], Some(false)), "10")?;
+    let three = Some(Ok(Done { first: 0, count: 3 }));
+    assert_eq!(rt; puts[0], (three, members([10, 20, 30], WRITE)));
     assert_eq!(rt;
-        each,
-        (Ok(Done { first: 0, count: 3 }), members([10, 20, 30], 3))
+        puts[1],
+        (full(608, 136, 680, 1), members([10, 20, 30], QUIET))
     );
-    assert_eq!(rt; part, (Err(too_much), members([1, 20, 30], 3)));
+    assert_eq!(rt; drives, [Some(1), Some(2)]);
     Ok(())
 }
 
 #[test]
-fn a_member_is_put_alone_and_one_that_processes_needs_no_leaf(rt: HostRuntime) -> Result<(), Fail> {
-    let mut desk = desk_of(rt.alloc(), GROUPED, 1000)?;
-    let first = told(rt.alloc(), &mut desk, &[12], None)?;
-    let second = told(rt.alloc(), &mut desk, &[22], Some(false))?;
-    discard(desk);
-    let mut desk = desk_of(rt.alloc(), PROCESSED, 1000)?;
-    let value = opening_of(rt.alloc(), PROCESSED)?;
-    let processed = put(rt.alloc(), &mut desk, &value, &[], None)?;
+fn a_put_that_meets_the_limit_in_the_middle_tells_what_it_did_in_put_order(
+    rt: HostRuntime,
+) -> Result<(), Fail> {
+    let apart = (&VALUES[..], Some(false));
+    let (_, puts, drives) = run(rt.alloc(), 300, apart, (&VALUES[..], Some(true)), "10")?;
+    assert_eq!(rt;
+        puts[0],
+        (full(272, 200, 300, 2), members([1, 20, 30], WRITE))
+    );
+    assert_eq!(rt;
+        puts[1],
+        (full(272, 280, 300, 0), members([1, 20, 30], WRITE))
+    );
+    assert_eq!(rt; drives, [Some(2), Some(2)]);
+    Ok(())
+}
+
+#[test]
+fn members_are_put_alone_and_got_between(rt: HostRuntime) -> Result<(), Fail> {
+    let (_, puts, drives) = run(rt.alloc(), 1000, (&[12], None), (&[12, 22], None), "")?;
+    assert_eq!(rt; puts[0], (done(0), members([1, 20, 3], WRITE)));
+    assert_eq!(rt; puts[1], (done(1), members([1, 20, 30], QUIET)));
+    assert_eq!(rt; drives, [Some(0), Some(2)]);
+    Ok(())
+}
+
+/// What a put of no leaf answers where a member processes its record.
+fn processed(alloc: Global) -> Result<Option<Result<Done, PutAnswer>>, NoMemory> {
+    let value = opening_of(alloc, PROCESSED)?;
+    let mut desk = desk_of(alloc, PROCESSED, 1000, "")?;
+    let answer = put(alloc, &mut desk, "G", &value, &[], None);
     discard(value);
     discard(desk);
-    assert_eq!(rt;
-        first,
-        (Ok(Done { first: 0, count: 1 }), members([1, 20, 3], 3))
-    );
-    assert_eq!(rt;
-        second,
-        (Ok(Done { first: 1, count: 1 }), members([1, 20, 30], 3))
-    );
-    assert_eq!(rt; processed, Ok(Done { first: 0, count: 1 }));
+    Ok(answer)
+}
+
+#[test]
+fn a_member_that_processes_needs_no_leaf(rt: HostRuntime) -> Result<(), Fail> {
+    assert_eq!(rt; processed(rt.alloc())?, done(0));
     Ok(())
 }

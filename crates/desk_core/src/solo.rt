@@ -1,11 +1,8 @@
 // A desk that nobody shares.
-ghost use Rattle.std.specs.Prelude.{◌≡◌, ◌<◌, ◌≤◌, [], ◌∷◌, false, length, map, option_map, slice_get, Some, true, IfErr, IfOk, IsTrue, Ok, OnOk};
+ghost use Rattle.std.specs.Prelude.{◌≡◌, ◌<◌, ◌≤◌, [], ◌∷◌, false, length, map, option_map, slice_get, Some, true, IfOk, IsTrue, OnOk};
 ghost use Rattle.std.specs.List.{AllByRecursion};
 ghost use Rattle.desk_api.specs.History.{IsLegal, commits};
 ghost use Rattle.desk_api.specs.Calls.{first_seat, Calls, OnTold, EndsAtItsMarks};
-ghost use Rattle.desk_api.specs.Puts.{IsRefusal, actions_of as actions_wanted};
-ghost use Rattle.desk_api.specs.Sites.{is_channel};
-ghost use Rattle.desk_api.specs.Types.{type_of};
 ghost use Rattle.desk_core.specs.Ports.{ports_there, ports_wanted};
 ghost use Rattle.desk_core.specs.Standing.{Stands, answer_of, base_of};
 ghost use Rattle.group_view.specs.Puts.{MayBeDoneBy};
@@ -102,35 +99,6 @@ impl<P: Port> SoloDesk<P> {
         names_and_configs(&self.terms.site);
         self.cells.ports[rec].as_ref()
     }
-}
-
-/// The actions that a put of the marked leaves asks of a channel of the site, at most as many as a group has members.
-fn actions_of(
-    alloc: Global,
-    site: &Site,
-    channel: Channel,
-    value: &PvValue,
-    mask: &BitSet,
-) -> Result<Vec<(u32, Action)>, FieldAnswer>
-    requires channel { IsTrue (is_channel site.now channel) }
-    requires fits { fits_of 16 (view value.now) (type_of site.now channel) ≡ true }
-    ensures actions { IfOk result (λ actions. actions_wanted site.now channel mask.now (view value.now) ≡ Ok actions.items) }
-    ensures refusal { IfErr result (IsRefusal site.now channel mask.now (view value.now)) }
-    ensures may { IfOk result (λ actions. AllByRecursion (MayBeDoneBy site.now.configs) actions.items) }
-    ensures within { IfOk result (λ actions. AllByRecursion (λ a. a.0 < length site.now.configs) actions.items) }
-    ensures some { IfOk result (λ actions. 0 < length actions.items) }
-    ensures few { IfOk result (λ actions. length actions.items ≤ 256) }
-{
-    let actions = match site.actions(alloc, channel, value, mask) {
-        Ok(actions) => actions,
-        Err(answer) => return Err(answer),
-    };
-    // No group has more members, and so none has more actions.
-    if actions.len() > 256 {
-        discard(actions);
-        return Err(FieldAnswer::NoMemory);
-    }
-    Ok(actions)
 }
 
 /// The list of one action.
@@ -258,7 +226,7 @@ impl<P: Port> SoloDesk<P> {
         actions: Vec<(u32, Action)>,
         moment: Moment,
     ) -> Result<(Done, PvValue), PutAnswer>
-        requires channel { IsTrue (is_channel self.old.terms.site channel) }
+        requires channel { IsTrue (sites.is_channel self.old.terms.site channel) }
         requires within { AllByRecursion (λ a. a.0 < length self.old.terms.site.configs) actions.items }
         requires may { AllByRecursion (MayBeDoneBy self.old.terms.site.configs) actions.items }
         requires few { length actions.items ≤ 256 }
@@ -336,10 +304,15 @@ impl<P: Port> Desk for SoloDesk<P> {
     ghost use Rattle.desk_core.specs.Desks.{ports_of};
     ghost use Rattle.desk_core.specs.Ports.{DrivesPorts};
     ghost use Rattle.desk_core.specs.PutGets.{done_of};
+    ghost use Rattle.histories.specs.History.{deeds_by, tagged};
 
     ghost seat = { λ desk. desk.log };
 
-    fn has_legal_history(&self) {}
+    /// Nothing is done. It tells that the history is legal, and that every deed of it is this desk's own.
+    fn has_legal_history(&self)
+        ensures legal { IsLegal self.now.log.seen }
+        ensures own { self.now.log.seen.deeds ≡ tagged self.now.log.number (deeds_by self.now.log.number self.now.log.seen.deeds) }
+    {}
 
     fn find(&self, name: &str) -> Option<Channel> {
         self.terms.site.find(name)
@@ -401,7 +374,7 @@ impl<P: Port> Desk for SoloDesk<P> {
         ensures first { IfOk result (λ done. done.first ≡ now self.old.log) }
         ensures ports { DrivesPorts self.old.log self.new.log (ports_of P.port self.old) (ports_of P.port self.new) (record { site = self.old.log.seen.base.site; channel = channel; mask = mask.now; value = view value.now; moment = moment; atomic = atomic }) result }
     {
-        let actions = match actions_of(alloc, &self.terms.site, channel, value, mask) {
+        let actions = match self.terms.site.actions(alloc, channel, value, mask) {
             Ok(actions) => actions,
             Err(answer) => return Err(not_done(answer)),
         };
@@ -430,7 +403,7 @@ impl<P: Port> Desk for SoloDesk<P> {
         if !self.terms.site.is_atomic(channel, atomic) {
             return self.put_then_get(alloc, channel, mask, value, moment, atomic);
         }
-        match actions_of(alloc, &self.terms.site, channel, value, mask) {
+        match self.terms.site.actions(alloc, channel, value, mask) {
             Ok(actions) => self.put_and_show(alloc, channel, actions, moment),
             Err(answer) => Err(not_done(answer)),
         }

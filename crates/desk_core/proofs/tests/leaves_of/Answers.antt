@@ -2,7 +2,7 @@ use Rattle.std.proofs.Common.{sym, ap, ◌∙◌}
 use Rattle.std.proofs.lemmas.Bool.{and_parts}
 use Rattle.std.specs.Cmp.{nat_cmp_total}
 use Rattle.std.specs.FinSet.{contains, contains-intersection}
-use Rattle.desk_core.proofs.group_tests.leaves_of.Goals as goal
+use Rattle.desk_core.proofs.tests.leaves_of.Goals as goal
 
 pub returns : goal.returns
 returns c n marked =
