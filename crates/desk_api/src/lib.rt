@@ -9,6 +9,8 @@ mod history;
 mod laws;
 mod mark;
 mod put;
+#[cfg(test)]
+mod put_get_tests;
 mod records;
 mod rows;
 mod serving;
