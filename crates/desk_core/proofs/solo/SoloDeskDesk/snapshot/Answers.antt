@@ -1,4 +1,4 @@
-use Rattle.std.proofs.Common.{◌≡◌, List, None, length, sym, ap, ◌∙◌}
+use Rattle.std.proofs.Common.{◌≡◌, List, None, Global, length, sym, ap, ◌∙◌}
 use Rattle.rec_kinds.specs.declared.state.RecState.{RecState}
 use Rattle.desk_api.specs.Calls.{looks_of, rows_shown}
 use Rattle.desk_api.specs.Sites.{channel_of}
@@ -17,7 +17,7 @@ pub rows-requires : goal.rows-requires
 rows-requires g c = ap length c.as_slice-cells.ensures.value ∙ sym (valid_count _ _ c.args.self.now.valid) ∙ sym c.names_and_configs.ensures.same
 
 pub returns-in_default-clause-calls : goal.returns-in_default-clause-calls
-returns-in_default-clause-calls g c = no_snapshot _ c.args.self.now.log.seen.base.site c.args.self.now.log c.args.self.now.legal _
+returns-in_default-clause-calls g c = no_snapshot Global c.args.self.now.log.seen.base.site c.args.self.now.log c.args.self.now.legal _
 
 pub returns-clause-calls : goal.returns-clause-calls
 returns-clause-calls g c =
