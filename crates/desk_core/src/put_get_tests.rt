@@ -89,7 +89,7 @@ fn run(
 fn an_atomic_put_get_shows_the_group_right_after_its_one_entry(
     rt: HostRuntime,
 ) -> Result<(), Fail> {
-    let (puts, after, drives) = run(rt.alloc(), 432, &VALUES, &[12], None)?;
+    let (puts, after, drives) = run(rt.alloc(), 480, &VALUES, &[12], None)?;
     assert_eq!(rt; puts[0], (done(0), members([10, 20, 30], WRITE)));
     assert_eq!(rt; puts[1], (done(1), members([10, 20, 30], QUIET)));
     assert_eq!(rt; after, members([10, 20, 30], QUIET));
@@ -99,9 +99,9 @@ fn an_atomic_put_get_shows_the_group_right_after_its_one_entry(
 
 #[test]
 fn a_put_get_of_one_member_weighs_all_records_that_it_reads(rt: HostRuntime) -> Result<(), Fail> {
-    let (puts, after, drives) = run(rt.alloc(), 431, &VALUES, &[12], None)?;
+    let (puts, after, drives) = run(rt.alloc(), 479, &VALUES, &[12], None)?;
     assert_eq!(rt; puts[0], (done(0), members([10, 20, 30], WRITE)));
-    assert_eq!(rt; puts[1], (full(280, 152, 431, 0), None));
+    assert_eq!(rt; puts[1], (full(280, 200, 479, 0), None));
     assert_eq!(rt; after, members([10, 20, 30], WRITE));
     assert_eq!(rt; drives, [Some(1), Some(2)]);
     Ok(())
