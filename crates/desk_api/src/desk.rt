@@ -1,5 +1,5 @@
 // What a session asks of its desk.
-ghost use Rattle.std.specs.Prelude.{◌≡◌, true, IfOk, IsTrue, OnOk, option_map, Some};
+ghost use Rattle.std.specs.Prelude.{◌≡◌, true, IfOk, IsTrue, OnOk, option_map, Some, ◌≤◌, length};
 ghost use Rattle.desk_api.specs.declared.mark.Seat.{Seat};
 ghost use Rattle.desk_api.specs.Sites as sites;
 ghost use Rattle.desk_api.specs.Types as types;
@@ -35,6 +35,16 @@ pub trait Desk {
     fn type_of(&self, channel: Channel) -> Option<&PvType>
         requires { IsTrue (sites.is_channel (seat self.now).seen.base.site channel) }
         ensures { option_map (λ t. t.now) result ≡ types.type_if_valued (seat self.now).seen.base.site channel };
+
+    /// How many records the site has: at most 4,000.
+    fn records(&self) -> usize
+        ensures records { result ≡ length (seat self.now).seen.base.site.names }
+        ensures few { result ≤ 4000 };
+
+    /// How many groups the site has: at most 1,024.
+    fn groups(&self) -> usize
+        ensures groups { result ≡ length (seat self.now).seen.base.site.groups }
+        ensures few { result ≤ 1024 };
 
     /// The names of the records, in the order of their text, and then those of the groups, in the order in which the text first
     /// names them. It makes no mark.

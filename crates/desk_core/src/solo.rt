@@ -322,6 +322,14 @@ impl<P: Port> Desk for SoloDesk<P> {
         self.terms.site.type_of(channel)
     }
 
+    fn records(&self) -> usize {
+        self.terms.site.records()
+    }
+
+    fn groups(&self) -> usize {
+        self.terms.site.groups()
+    }
+
     fn names(&self, alloc: Global) -> Result<Vec<Name>, NoMemory> {
         self.terms.site.names(alloc)
     }
