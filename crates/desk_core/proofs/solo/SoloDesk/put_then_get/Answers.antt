@@ -1,0 +1,31 @@
+use Rattle.std.proofs.Common.{◌≡◌, IsTrue, Option, Bool, true, false, Result, Ok, Err, refl, sym, subst, ap, ◌∙◌}
+use Rattle.std.specs.FinSet.{FinSet}
+use Rattle.std.specs.Ordering.{nat_cmp}
+use Rattle.std.specs.Prelude.{IfOk}
+use Rattle.pvd_type.specs.declared.memory.NoMemory.{NoMemory}
+use Rattle.pvd_value.specs.Data.{Data}
+use Rattle.pvd_value.specs.Fits.{fits_of}
+use Rattle.pvd_value.specs.View.{view}
+use Rattle.pvd_value.specs.declared.value.PvValue.{PvValue}
+use Rattle.journal_core.specs.Moments.{Moment}
+use Rattle.desk_api.specs.Calls.{Asked, AreGet, ArePut, ArePutGet, Calls, OnTold, EndsAtItsMarks}
+use Rattle.desk_api.specs.Sites.{is_atomic, is_channel}
+use Rattle.desk_api.specs.Types.{type_of}
+use Rattle.desk_api.specs.declared.channel.Channel.{Channel}
+use Rattle.desk_api.specs.declared.history.Base.{Base}
+use Rattle.desk_api.specs.declared.history.SiteData.{SiteData}
+use Rattle.desk_api.specs.declared.put.Done.{Done}
+use Rattle.desk_api.specs.declared.put.PutAnswer.{PutAnswer}
+use Rattle.desk_core.specs.Desks.{ports_of}
+use Rattle.desk_core.specs.Ports.{DrivesPorts}
+use Rattle.desk_core.specs.PutGets.{done_of}
+use Rattle.desk_core.proofs.Combining.{both_calls, both_drive, both_ends, failed_calls, failed_ends, stopped_calls, stopped_drive}
+use Rattle.desk_core.proofs.solo.SoloDesk.put_then_get.Goals as goal
+
+-- what is asked of a site
+abbrev asked_of : Channel → FinSet nat_cmp → Data → Moment → Option Bool → SiteData → Asked
+asked_of channel mask value moment atomic site = record { site = site; channel = channel; mask = mask; value = value; moment = moment; atomic = atomic }
+
+-- what is asked, and how it is done
+pub returns-in-Err-clause-calls : goal.returns-in-Err-clause-calls
+returns-in-Err-clause-calls g c = ?
