@@ -1,11 +1,17 @@
 -- What is told of all records and groups.
-use Rattle.std.specs.Prelude.{◌≡◌, ℕ, zero, suc, ◌+◌, List, [], ◌∷◌, ◌++◌, map, take, Option, Some, slice_get, option_map}
-use Rattle.std.proofs.Common.{sym, ◌∙◌, ap, arith}
+use Rattle.std.specs.Prelude.{◌≡◌, ℕ, zero, suc, ◌+◌, ◌≤◌, List, [], ◌∷◌, ◌++◌, length, map, take, Option, Some, None, slice_get, option_map, refl}
+use Rattle.std.specs.List.{range_with_len}
+use Rattle.std.proofs.Common.{sym, ◌∙◌, ap, arith, drop}
 use Rattle.std.proofs.lemmas.List.{take-map}
 use Rattle.std.proofs.lemmas.Option.{none-some, slice_get-map}
 use Rattle.group_view.specs.Groups.{GroupData}
 use Rattle.rec_kinds.specs.declared.state.RecState.{RecState}
+use Rattle.journal_core.proofs.Growing.{replayed_count}
 use Rattle.desk_api.proofs.Stating.{next_taken}
+use Rattle.desk_api.specs.History.{History, commits, state_at}
+use Rattle.desk_api.specs.Marks.{IsTrueRead}
+use Rattle.desk_api.specs.Sites.{all_records, channel_of}
+use Rattle.desk_api.specs.declared.channel.ChannelKind.TheVariants.{Service}
 use Rattle.desk_api.specs.Calls.{row_shown, rows_shown}
 use Rattle.desk_api.specs.declared.rows.RecRow.{RecRow}
 
@@ -37,3 +43,41 @@ pub next_row : (names : List (List ℕ)) (states : List RecState) (n : ℕ) (nam
 next_row names states n name state is there =
     let next : n + 1 ≡ suc n = omega arith in
     ap (λ (m : ℕ). rows_shown (take m names) (take m states)) next ∙ row_after names states n name state is there
+
+-- ---- a look at all records
+
+abbrev got : List RecState → ℕ → Option RecState
+got states rec = slice_get states rec
+
+none_left : (states : List RecState) (k : ℕ) → length states ≤ k → drop k states ≡ []
+none_left [] zero le = refl
+none_left [] (suc k) le = refl
+none_left (s ∷ states) zero le = absurd (omega (arith, le))
+none_left (s ∷ states) (suc k) le = none_left states k (omega (arith, le))
+
+first_left : (states : List RecState) (k : ℕ) → suc k ≤ length states → got states k ∷ map Some (drop (suc k) states) ≡ map Some (drop k states)
+first_left [] k le = absurd (omega (arith, le))
+first_left (s ∷ states) zero le = refl
+first_left (s ∷ states) (suc k) le = first_left states k (omega (arith, le))
+
+got_all : (states : List RecState) (n a : ℕ) → a + n ≡ length states → map (got states) (range_with_len a n) ≡ map Some (drop a states)
+got_all states zero a whole = ap (map Some) (sym (none_left states a (omega (arith, whole))))
+got_all states (suc n) a whole =
+    let next : a + 1 ≡ suc a = omega arith in
+    ap (λ (l : List (Option RecState)). got states a ∷ l) (got_all states n (a + 1) (omega (arith, whole)) ∙ ap (λ (k : ℕ). map Some (drop k states)) next)
+    ∙ first_left states a (omega (arith, whole))
+
+abbrev somes : List (Option RecState) → List RecState
+somes [] = []
+somes (None ∷ xs) = somes xs
+somes (Some s ∷ xs) = s ∷ somes xs
+
+all_somes : (states : List RecState) → somes (map Some states) ≡ states
+all_somes [] = refl
+all_somes (s ∷ states) = ap (λ (l : List RecState). s ∷ l) (all_somes states)
+
+pub all_shown : (h : History) (at : ℕ) (found : List RecState) → length h.base.site.names ≡ length h.base.site.opening → IsTrueRead h at (channel_of Service 0) (all_records h.base.site) found → found ≡ state_at h at
+all_shown h at found as_many t =
+    let states = state_at h at in
+    let count : 0 + length h.base.site.names ≡ length states = omega (arith, as_many, replayed_count h.base.site.opening (take at (commits h))) in
+    sym (all_somes found) ∙ ap somes (t.found_is ∙ got_all states (length h.base.site.names) 0 count) ∙ all_somes states

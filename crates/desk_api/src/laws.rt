@@ -10,10 +10,11 @@ ghost use Rattle.desk_api.specs.Marks.{AllHold, IsTrueEntry, IsTrueRead};
 ghost use Rattle.journal_core.specs.Moments.{Moment};
 ghost use Rattle.desk_api.specs.Calls.{Adds, AreFindings, laid_by, looks_of};
 ghost use Rattle.desk_api.specs.Puts.{footprint_by, footprint_with};
-ghost use Rattle.desk_api.specs.Sites.{AreOver, channel_named, footprint_of, is_channel};
+ghost use Rattle.desk_api.specs.Sites.{AreOver, all_records, channel_named, channel_of, footprint_of, is_channel};
 ghost use Rattle.desk_api.specs.Types.{type_of};
 ghost use Rattle.desk_api.specs.Views.{value_of, laid};
 ghost use Rattle.desk_api.specs.declared.channel.Channel.{Channel};
+ghost use Rattle.desk_api.specs.declared.channel.ChannelKind.TheVariants.{Service};
 ghost use Rattle.desk_api.specs.declared.history.SiteData.{SiteData};
 ghost use Rattle.desk_api.specs.declared.mark.Mark.{Mark};
 ghost use Rattle.desk_api.specs.declared.mark.Seat.{Seat};
@@ -56,6 +57,11 @@ pub fn looks_show_states()
 {
     value_reads_records();
 }
+
+/// What a true look at all records found are the states of all records at its place, in order.
+pub fn snapshots_show_their_place()
+    ensures { (h : History) (at : ℕ) (found : List RecState) → length h.base.site.names ≡ length h.base.site.opening → IsTrueRead h at (channel_of Service 0) (all_records h.base.site) found → found ≡ state_at h at }
+{}
 
 /// An entry writes only records that it holds, be it that of a put or that of a put-get.
 pub fn entries_write_inside()

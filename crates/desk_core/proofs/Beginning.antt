@@ -1,5 +1,5 @@
 -- The entries of a put, one after another.
-use Rattle.std.proofs.Common.{◌≡◌, ℕ, ◌+◌, ◌<◌, suc, Bool, true, false, List, [], ◌∷◌, ◌++◌, length, take, drop, map, option_map, Some, Result, Ok, Err, inl, inr, refl, sym, ◌∙◌, ap, subst, arith, length-append, append_assoc}
+use Rattle.std.proofs.Common.{◌≡◌, ℕ, ◌+◌, ◌<◌, suc, Bool, true, false, List, [], ◌∷◌, ◌++◌, length, take, drop, map, option_map, Some, Result, Ok, Err, inl, inr, refl, sym, ◌∙◌, ap, subst, arith, length-append, append_assoc, IfOk}
 use Rattle.std.specs.List.{slice_get}
 use Rattle.std.proofs.Math.Seq.{take-length}
 use Rattle.std.proofs.lemmas.List.{append-nil, length-map, map-append, take-map}
@@ -13,7 +13,7 @@ use Rattle.journal_core.specs.declared.entry.Entry.{Entry}
 use Rattle.desk_api.specs.History.{History, entries, state_at, IsLegal}
 use Rattle.desk_api.specs.Marks.{place}
 use Rattle.desk_api.specs.Puts.{entries_by, footprint_by, IsRefusedBy}
-use Rattle.desk_api.specs.Calls.{Calls, Asked, asked_actions, asked_entries, entries_of_actions, entries_or_none, AreAdded, ArePut, EndsAtItsMarks, OnTold, first_place, now}
+use Rattle.desk_api.specs.Calls.{Adds, Calls, Asked, asked_actions, asked_entries, entries_of_actions, entries_or_none, AreAdded, ArePut, EndsAtItsMarks, OnTold, first_place, now}
 use Rattle.desk_api.specs.Sites.{is_atomic}
 use Rattle.desk_api.proofs.Adding.{adds_nothing, adds_more}
 use Rattle.desk_api.proofs.Holding.{looks_at_none}
@@ -246,8 +246,9 @@ module _ (a : Asked) (asked : List (List (ℕ × Action))) (is : asked_entries a
   in_turn_ends (Err (answers.JournalFull kept weight limit done)) p = inr p.full.ends
   in_turn_ends (Err (answers.NoMemory done)) p = tt
 
-  pub in_turn_first : (done : Done) → ArePutInTurn a.site a.moment asked s t old new (Ok done) → done.first ≡ now s
-  in_turn_first done p = p.first_is
+  pub in_turn_first : (result : Result Done PutAnswer) → ArePutInTurn a.site a.moment asked s t old new result → IfOk result (λ done. done.first ≡ now s)
+  in_turn_first (Ok done) p = p.first_is
+  in_turn_first (Err answer) p = tt
 
   first_actions : (done : ℕ) (actions : List (ℕ × Action)) → slice_get asked done ≡ Some actions → next_actions a done ≡ actions
   first_actions done actions next = ap (λ (l : List (List (ℕ × Action))). actions_or_none (slice_get l done)) asked_are ∙ ap actions_or_none next
@@ -309,6 +310,6 @@ stopped_drives s ports a NoMemory = record {
   first = tt;
 }
 
-pub stopped_ends : (s : Seat) (answer : FieldAnswer) → OnTold (Err (answer_of answer)) (EndsAtItsMarks s s)
-stopped_ends s (Refused refusal) = inl refl
-stopped_ends s NoMemory = tt
+pub stopped_ends : (A : Type 0) (s : Seat) (answer : FieldAnswer) → OnTold {A = A} (Err (answer_of answer)) (EndsAtItsMarks s s)
+stopped_ends A s (Refused refusal) = inl refl
+stopped_ends A s NoMemory = tt

@@ -13,6 +13,7 @@ use Rattle.rec_kinds.specs.declared.state.RecState.{RecState}
 use Rattle.rec_fields.specs.declared.puts.FieldAnswer.{FieldAnswer}
 use Rattle.rec_fields.specs.declared.puts.FieldAnswer.TheVariants.{Refused, NoMemory}
 use Rattle.journal_core.specs.Legality.{AreProcessed}
+use Rattle.journal_core.specs.Moments.{Moment}
 use Rattle.journal_core.specs.declared.entry.Entry.{Entry}
 use Rattle.desk_api.specs.History.{History, entries, state_at, IsLegal}
 use Rattle.desk_api.specs.Marks.{next_place}
@@ -21,12 +22,15 @@ use Rattle.desk_api.specs.Calls.{Adds, Calls, Asked, asked_actions, asked_entrie
 use Rattle.desk_api.specs.Sites.{footprint_of, is_atomic}
 use Rattle.desk_api.specs.Types.{type_of}
 use Rattle.desk_api.proofs.Adding.{adds_nothing, adds_more}
+use Rattle.desk_api.specs.declared.channel.Channel.{Channel}
+use Rattle.desk_api.specs.declared.history.SiteData.{SiteData}
 use Rattle.desk_api.specs.declared.mark.Mark.{Mark}
 use Rattle.desk_api.specs.declared.mark.Mark.TheVariants.{Entered, Overweight}
 use Rattle.desk_api.specs.declared.mark.Seat.{Seat}
 use Rattle.desk_api.specs.declared.put.Done.{Done}
 use Rattle.desk_api.specs.declared.put.PutAnswer.{PutAnswer}
 use Rattle.desk_api.specs.declared.put.PutAnswer.TheVariants as answers
+use Rattle.desk_core.specs.Begun.{IsPutNow}
 use Rattle.desk_core.specs.Effects.{IsBroken}
 use Rattle.desk_core.specs.Ports.{Ports, AreDrivenInTurn, AreOwnFrom, AreDrivenInPart, DrivesPorts, actions_or_none, next_actions}
 use Rattle.desk_core.specs.PutGets.{IsPutGotNow, IsShownNow, done_of}
@@ -34,6 +38,13 @@ use Rattle.desk_core.specs.Standing.{answer_of}
 use Rattle.desk_core.proofs.Beginning.{own_from, put_of}
 
 -- ---- at once
+
+-- where no entry was added
+pub ends_at_once : (site : SiteData) (channel : Channel) (moment : Moment) (actions : List (ℕ × Action)) (s t : Seat) (old new : Ports) (found : List RecState) (answer : PutAnswer)
+    → IsPutNow site moment actions (footprint_of site channel) found 0 s t old new (Err answer) → IsPutGotNow site channel moment actions s t old new (Err answer)
+ends_at_once site channel moment actions s t old new found (answers.Refused refusal) p = absurd p
+ends_at_once site channel moment actions s t old new found (answers.JournalFull kept weight limit done) p = p
+ends_at_once site channel moment actions s t old new found (answers.NoMemory done) p = p
 
 module _ (a : Asked) (actions : List (ℕ × Action)) (asked : asked_actions a ≡ Ok actions) (whole : is_atomic a.site a.channel a.atomic ≡ true) (s t : Seat) (legal : IsLegal s.seen) (old new : Ports) where
   at_once : (result : Result (Done × PvValue) PutAnswer) → IsPutGotNow a.site a.channel a.moment actions s t old new result → Calls s t (ArePutGetBy true a result)
@@ -119,16 +130,12 @@ stops_by a false NoMemory is = record { puts = []; gets = []; marks_are = refl; 
 pub refused_at_once : (s : Seat) → IsLegal s.seen → (a : Asked) (answer : FieldAnswer) → IsRefusedBy (asked_actions a) answer → Calls s s (ArePutGet a (Err (answer_of answer)))
 refused_at_once s legal a answer is = record { marks = []; adds = adds_nothing s legal; named = stops_by a (is_atomic a.site a.channel a.atomic) answer is }
 
-pub refused_ends : {A : Type 0} → (s : Seat) (answer : FieldAnswer) → OnTold {A} (Err (answer_of answer)) (EndsAtItsMarks s s)
-refused_ends s (Refused refusal) = inl refl
-refused_ends s NoMemory = tt
-
 -- ---- one after the other
 
-told_as : {A B : Type 0} → (answer : PutAnswer) (P : Type 0) → OnTold {A} (Err answer) P → OnTold {B} (Err answer) P
-told_as (answers.Refused refusal) P told = told
-told_as (answers.JournalFull kept weight limit done) P told = told
-told_as (answers.NoMemory done) P told = tt
+told_as : (A B : Type 0) (answer : PutAnswer) (P : Type 0) → OnTold {A = A} (Err answer) P → OnTold {A = B} (Err answer) P
+told_as A B (answers.Refused refusal) P told = told
+told_as A B (answers.JournalFull kept weight limit done) P told = told
+told_as A B (answers.NoMemory done) P told = tt
 
 -- where the get adds no mark the history still ends at the put's last one
 ends_both : (s m t : Seat) → t.seen ≡ m.seen → EndsAtItsMarks s m → EndsAtItsMarks m t → EndsAtItsMarks s t
@@ -156,8 +163,8 @@ module _ (a : Asked) (apart : is_atomic a.site a.channel a.atomic ≡ false) (s 
   pub failed_calls : (answer : PutAnswer) → Calls s m (ArePut a (Err answer)) → Calls s m (ArePutGet a (Err answer))
   failed_calls answer p = subst (λ (w : Bool). Calls s m (ArePutGetBy w a (Err answer))) (sym apart) (failed answer p)
 
-  pub failed_ends : (answer : PutAnswer) → OnTold {Done} (Err answer) (EndsAtItsMarks s m) → OnTold {Done × PvValue} (Err answer) (EndsAtItsMarks s m)
-  failed_ends answer told = told_as answer (EndsAtItsMarks s m) told
+  pub failed_ends : (answer : PutAnswer) → OnTold {A = Done} (Err answer) (EndsAtItsMarks s m) → OnTold {A = Done × PvValue} (Err answer) (EndsAtItsMarks s m)
+  failed_ends answer told = told_as Done (Done × PvValue) answer (EndsAtItsMarks s m) told
 
   module _ (t : Seat) (done : Done) (put : Calls s m (ArePut a (Ok done))) (put_ends : EndsAtItsMarks s m) (seen : t.seen ≡ m.seen) where
     -- the get was done too
@@ -192,8 +199,10 @@ module _ (a : Asked) (apart : is_atomic a.site a.channel a.atomic ≡ false) (s 
       }) where
         asked_are : entries_or_none (asked_entries a) ≡ put.named.entries
         asked_are = ap entries_or_none put.named.asked
+
         many : length put.marks ≡ length put.named.entries
         many = many_added a put.named.entries put.marks put.named.added
+
         all_asked : take done.count (entries_or_none (asked_entries a)) ≡ put.named.entries
         all_asked = ap (take done.count) asked_are ∙ ap (λ (n : ℕ). take n put.named.entries) (put.named.count_is ∙ many) ∙ take-length put.named.entries
 

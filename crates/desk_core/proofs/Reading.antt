@@ -27,6 +27,7 @@ use Rattle.desk_api.specs.declared.channel.ChannelKind.TheVariants.{Rec, Desc, G
 use Rattle.desk_api.specs.declared.history.Base.{Base}
 use Rattle.desk_api.specs.declared.history.SiteData.{SiteData}
 use Rattle.desk_api.specs.declared.mark.Mark.{Mark}
+use Rattle.desk_api.specs.declared.mark.Mark.TheVariants.{Read}
 use Rattle.desk_api.specs.declared.mark.Seat.{Seat}
 use Rattle.desk_core.specs.Looking.{look_of, looked, looked_by}
 use Rattle.desk_core.specs.Standing.{Stands}
@@ -38,13 +39,14 @@ use Rattle.desk_core.proofs.Marking.{looks, looks_end, still, same_seen}
 abbrev Within : ℕ → List ℕ → Type 0
 Within count recs = AllByRecursion (λ (rec : ℕ). rec < count) recs
 
+past : (xs : List RecState) (n : ℕ) → slice_get xs n ≡ None → n < length xs → ⊥
+past [] n none less = omega (arith, less)
+past (x ∷ xs) zero none less = none-some x (sym none)
+past (x ∷ xs) (suc n) none less = past xs n none (omega (arith, less))
+
 found_before : (o : Option RecState) (rec : ℕ) (cells : List RecState) (recs : List ℕ) (found : List RecState) → slice_get cells rec ≡ o → rec < length cells → map Some found ≡ map (λ (r : ℕ). slice_get cells r) recs
     → map Some (before_found o found) ≡ o ∷ map (λ (r : ℕ). slice_get cells r) recs
-found_before None rec cells recs found is less rest = absurd (past cells rec is less) where
-  past : (xs : List RecState) (n : ℕ) → slice_get xs n ≡ None → n < length xs → ⊥
-  past [] n none less = omega (arith, less)
-  past (x ∷ xs) zero none less = none-some x (sym none)
-  past (x ∷ xs) (suc n) none less = past xs n none (omega (arith, less))
+found_before None rec cells recs found is less rest = absurd (past cells rec is less)
 found_before (Some state) rec cells recs found is less rest = ap (λ (l : List (Option RecState)). Some state ∷ l) rest
 
 pub found_all : (cells : List RecState) (recs : List ℕ) → Within (length cells) recs → AreStatesOf cells recs (found_in cells recs)
@@ -239,7 +241,7 @@ module _ (base : Base) (cells : List RecState) (journal : Journal) (s t : Seat) 
   all = all_records base.site
 
   all_there : found_in cells all ≡ cells
-  all_there = ap (λ (n : ℕ). found_in cells (range_with_len 0 n)) (sym count) ∙ all_found cells (length cells) 0 refl
+  all_there = ap (λ (n : ℕ). found_in cells (range_with_len 0 n)) (sym count) ∙ all_found cells (length cells) 0 (omega arith)
 
   all_in : Within (length cells) all
   all_in = all_below (length base.site.names) 0 (length cells) (omega (arith, count))
@@ -259,8 +261,8 @@ module _ (base : Base) (cells : List RecState) (journal : Journal) (s t : Seat) 
       subst (λ (b : Base). Calls s t (AreSnapshot b.site (Ok rows))) (sym x.base_is) (subst (λ (z : Seat). Calls s z (AreSnapshot base.site (Ok rows))) (sym noted) here)
 
 -- memory ran out before the look
-pub no_snapshot : {Z : Type 0} → (site : SiteData) (s : Seat) → IsLegal s.seen → (e : pvd.NoMemory) → Calls s s (AreSnapshot {Z} site (Err e))
-no_snapshot site s legal e = record { marks = []; adds = adds_nothing s legal; named = record { looks = tt } }
+pub no_snapshot : (Z : Type 0) (site : SiteData) (s : Seat) → IsLegal s.seen → (e : pvd.NoMemory) → Calls s s (AreSnapshot {Z = Z} site (Err e))
+no_snapshot Z site s legal e = record { marks = []; adds = adds_nothing s legal; named = record { looks = tt } }
 
 -- ---- what is looked at behind an entry
 

@@ -400,7 +400,8 @@ impl<P: Port> Desk for SoloDesk<P> {
         ensures base { self.new.log.seen.base ≡ self.old.log.seen.base }
         ensures ports { DrivesPorts self.old.log self.new.log (ports_of P.port self.old) (ports_of P.port self.new) (record { site = self.old.log.seen.base.site; channel = channel; mask = mask.now; value = view value.now; moment = moment; atomic = atomic }) (done_of result) }
     {
-        if !self.terms.site.is_atomic(channel, atomic) {
+        let at_once = self.terms.site.is_atomic(channel, atomic);
+        if !at_once {
             return self.put_then_get(alloc, channel, mask, value, moment, atomic);
         }
         match self.terms.site.actions(alloc, channel, value, mask) {

@@ -26,6 +26,82 @@ use Rattle.desk_core.proofs.solo.SoloDesk.put_then_get.Goals as goal
 abbrev asked_of : Channel → FinSet nat_cmp → Data → Moment → Option Bool → SiteData → Asked
 asked_of channel mask value moment atomic site = record { site = site; channel = channel; mask = mask; value = value; moment = moment; atomic = atomic }
 
--- what is asked, and how it is done
 pub returns-in-Err-clause-calls : goal.returns-in-Err-clause-calls
-returns-in-Err-clause-calls g c = ?
+returns-in-Err-clause-calls g c =
+    let s = c.args.self.now.log in
+    let a = asked_of c.args.channel c.args.mask.now (view c.args.value.now) c.args.moment c.args.atomic s.seen.base.site in
+    failed_calls a c.requires.apart s c.put.new.self.log (ports_of g.P.Port.port c.args.self.now) (ports_of g.P.Port.port c.put.new.self) c.in-Err.answer (c.in-Err.ensures {u = tt}).calls
+
+pub returns-in-Err-clause-ends : goal.returns-in-Err-clause-ends
+returns-in-Err-clause-ends g c =
+    let s = c.args.self.now.log in
+    let a = asked_of c.args.channel c.args.mask.now (view c.args.value.now) c.args.moment c.args.atomic s.seen.base.site in
+    failed_ends a c.requires.apart s c.put.new.self.log (ports_of g.P.Port.port c.args.self.now) (ports_of g.P.Port.port c.put.new.self) c.in-Err.answer (c.in-Err.ensures {u = tt}).ends
+
+pub get-requires : goal.get-requires
+get-requires g c = subst (λ (b : Base). IsTrue (is_channel b.site c.args.channel)) (sym c.put.ensures.base) c.requires.channel
+
+pub returns-in-Ok-get-clause-calls : goal.returns-in-Ok-get-clause-calls
+returns-in-Ok-get-clause-calls g c =
+    let s = c.args.self.now.log in
+    let m = c.put.new.self.log in
+    let t = c.get.new.self.log in
+    let a = asked_of c.args.channel c.args.mask.now (view c.args.value.now) c.args.moment c.args.atomic s.seen.base.site in
+    let put = c.in-Ok.ensures {u = tt} in
+    let get = c.in-Ok-get.ensures {u = tt} in
+    both_calls a c.requires.apart s m (ports_of g.P.Port.port c.args.self.now) (ports_of g.P.Port.port c.put.new.self) t c.in-Ok.done put.calls put.ends c.get.ensures.seen c.in-Ok-get.value
+    (subst (λ (b : Base). Calls m t (AreGet b.site c.args.channel c.args.atomic (Ok c.in-Ok-get.value))) c.put.ensures.base get.calls)
+
+pub returns-in-Ok-get-clause-ends : goal.returns-in-Ok-get-clause-ends
+returns-in-Ok-get-clause-ends g c =
+    let s = c.args.self.now.log in
+    let m = c.put.new.self.log in
+    let t = c.get.new.self.log in
+    let a = asked_of c.args.channel c.args.mask.now (view c.args.value.now) c.args.moment c.args.atomic s.seen.base.site in
+    let put = c.in-Ok.ensures {u = tt} in
+    let get = c.in-Ok-get.ensures {u = tt} in
+    both_ends a c.requires.apart s m (ports_of g.P.Port.port c.args.self.now) (ports_of g.P.Port.port c.put.new.self) t c.in-Ok.done put.calls put.ends c.get.ensures.seen c.in-Ok-get.value
+    (subst (λ (b : Base). Calls m t (AreGet b.site c.args.channel c.args.atomic (Ok c.in-Ok-get.value))) c.put.ensures.base get.calls) get.ends
+
+pub returns-in-Ok-get-clause-fits : goal.returns-in-Ok-get-clause-fits
+returns-in-Ok-get-clause-fits g c =
+    ap (λ (b : Base). fits_of 16 (view c.in-Ok-get.value) (type_of b.site c.args.channel)) (sym c.put.ensures.base) ∙ (c.in-Ok-get.ensures {u = tt}).fits
+
+pub returns-in-Ok-get-clause-base : goal.returns-in-Ok-get-clause-base
+returns-in-Ok-get-clause-base g c = c.get.ensures.base ∙ c.put.ensures.base
+
+pub returns-in-Ok-get-clause-ports : goal.returns-in-Ok-get-clause-ports
+returns-in-Ok-get-clause-ports g c =
+    let s = c.args.self.now.log in
+    let m = c.put.new.self.log in
+    let t = c.get.new.self.log in
+    let a = asked_of c.args.channel c.args.mask.now (view c.args.value.now) c.args.moment c.args.atomic s.seen.base.site in
+    let put = c.in-Ok.ensures {u = tt} in
+    let get = c.in-Ok-get.ensures {u = tt} in
+    both_drive a c.requires.apart s m (ports_of g.P.Port.port c.args.self.now) (ports_of g.P.Port.port c.put.new.self) t c.in-Ok.done put.calls put.ends c.get.ensures.seen
+    (ports_of g.P.Port.port c.get.new.self) c.get.ensures.ports get.calls.adds.number put.ports
+
+pub returns-in-Err-get-clause-calls : goal.returns-in-Err-get-clause-calls
+returns-in-Err-get-clause-calls g c =
+    let s = c.args.self.now.log in
+    let m = c.put.new.self.log in
+    let t = c.get.new.self.log in
+    let a = asked_of c.args.channel c.args.mask.now (view c.args.value.now) c.args.moment c.args.atomic s.seen.base.site in
+    let put = c.in-Ok.ensures {u = tt} in
+    let get = c.in-Err-get.ensures {u = tt} in
+    stopped_calls a c.requires.apart s m (ports_of g.P.Port.port c.args.self.now) (ports_of g.P.Port.port c.put.new.self) t c.in-Ok.done put.calls put.ends c.get.ensures.seen _
+    (subst (λ (b : Base). Calls m t (AreGet b.site c.args.channel c.args.atomic (Err _))) c.put.ensures.base get.calls)
+
+pub returns-in-Err-get-clause-base : goal.returns-in-Err-get-clause-base
+returns-in-Err-get-clause-base g c = c.get.ensures.base ∙ c.put.ensures.base
+
+pub returns-in-Err-get-clause-ports : goal.returns-in-Err-get-clause-ports
+returns-in-Err-get-clause-ports g c =
+    let s = c.args.self.now.log in
+    let m = c.put.new.self.log in
+    let t = c.get.new.self.log in
+    let a = asked_of c.args.channel c.args.mask.now (view c.args.value.now) c.args.moment c.args.atomic s.seen.base.site in
+    let put = c.in-Ok.ensures {u = tt} in
+    let get = c.in-Err-get.ensures {u = tt} in
+    stopped_drive a c.requires.apart s m (ports_of g.P.Port.port c.args.self.now) (ports_of g.P.Port.port c.put.new.self) t c.in-Ok.done put.calls put.ends c.get.ensures.seen
+    (ports_of g.P.Port.port c.get.new.self) c.get.ensures.ports get.calls.adds.number put.ports put.first
