@@ -11,3 +11,5 @@ pub mod Beginning
 pub mod Places
 pub mod Parts
 pub mod Validating
+pub mod Typed
+pub mod Counting

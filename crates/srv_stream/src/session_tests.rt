@@ -129,7 +129,11 @@ fn desk_of(alloc: Global, text: &str) -> Result<SoloDesk<MemoryPort>, NoMemory> 
 }
 
 /// What a serving of these records says to an input that comes at 100 seconds and 5 nanoseconds.
-fn said(alloc: Global, text: &str, input: &[u8]) -> Result<(Result<(), Ended>, Vec<u8>), NoMemory> {
+pub(crate) fn said(
+    alloc: Global,
+    text: &str,
+    input: &[u8],
+) -> Result<(Result<(), Ended>, Vec<u8>), NoMemory> {
     let mut serving = Serving::start(alloc, Order::Little)?;
     let mut desk = desk_of(alloc, text)?;
     let ended = serving.feed(alloc, &mut desk, input, Moment::new(100, 5));
