@@ -12,4 +12,3 @@ pub mod Places
 pub mod Parts
 pub mod Validating
 pub mod Typed
-pub mod Counting

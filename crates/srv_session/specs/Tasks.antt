@@ -32,11 +32,10 @@ use Rattle.pvd_request.specs.declared.request.Root.{Root}
 use Rattle.pvd_request.specs.declared.request.Root.TheVariants as roots
 use Rattle.chan_table.specs.declared.ask.AskKind.{AskKind}
 use Rattle.chan_table.specs.declared.ask.AskKind.TheVariants as kinds
-use Rattle.desk_api.specs.Sites.{has_values, channel_named, names_of}
+use Rattle.desk_api.specs.Sites.{has_values, names_of}
 use Rattle.desk_api.specs.Types.{type_of}
 use Rattle.desk_api.specs.declared.channel.Channel.{Channel}
 use Rattle.desk_api.specs.declared.channel.ChannelKind.{ChannelKind}
-use Rattle.desk_api.specs.declared.channel.ChannelKind.TheVariants as channels
 use Rattle.desk_api.specs.declared.history.SiteData.{SiteData}
 use Rattle.rpc_services.specs.Answers.{channels_tree, channels_data, info_tree, info_data}
 use Rattle.rpc_services.specs.Operations.{asked as operation_asked}
@@ -257,30 +256,14 @@ abbrev pub operation_in : Valued → Result RpcOp RpcRefusal
 operation_in None = Err refusals.NotNturi
 operation_in (Some v) = operation_asked v.0 v.1
 
--- Of these names those that stand for groups, counted; the others stand for records.
-
-abbrev pub is_group_kind : ChannelKind → Bool
-is_group_kind channels.Rec = false
-is_group_kind channels.Desc = false
-is_group_kind channels.Group = true
-is_group_kind channels.Service = false
-
-abbrev pub is_group : Option Channel → Bool
-is_group None = false
-is_group (Some channel) = is_group_kind channel.kind
-
-abbrev pub groups_among : SiteData → List (List ℕ) → ℕ
-groups_among site [] = 0
-groups_among site (name ∷ names) =
-    if is_group (channel_named site name) then 1 + groups_among site names else groups_among site names
-
-abbrev pub info_of : SiteData → List (List ℕ) → Data
-info_of site names = info_data (length names - groups_among site names) (groups_among site names)
+-- how many records and groups the site has
+abbrev pub info_of : SiteData → Data
+info_of site = info_data (length site.names) (length site.groups)
 
 abbrev pub called_for : SiteData → ℕ → ℕ → Result RpcOp RpcRefusal → Task
 called_for site req sub (Ok operations.Channels) =
     respond req sub (called req sub channels_tree (channels_data (names_of site)))
-called_for site req sub (Ok operations.Info) = respond req sub (called req sub info_tree (info_of site (names_of site)))
+called_for site req sub (Ok operations.Info) = respond req sub (called req sub info_tree (info_of site))
 called_for site req sub (Ok operations.Snapshot) = snapshot req sub
 called_for site req sub (Err refusal) = respond req sub (refused kinds.Rpc req sub (call_refusal refusal))
 

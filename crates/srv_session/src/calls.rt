@@ -6,11 +6,11 @@ ghost use Rattle.pva_messages.specs.Views.{valued_view};
 ghost use Rattle.rpc_services.specs.Answers.{channels_tree, channels_data, count_shown, info_tree, snapshot_tree};
 ghost use Rattle.desk_api.specs.Sites.{names_of};
 ghost use Rattle.srv_session.specs.Rows.{rows_data};
-ghost use Rattle.srv_session.specs.Tasks.{call_refusal, groups_among, info_of, is_group, operation_in};
+ghost use Rattle.srv_session.specs.Tasks.{call_refusal, info_of, operation_in};
 
 use crate::session::Session;
 use chan_table::AskKind;
-use desk_api::{Channel, ChannelKind, Desk, RecRow};
+use desk_api::{Desk, RecRow};
 use pva_messages::begins;
 use pvd_type::{Name, NoMemory, PvType};
 use pvd_value::PvValue;
@@ -38,44 +38,6 @@ fn operation_in(argument: &Option<(PvType, PvValue)>) -> Result<RpcOp, RpcRefusa
     }
 }
 
-/// Whether a name that stands for this stands for a group.
-fn is_group(channel: Option<Channel>) -> bool
-    ensures { result ≡ is_group channel }
-{
-    let Some(channel) = channel else {
-        return false;
-    };
-    match channel.kind {
-        ChannelKind::Rec => false,
-        ChannelKind::Desc => false,
-        ChannelKind::Group => true,
-        ChannelKind::Service => false,
-    }
-}
-
-/// So many groups, and one more if this is one; there are at most so many.
-fn with_group(groups: usize, group: bool, most: usize) -> usize
-    requires { groups < most }
-    ensures { result ≡ (if group then 1 + groups else groups) }
-{
-    if group {
-        return groups + 1;
-    }
-    groups
-}
-
-/// How many of these names stand for groups.
-fn groups_among<D: Desk>(desk: &D, names: &[Name]) -> usize
-    ensures count { result ≡ groups_among (D.seat desk.now).seen.base.site names.now }
-    ensures within { result ≤ length names.now }
-{
-    let mut groups = 0;
-    for name in names {
-        groups = with_group(groups, is_group(desk.find(name.as_str())), names.len());
-    }
-    groups
-}
-
 /// The same count, or the greatest one below it.
 fn count_of(count: usize) -> u32
     ensures { count_shown result ≡ count_shown count }
@@ -99,13 +61,10 @@ fn channels_of<D: Desk>(alloc: Global, desk: &D) -> Result<(PvType, PvValue), No
 /// How many records and groups the desk has.
 fn info_on<D: Desk>(alloc: Global, desk: &D) -> Result<(PvType, PvValue), NoMemory>
     ensures tree { IfOk result (λ r. r.0 ≡ info_tree) }
-    ensures value { IfOk result (λ r. view r.1 ≡ info_of (D.seat desk.now).seen.base.site (names_of (D.seat desk.now).seen.base.site)) }
+    ensures value { IfOk result (λ r. view r.1 ≡ info_of (D.seat desk.now).seen.base.site) }
     ensures fits { IfOk result (λ r. fits_of 16 (view r.1) r.0 ≡ true) }
 {
-    let names = desk.names(alloc)?;
-    let groups = groups_among(desk, &names);
-    let records = names.len() - groups;
-    info(alloc, count_of(records), count_of(groups))
+    info(alloc, count_of(desk.records()), count_of(desk.groups()))
 }
 
 // The columns of a table of records.
@@ -268,7 +227,7 @@ impl Session {
         desk: &D,
     ) -> Result<(), NoMemory>
         requires { begins sub ≡ false }
-        ensures { AnswersBeside (D.seat desk.now) self.old self.new (task.respond req sub (called req sub info_tree (info_of (D.seat desk.now).seen.base.site (names_of (D.seat desk.now).seen.base.site)))) result }
+        ensures { AnswersBeside (D.seat desk.now) self.old self.new (task.respond req sub (called req sub info_tree (info_of (D.seat desk.now).seen.base.site))) result }
     {
         let told = info_on(alloc, desk)?;
         self.say_told(req, sub, &told.0, &told.1)

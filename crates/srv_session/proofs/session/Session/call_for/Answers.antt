@@ -19,7 +19,7 @@ pub returns-in-Info : goal.returns-in-Info
 returns-in-Info g c moment =
     let seat = g.D.Desk.seat c.args.desk.now in
     let site = seat.seen.base.site in
-    as_task (show seat c.args.self.now) (show seat c.tell_info.new.self) moment (respond c.args.req c.args.sub (called c.args.req c.args.sub info_tree (info_of site (names_of site)))) _ c.tell_info.result
+    as_task (show seat c.args.self.now) (show seat c.tell_info.new.self) moment (respond c.args.req c.args.sub (called c.args.req c.args.sub info_tree (info_of site))) _ c.tell_info.result
     (ap (λ (o : RpcOp). called_for site c.args.req c.args.sub (Ok o)) c.in-Info.is) (c.tell_info.ensures c.has_legal_history.ensures moment)
 
 pub returns-in-Snapshot : goal.returns-in-Snapshot
