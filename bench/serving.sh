@@ -7,18 +7,24 @@ trap 'rm -rf "$work"' EXIT
 server=crates/pvaserve/out/pvaserve
 [ -x "$server" ] || (cd crates/pvaserve && rt run -- --version) </dev/null >/dev/null
 
-# What a client sends first: a validation, a channel of X, and request 1, which begins by the command whose byte is given.
-opening() {
+validation() {
     printf '\xCA\x02\x00\x01\x13\x00\x00\x00\x00\x00\x01\x00\x00\x00\x00\x00\x09anonymous\xFF'
-    printf '\xCA\x02\x00\x07\x08\x00\x00\x00\x01\x00\x07\x00\x00\x00\x01X'
+}
+
+# What a client sends first: a validation, a channel of X or of another name of one byte, and request 1, which begins by the
+# command whose byte is given.
+opening() {
+    validation
+    printf '\xCA\x02\x00\x07\x08\x00\x00\x00\x01\x00\x07\x00\x00\x00\x01%s' "${2:-X}"
     printf "\\xCA\\x02\\x00\\x$1"'\x0C\x00\x00\x00\x00\x00\x00\x00\x01\x00\x00\x00\x08\x80\x00\x00'
 }
 
-# Writes the input of a run: the opening with a command, and so many thousands of one message, which is read from a file.
+# Writes the input of a run: the opening with a command and maybe a channel's name, and so many thousands of one message,
+# which is read from a file.
 make_input() {
     local thousand=$work/thousand
     for _ in $(seq 1000); do cat "$3"; done > "$thousand"
-    { opening "$1"; for _ in $(seq "$2"); do cat "$thousand"; done; } > "$work/input"
+    { opening "$1" "${4:-X}"; for _ in $(seq "$2"); do cat "$thousand"; done; } > "$work/input"
 }
 
 # The least processor time of three runs of a command over the input, in nanoseconds. Other work on the machine disturbs it less

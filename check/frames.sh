@@ -56,13 +56,14 @@ text_at() {
 
 # What a frame of the client says.
 client_words() {
-    case "${frame[3]}-${frame[16]:-}" in
+    case "${frame[3]}-${frame[16]:-}-${frame[12]:-}" in
     01-*) echo "validation, by the method $(text_at 16)" ;;
     07-*) echo "create a channel of $(text_at 14), under the client's id $(number_at 10 4)" ;;
-    0a-08) echo "request $(number_at 12 4) begins a get on channel $(number_at 8 4)" ;;
-    0a-00) echo "request $(number_at 12 4): get" ;;
-    0b-08) echo "request $(number_at 12 4) begins a put on channel $(number_at 8 4)" ;;
-    0b-00) echo "request $(number_at 12 4): put $(int_at 19)$([ "${frame[18]:-}" = 02 ] || echo " into another field")" ;;
+    0a-08-*) echo "request $(number_at 12 4) begins a get on channel $(number_at 8 4)" ;;
+    0a-00-*) echo "request $(number_at 12 4): get" ;;
+    0b-08-*) echo "request $(number_at 12 4) begins a put on channel $(number_at 8 4)" ;;
+    0b-00-04) echo "request 4: put the mode $(int_at 21), the position $(int_at 25) and the set point $(int_at 29)" ;;
+    0b-00-*) echo "request $(number_at 12 4): put $(int_at 19)$([ "${frame[18]:-}" = 02 ] || echo " into another field")" ;;
     *) echo "another message" ;;
     esac
 }
@@ -78,16 +79,31 @@ alarm_at() {
     [ "$(number_at "$1" 4)" -eq 0 ] || echo ", with the alarm ${severities[$(number_at "$1" 4)]} $(text_at $(($1 + 8)))"
 }
 
+# The type's id in a reply to a beginning, which the structure of a group doesn't have.
+type_words() {
+    if [ "${frame[15]:-}" = 00 ]; then echo "a structure without an id"; else text_at 15; fi
+}
+
+# What a reply to a get of the slide's group says, by the sizes of the texts in it: two messages of alarms and two choices.
+slide_words() {
+    local mode=$((31 + 0x${frame[26]:-0}))
+    local message=$((mode + 7 + 0x${frame[mode + 5]:-0}))
+    message=$((message + 8 + 0x${frame[message - 1]:-0}))
+    local position=$((message + 17 + 0x${frame[message]:-0}))
+    echo "the mode is $(int_at "$mode"), the position $(int_at "$position"), the set point $(int_at $((position + 4)))"
+}
+
 # What a frame of the server says.
 server_words() {
-    case "$((0x${frame[2]} & 1))-${frame[3]}-${frame[12]:-}" in
+    case "$((0x${frame[2]} & 1))-${frame[3]}-${frame[12]:-}-${frame[8]:-}" in
     1-02-*) echo "greeting: the server's byte order is little endian" ;;
     0-01-*) echo "validation request: the methods are $(text_at 15) and $(text_at $((16 + 0x${frame[15]})))" ;;
     0-09-*) echo "validated" ;;
     0-07-*) echo "channel $(number_at 8 4) is created, under the server's id $(number_at 12 4)" ;;
-    0-0a-08 | 0-0b-08) echo "request $(number_at 8 4) has begun: the channel's type is $(text_at 15)" ;;
-    0-0a-00) echo "request $(number_at 8 4): the value is $(int_at 17), of second $(number_at $((30 + 0x${frame[29]:-0})) 8)$(alarm_at 21)" ;;
-    0-0b-00) echo "request $(number_at 8 4): the put $(put_outcome)" ;;
+    0-0a-08-* | 0-0b-08-*) echo "request $(number_at 8 4) has begun: the channel's type is $(type_words)" ;;
+    0-0a-00-03) echo "request 3: $(slide_words)" ;;
+    0-0a-00-*) echo "request $(number_at 8 4): the value is $(int_at 17), of second $(number_at $((30 + 0x${frame[29]:-0})) 8)$(alarm_at 21)" ;;
+    0-0b-00-*) echo "request $(number_at 8 4): the put $(put_outcome)" ;;
     *) echo "another message" ;;
     esac
 }

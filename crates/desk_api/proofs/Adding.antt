@@ -13,7 +13,7 @@ use Rattle.histories.proofs.Prefixes.{same_element, element_within}
 use Rattle.histories.proofs.Stories.{begins_self, begins_trans, more_entries, more_by_seat, grown_length as commits_grow, as_many as counted}
 use Rattle.histories.proofs.Judged.{true_append, true_weaken}
 use Rattle.desk_api.specs.History.{History, entries, commits, state_at, kept_at, IsLegal}
-use Rattle.desk_api.specs.Marks.{least_after, InOrder, IsTrueIn, AllHold, deed_of, deeds_of}
+use Rattle.desk_api.specs.Marks.{IsLookOf, least_after, InOrder, IsTrueIn, AllHold, deed_of, deeds_of}
 use Rattle.desk_api.specs.Views.{AreStatesOf}
 use Rattle.desk_api.specs.Calls.{Adds, HaveMoment}
 use Rattle.desk_api.specs.declared.history.Base.{Base}
@@ -21,7 +21,6 @@ use Rattle.desk_api.specs.declared.history.RollItem.{RollItem}
 use Rattle.desk_api.specs.declared.mark.Mark.{Mark}
 use Rattle.desk_api.specs.declared.mark.Mark.TheVariants.{Read, Entered, Overweight}
 use Rattle.desk_api.specs.declared.mark.Seat.{Seat}
-use Rattle.desk_api.specs.Sites.{footprint_of}
 
 pub as_many : (h : History) → length (entries h) ≡ length (commits h)
 as_many h = counted h.deeds
@@ -49,7 +48,7 @@ same_kept {h} {k} b at le =
 pub still_holds : (seat : ℕ) {h k : History} (b : Begins h k) (mark : Mark) (before : List Mark) → IsTrueIn h seat mark before → IsTrueIn k seat mark before
 still_holds seat b (Read at channel footprint found) before t = record {
   within = omega (arith, t.within, grown_length b);
-  footprint_is = t.footprint_is ∙ ap (λ (g : Base). footprint_of g.site channel) (sym b.base);
+  footprint_is = subst (λ (g : Base). IsLookOf g.site channel footprint) (sym b.base) t.footprint_is;
   found_is = subst (λ (s : List RecState). AreStatesOf s footprint found) (sym (same_state b at t.within)) t.found_is;
 }
 still_holds seat {h} {k} b (Entered at entry) before t = record {

@@ -3,3 +3,11 @@ pub mod Recording
 pub mod Stating
 pub mod Adding
 pub mod Showing
+pub mod Rising
+pub mod Noting
+pub mod Holding
+pub mod Reaching
+pub mod Building
+pub mod Reading
+pub mod Acting
+pub mod Strict

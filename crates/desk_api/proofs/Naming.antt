@@ -1,46 +1,80 @@
 -- What the names of a site stand for.
-use Rattle.std.specs.Prelude.{◌≡◌, ℕ, ◌+◌, ◌<◌, ◌&&◌, Bool, not, List, [], ◌∷◌, ◌++◌, length, Option, Some, None, IsTrue, bytes_eq, codes, refl}
-use Rattle.std.specs.Bool.{Decides}
-use Rattle.std.specs.List.{list_all}
-use Rattle.std.proofs.Common.{true, false, cond, arith, sym, ◌∙◌, ap, append_assoc}
+use Rattle.std.specs.Prelude.{◌≡◌, ℕ, zero, suc, ◌+◌, ◌<◌, ◌&&◌, ◌||◌, Bool, not, List, [], ◌∷◌, ◌++◌, length, map, Option, Some, None, IsTrue, slice_get, bytes_eq, codes, string_bytes, string_eq, String, option_map, refl}
+use Rattle.std.specs.List.{AllByRecursion, IsDistinct, list_all, list_any, position_from}
+use Rattle.std.specs.Option.{option_or}
+use Rattle.std.proofs.Common.{true, false, cond, arith, sym, ◌∙◌, ap, subst, append_assoc, take, Global}
 use Rattle.std.proofs.lemmas.Bool.{lt-ltb, and_parts, false≢true}
 use Rattle.std.proofs.lemmas.Bool.Decides.{same_from_decides}
-use Rattle.std.proofs.lemmas.List.{append_cancel_right}
+use Rattle.std.proofs.lemmas.List.{append_cancel_right, map-append}
+use Rattle.std.proofs.lemmas.Map.Keys.{IsDistinct-head, IsDistinct-tail}
+use Rattle.indexmap.specs.IndexSet.{insert_key}
+use Rattle.desk_api.proofs.Showing.{first_or, rest_of}
+use Rattle.desk_api.proofs.Recording.{turned}
+use Rattle.desk_api.specs.Grouping.{is_one_of}
 use Rattle.std.proofs.lemmas.List.Folds.{list_all-append}
 use Rattle.std.proofs.lemmas.Option.{none-some}
 use Rattle.std.proofs.lemmas.Slice.Eq.{bytes_eq-Decides}
 use Rattle.db_load.specs.Forms.{is_special}
 use Rattle.desk_api.specs.Records.{channel_at}
-use Rattle.desk_api.specs.Sites.{is_record_name, channel_of, names_from, first_named, channel_named, is_channel}
+use Rattle.group_view.specs.Groups.{GroupData}
+use Rattle.desk_api.specs.Sites.{is_record_name, channel_of, names_from, group_names_from, first_named, channel_named, is_channel}
 use Rattle.desk_api.specs.declared.channel.Channel.{Channel}
-use Rattle.desk_api.specs.declared.channel.ChannelKind.{ChannelKind}
-use Rattle.desk_api.specs.declared.channel.ChannelKind.TheVariants.{Rec, Desc}
+use Rattle.desk_api.specs.declared.channel.ChannelKind.TheVariants.{Rec, Desc, Group}
 use Rattle.desk_api.specs.declared.history.SiteData.{SiteData}
 
--- the number of a record that was found is one of those counted
+-- what holds of all channels of these records holds of the one that is found
 
-later_within : (test : Bool) (name : List ℕ) (here : Channel) (xs : List (List ℕ × Channel)) (channel : Channel) (most : ℕ)
-    → here.number < most → (first_named name xs ≡ Some channel → channel.number < most)
-    → cond test (Some here) (first_named name xs) ≡ Some channel → channel.number < most
-later_within true name here xs channel most less later is = let same : here ≡ channel = cc in rw (← same) less
-later_within false name here xs channel most less later is = later is
+module _ (P : Channel → Type 0) where
+  later_holds : (test : Bool) (name : List ℕ) (here : Channel) (xs : List (List ℕ × Channel)) (channel : Channel)
+      → P here → (first_named name xs ≡ Some channel → P channel) → cond test (Some here) (first_named name xs) ≡ Some channel → P channel
+  later_holds true name here xs channel holds later is = let same : here ≡ channel = cc in subst P same holds
+  later_holds false name here xs channel holds later is = later is
 
-pub named-within : (n : ℕ) (names : List (List ℕ)) (name : List ℕ) (channel : Channel) → first_named name (names_from n names) ≡ Some channel → channel.number < n + length names
-named-within n [] name channel is = absurd (none-some channel is)
-named-within n (x ∷ names) name channel is =
-    let most = n + length (x ∷ names) in
-    let later : first_named name (names_from (n + 1) names) ≡ Some channel → channel.number < most = λ e. let less = named-within (n + 1) names name channel e in omega (arith, less) in
-    let desc = channel_of Desc n in
-    let own = channel_of Rec n in
-    let rest = names_from (n + 1) names in
-    let desc_or = later_within (bytes_eq name (x ++ codes ".DESC")) name desc rest channel most (omega arith) later in
-    let val_or = later_within (bytes_eq name (x ++ codes ".VAL")) name own ((x ++ codes ".DESC", desc) ∷ rest) channel most (omega arith) desc_or in
-    later_within (bytes_eq name x) name own ((x ++ codes ".VAL", own) ∷ (x ++ codes ".DESC", desc) ∷ rest) channel most (omega arith) val_or is
+  named_holds : (n : ℕ) (names : List (List ℕ)) (name : List ℕ) (channel : Channel) → ((m : ℕ) → m < n + length names → P (channel_of Rec m) × P (channel_of Desc m))
+      → first_named name (names_from n names) ≡ Some channel → P channel
+  named_holds n [] name channel each is = absurd (none-some channel is)
+  named_holds n (x ∷ names) name channel each is =
+      let own = channel_of Rec n in
+      let desc = channel_of Desc n in
+      let rest = names_from (n + 1) names in
+      let first = each n (omega arith) in
+      let later : first_named name rest ≡ Some channel → P channel = λ e. named_holds (n + 1) names name channel (λ m less. each m (omega (arith, less))) e in
+      let desc_or = later_holds (bytes_eq name (x ++ codes ".DESC")) name desc rest channel first.1 later in
+      let val_or = later_holds (bytes_eq name (x ++ codes ".VAL")) name own ((x ++ codes ".DESC", desc) ∷ rest) channel first.0 desc_or in
+      later_holds (bytes_eq name x) name own ((x ++ codes ".VAL", own) ∷ (x ++ codes ".DESC", desc) ∷ rest) channel first.0 val_or is
+
+  group_holds : (n : ℕ) (groups : List GroupData) (name : List ℕ) (channel : Channel) → ((m : ℕ) → m < n + length groups → P (channel_of Group m))
+      → first_named name (group_names_from n groups) ≡ Some channel → P channel
+  group_holds n [] name channel each is = absurd (none-some channel is)
+  group_holds n (g ∷ groups) name channel each is =
+      later_holds (bytes_eq name g.name) name (channel_of Group n) (group_names_from (n + 1) groups) channel (each n (omega arith))
+      (λ e. group_holds (n + 1) groups name channel (λ m less. each m (omega (arith, less))) e) is
+
+-- a name is looked up in one list, and then in another
+
+or_by : {A : Type 0} (test : Bool) (x : A) (o p : Option A) → cond test (Some x) (option_or o p) ≡ option_or (cond test (Some x) o) p
+or_by true x o p = refl
+or_by false x o p = refl
+
+pub first_of_both : (name : List ℕ) (xs ys : List (List ℕ × Channel)) → first_named name (xs ++ ys) ≡ option_or (first_named name xs) (first_named name ys)
+first_of_both name [] ys = refl
+first_of_both name (x ∷ xs) ys =
+    ap (λ (o : Option Channel). cond (bytes_eq name x.0) (Some x.1) o) (first_of_both name xs ys)
+    ∙ or_by (bytes_eq name x.0) x.1 (first_named name xs) (first_named name ys)
+
+either_holds : (P : Channel → Type 0) (o p : Option Channel) (channel : Channel) → (o ≡ Some channel → P channel) → (p ≡ Some channel → P channel) → option_or o p ≡ Some channel → P channel
+either_holds P (Some x) p channel first then is = first is
+either_holds P None p channel first then is = then is
 
 pub found_is_channel : (site : SiteData) (name : List ℕ) (channel : Channel) → channel_named site name ≡ Some channel → IsTrue (is_channel site channel)
 found_is_channel site name channel is =
-    let within = named-within 0 site.names name channel is in
-    lt-ltb channel.number (length site.names) (omega (arith, within))
+    let P : Channel → Type 0 = λ c. IsTrue (is_channel site c) in
+    let records = names_from 0 site.names in
+    let groups = group_names_from 0 site.groups in
+    either_holds P (first_named name records) (first_named name groups) channel
+    (λ e. named_holds P 0 site.names name channel (λ m less. let below : m < length site.names = omega (arith, less) in (lt-ltb m (length site.names) below, lt-ltb m (length site.names) below)) e)
+    (λ e. group_holds P 0 site.groups name channel (λ m less. lt-ltb m (length site.groups) (omega (arith, less))) e)
+    (sym (first_of_both name records groups) ∙ is)
 
 -- texts that are equal or not
 
@@ -103,3 +137,50 @@ pub own_found : (n : ℕ) (names : List (List ℕ)) (name : List ℕ) → ((fron
 own_found n [] name no_val no_desc = refl
 own_found n (x ∷ names) name no_val no_desc =
     rw (differ name (x ++ codes ".VAL") (no_val x), differ name (x ++ codes ".DESC") (no_desc x), own_found (n + 1) names name no_val no_desc) refl
+
+-- ---- names that are all different
+
+all_of : {A : Type 0} (P : A → Type 0) (xs : List A) (n : ℕ) (x : A) → AllByRecursion P xs → slice_get xs n ≡ Some x → P x
+all_of P [] n x all is = absurd (none-some x is)
+all_of P (y ∷ xs) zero x all is = let same : y ≡ x = cc is in subst P same all.0
+all_of P (y ∷ xs) (suc n) x all is = all_of P xs n x all.1 is
+
+-- a name stands only once among names that are all different
+pub distinct_before : (xs : List (List ℕ)) (n : ℕ) (x : List ℕ) → IsDistinct bytes_eq xs → slice_get xs n ≡ Some x → is_one_of (take n xs) x ≡ false
+distinct_before [] n x distinct is = absurd (none-some x is)
+distinct_before (y ∷ xs) zero x distinct is = refl
+distinct_before (y ∷ xs) (suc n) x distinct is =
+    let apart : bytes_eq y x ≡ false = all_of (λ z. bytes_eq y z ≡ false) xs n x (IsDistinct-head bytes_eq y xs distinct) is in
+    rw (turned x y ∙ apart) (distinct_before xs n x (IsDistinct-tail bytes_eq y xs distinct) is)
+
+none_equal : (keys : List (String Global)) (k : String Global) → is_one_of (map string_bytes keys) (string_bytes k) ≡ false → list_any (string_eq k) keys ≡ false
+none_equal [] k is = refl
+none_equal (x ∷ keys) k is = both_false (bytes_eq (string_bytes k) (string_bytes x)) (is_one_of (map string_bytes keys) (string_bytes k)) (list_any (string_eq k) keys) (none_equal keys k) is where
+  both_false : (a b c : Bool) → (b ≡ false → c ≡ false) → (a || b) ≡ false → (a || c) ≡ false
+  both_false true b c later is = is
+  both_false false b c later is = later is
+
+pub pushed_new : (old new : List (String Global)) (k : String Global) (name : List ℕ) → string_bytes k ≡ name → is_one_of (map string_bytes old) name ≡ false → new ≡ insert_key string_eq old k
+    → map string_bytes new ≡ map string_bytes old ++ name ∷ []
+pushed_new old new k name bytes fresh is =
+    let none_same = none_equal old k (ap (is_one_of (map string_bytes old)) bytes ∙ fresh) in
+    ap (map string_bytes) (is ∙ ap (λ (b : Bool). cond b old (old ++ k ∷ [])) none_same)
+    ∙ map-append string_bytes old (k ∷ [])
+    ∙ ap (λ (b : List ℕ). map string_bytes old ++ b ∷ []) bytes
+
+-- the number under which a set has a name is that of its group
+pub group_place : (n : ℕ) (name : List ℕ) (keys : List (String Global)) (groups : List GroupData) → map string_bytes keys ≡ map (λ (g : GroupData). g.name) groups
+    → first_named name (group_names_from n groups) ≡ option_map (channel_of Group) (position_from (λ k. bytes_eq name (string_bytes k)) n keys)
+group_place n name [] [] same = refl
+group_place n name [] (g ∷ groups) same = absurd (cc same)
+group_place n name (k ∷ keys) [] same = absurd (cc same)
+group_place n name (k ∷ keys) (g ∷ groups) same =
+    let first : string_bytes k ≡ g.name = ap (λ (l : List (List ℕ)). first_or [] l) same in
+    let rest : map string_bytes keys ≡ map (λ (x : GroupData). x.name) groups = ap (λ (l : List (List ℕ)). rest_of l) same in
+    ap (λ (b : List ℕ). cond (bytes_eq name b) (Some (channel_of Group n)) (first_named name (group_names_from (n + 1) groups))) (sym first)
+    ∙ here_or_later (bytes_eq name (string_bytes k)) (group_place (n + 1) name keys groups rest)
+  where
+    here_or_later : (b : Bool) → first_named name (group_names_from (n + 1) groups) ≡ option_map (channel_of Group) (position_from (λ k. bytes_eq name (string_bytes k)) (n + 1) keys)
+        → cond b (Some (channel_of Group n)) (first_named name (group_names_from (n + 1) groups)) ≡ option_map (channel_of Group) (cond b (Some n) (position_from (λ k. bytes_eq name (string_bytes k)) (n + 1) keys))
+    here_or_later true later = refl
+    here_or_later false later = later

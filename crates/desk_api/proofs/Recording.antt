@@ -1,5 +1,5 @@
 -- Records under their names.
-use Rattle.std.specs.Prelude.{◌≡◌, ℕ, ◌+◌, ◌<◌, ◌≤◌, ◌&&◌, Result, Ok, Err, OnOk, OnErr, IsTrue, string_eq, Bool, List, [], ◌∷◌, ◌++◌, length, map, Option, Some, None, slice_get, bytes_eq, string_bytes, String, refl}
+use Rattle.std.specs.Prelude.{◌≡◌, ℕ, ◌+◌, ◌<◌, ◌≤◌, ◌&&◌, Result, Ok, Err, OnOk, OnErr, IsTrue, string_eq, Bool, List, [], ◌∷◌, ◌++◌, length, map, Some, slice_get, bytes_eq, string_bytes, String, refl}
 use Rattle.std.specs.Option.{option_map}
 use Rattle.std.specs.List.{list_all, position_from}
 use Rattle.std.specs.Map.{keys_of}
@@ -21,7 +21,6 @@ use Rattle.rec_kinds.specs.declared.state.RecState.{RecState}
 use Rattle.desk_api.specs.Records.{channel_at, with_one}
 use Rattle.desk_api.specs.Sites.{channel_of, is_record_name}
 use Rattle.desk_api.specs.Types.{type_shown}
-use Rattle.desk_api.specs.declared.channel.Channel.{Channel}
 use Rattle.desk_api.specs.declared.channel.ChannelKind.{ChannelKind}
 use Rattle.desk_api.specs.declared.history.SiteData.{SiteData}
 use Rattle.desk_api.specs.declared.records.Served.{Served}
@@ -31,12 +30,12 @@ Entries = List (String Global × Served)
 
 -- what is kept of the entries of records
 abbrev pub data_of : Entries → SiteData
-data_of es = record { names = map (λ e. string_bytes e.0) es; configs = map (λ e. e.1.config) es; opening = map (λ e. e.1.opening) es }
+data_of es = record { names = map (λ e. string_bytes e.0) es; configs = map (λ e. e.1.config.value) es; opening = map (λ e. e.1.opening) es; groups = [] }
 
 abbrev pub AreKept : Entries → Type 0
 AreKept es =
-    AreValid (map (λ e. e.1.config) es) (map (λ e. e.1.opening) es)
-    × (map (λ e. e.1.ty) es ≡ map (λ e. record_tree e.1.config) es)
+    AreValid (map (λ e. e.1.config.value) es) (map (λ e. e.1.opening) es)
+    × (map (λ e. e.1.ty) es ≡ map (λ e. record_tree e.1.config.value) es)
     × (list_all is_record_name (map (λ e. string_bytes e.0) es) ≡ true)
     × (length es ≤ 4000)
 
@@ -51,17 +50,17 @@ at_place kind n name (e ∷ es) =
     here_or_later
 
 -- the type kept of a record is the one that it shows
-pub shows_type : (es : Entries) (rec : ℕ) (e : String Global × Served) → slice_get es rec ≡ Some e → map (λ x. x.1.ty) es ≡ map (λ x. record_tree x.1.config) es → e.1.ty ≡ type_shown (slice_get (map (λ x. x.1.config) es) rec)
+pub shows_type : (es : Entries) (rec : ℕ) (e : String Global × Served) → slice_get es rec ≡ Some e → map (λ x. x.1.ty) es ≡ map (λ x. record_tree x.1.config.value) es → e.1.ty ≡ type_shown (slice_get (map (λ x. x.1.config.value) es) rec)
 shows_type es rec e is types =
     let ty : slice_get (map (λ x. x.1.ty) es) rec ≡ Some e.1.ty = slice_get-map (λ x. x.1.ty) es rec ∙ ap (option_map (λ x. x.1.ty)) is in
-    let tree : slice_get (map (λ x. record_tree x.1.config) es) rec ≡ Some (record_tree e.1.config) = slice_get-map (λ x. record_tree x.1.config) es rec ∙ ap (option_map (λ x. record_tree x.1.config)) is in
-    let config : slice_get (map (λ x. x.1.config) es) rec ≡ Some e.1.config = slice_get-map (λ x. x.1.config) es rec ∙ ap (option_map (λ x. x.1.config)) is in
-    let both : Some e.1.ty ≡ Some (record_tree e.1.config) = sym ty ∙ ap (λ l. slice_get l rec) types ∙ tree in
-    let same : e.1.ty ≡ record_tree e.1.config = cc in
+    let tree : slice_get (map (λ x. record_tree x.1.config.value) es) rec ≡ Some (record_tree e.1.config.value) = slice_get-map (λ x. record_tree x.1.config.value) es rec ∙ ap (option_map (λ x. record_tree x.1.config.value)) is in
+    let config : slice_get (map (λ x. x.1.config.value) es) rec ≡ Some e.1.config.value = slice_get-map (λ x. x.1.config.value) es rec ∙ ap (option_map (λ x. x.1.config.value)) is in
+    let both : Some e.1.ty ≡ Some (record_tree e.1.config.value) = sym ty ∙ ap (λ l. slice_get l rec) types ∙ tree in
+    let same : e.1.ty ≡ record_tree e.1.config.value = cc in
     same ∙ ap type_shown (sym config)
 
 -- a name that none of the records has isn't in the map
-turned : (xs ys : List ℕ) → bytes_eq xs ys ≡ bytes_eq ys xs
+pub turned : (xs ys : List ℕ) → bytes_eq xs ys ≡ bytes_eq ys xs
 turned xs ys =
     let back = bytes_eq-Decides ys xs in
     same_from_decides (bytes_eq xs ys) (bytes_eq ys xs) (bytes_eq-Decides xs ys) ((λ e. sym (back.0 e)), (λ e. back.1 (sym e)))
@@ -82,15 +81,16 @@ after_put (Ok u) P old new k v fresh ok err before after = subst P (sym (ok ∙ 
 after_put (Err e) P old new k v fresh ok err before after = subst P (sym err) before
 
 pub put_shows : (r : Result (Unit {0}) NoMemory) (site : SiteData) (old new : Entries) (k : String Global) (v : Served)
-    → site ≡ data_of old → is_among (string_bytes k) (map (λ e. string_bytes e.0) old) ≡ false → OnOk r (new ≡ insert_entry string_eq old k v) → OnOk r (data_of new ≡ with_one site (string_bytes k) v.config v.opening)
+    → site ≡ data_of old → is_among (string_bytes k) (map (λ e. string_bytes e.0) old) ≡ false → OnOk r (new ≡ insert_entry string_eq old k v) → OnOk r (data_of new ≡ with_one site (string_bytes k) v.config.value v.opening)
 put_shows (Ok u) site old new k v is fresh ok =
     ap data_of (ok ∙ insert_fresh k v old fresh)
     ∙ (λ i. record {
       names = map-append (λ (e : String Global × Served). string_bytes e.0) old ((k, v) ∷ []) i;
-      configs = map-append (λ (e : String Global × Served). e.1.config) old ((k, v) ∷ []) i;
+      configs = map-append (λ (e : String Global × Served). e.1.config.value) old ((k, v) ∷ []) i;
       opening = map-append (λ (e : String Global × Served). e.1.opening) old ((k, v) ∷ []) i;
+      groups = [];
     })
-    ∙ ap (λ (s : SiteData). with_one s (string_bytes k) v.config v.opening) (sym is)
+    ∙ ap (λ (s : SiteData). with_one s (string_bytes k) v.config.value v.opening) (sym is)
 put_shows (Err e) site old new k v is fresh ok = tt
 
 pub valid_more : (configs : List Config) (states : List RecState) (config : Config) (state : RecState) → AreValid configs states → IsValid config state → AreValid (configs ++ config ∷ []) (states ++ state ∷ [])
@@ -104,11 +104,11 @@ both_true true true x y = refl
 both_true true false x y = absurd (false≢true y)
 both_true false b x y = absurd (false≢true x)
 
-pub kept_more : (es : Entries) (k : String Global) (v : Served) → AreKept es → IsTrue (is_record_name (string_bytes k)) → IsValid v.config v.opening → v.ty ≡ record_tree v.config → length es < 4000 → AreKept (es ++ (k, v) ∷ [])
+pub kept_more : (es : Entries) (k : String Global) (v : Served) → AreKept es → IsTrue (is_record_name (string_bytes k)) → IsValid v.config.value v.opening → v.ty ≡ record_tree v.config.value → length es < 4000 → AreKept (es ++ (k, v) ∷ [])
 kept_more es k v all named valid ty few = (
-  subst (λ (z : List Config × List RecState). AreValid z.0 z.1) (λ i. (sym (map-append (λ (e : String Global × Served). e.1.config) es ((k, v) ∷ [])) i, sym (map-append (λ (e : String Global × Served). e.1.opening) es ((k, v) ∷ [])) i))
-      (valid_more (map (λ e. e.1.config) es) (map (λ e. e.1.opening) es) v.config v.opening all.0 valid),
-  map-append (λ (e : String Global × Served). e.1.ty) es ((k, v) ∷ []) ∙ (λ i. all.1 i ++ ty i ∷ []) ∙ sym (map-append (λ (e : String Global × Served). record_tree e.1.config) es ((k, v) ∷ [])),
+  subst (λ (z : List Config × List RecState). AreValid z.0 z.1) (λ i. (sym (map-append (λ (e : String Global × Served). e.1.config.value) es ((k, v) ∷ [])) i, sym (map-append (λ (e : String Global × Served). e.1.opening) es ((k, v) ∷ [])) i))
+      (valid_more (map (λ e. e.1.config.value) es) (map (λ e. e.1.opening) es) v.config.value v.opening all.0 valid),
+  map-append (λ (e : String Global × Served). e.1.ty) es ((k, v) ∷ []) ∙ (λ i. all.1 i ++ ty i ∷ []) ∙ sym (map-append (λ (e : String Global × Served). record_tree e.1.config.value) es ((k, v) ∷ [])),
   ap (list_all is_record_name) (map-append (λ (e : String Global × Served). string_bytes e.0) es ((k, v) ∷ [])) ∙ list_all-append is_record_name (map (λ e. string_bytes e.0) es) (string_bytes k ∷ []) ∙ both_true (list_all is_record_name (map (λ e. string_bytes e.0) es)) (is_record_name (string_bytes k)) all.2 named,
   omega (arith, few, length-append es ((k, v) ∷ [])),
 )

@@ -6,16 +6,16 @@ use Rattle.std.proofs.lemmas.Bool.{false≢true}
 use Rattle.std.proofs.lemmas.List.{map-append}
 use Rattle.std.proofs.lemmas.Option.{none-some}
 use Rattle.db_load.specs.Forms.{is_among}
-use Rattle.db_load.specs.Grammar.{RecordsAfter, record_is}
+use Rattle.db_load.specs.Grammar.{RecordsAfter}
 use Rattle.db_text.specs.declared.token.Token.{Token}
 use Rattle.rec_kinds.specs.Building.{config_of, opening_of}
 use Rattle.rec_kinds.specs.declared.fault.BuildFault.{BuildFault}
 use Rattle.rec_kinds.specs.declared.record_text.RecText.{RecText}
 use Rattle.desk_api.specs.Loading.{fault_in, first_fault}
-use Rattle.desk_api.specs.Records.{AreNew, IsFaultIn, IsFirstFault, with_record}
-use Rattle.desk_api.specs.Sites.{is_record_name, site_of}
+use Rattle.desk_api.specs.Records.{AreNew, IsFaultIn, IsFirstFault, records_of, with_record}
+use Rattle.desk_api.specs.Sites.{is_record_name}
 use Rattle.desk_api.specs.declared.fault.SiteFault.{SiteFault}
-use Rattle.desk_api.specs.declared.fault.SiteFault.TheVariants.{Load, Build, NoMemory}
+use Rattle.desk_api.specs.declared.fault.SiteFault.TheVariants.{Load, Build, Group, NoMemory}
 use Rattle.desk_api.specs.declared.history.SiteData.{SiteData}
 
 -- the records of a text have names of their own
@@ -50,11 +50,12 @@ pub new_at : (rs : List RecText) → AreNew [] rs → (i : ℕ) (r : RecText) �
 new_at rs are i r is = let at = fresh_at [] rs are i r is in (at.0, at.2)
 
 -- one more record
-pub one_more : (rs : List RecText) (r : RecText) → site_of (rs ++ r ∷ []) ≡ with_record (site_of rs) r
+pub one_more : (rs : List RecText) (r : RecText) → records_of (rs ++ r ∷ []) ≡ with_record (records_of rs) r
 one_more rs r = λ i. record {
   names = map-append (λ (x : RecText). x.name) rs (r ∷ []) i;
   configs = map-append (λ (x : RecText). config_of x.kind x.fields) rs (r ∷ []) i;
   opening = map-append (λ (x : RecText). opening_of x.kind x.fields) rs (r ∷ []) i;
+  groups = [];
 }
 
 or_none : {A : Type 0} (x y : Option A) → x ≡ None → y ≡ None → option_or x y ≡ None
@@ -76,7 +77,7 @@ there [] n x less is = absurd (omega (arith, less))
 there (y ∷ xs) zero x less is = ap Some (sym is)
 there (y ∷ xs) (suc n) x less is = there xs n x (omega (arith, less)) is
 
-split_at : {X : Type 0} (xs : List X) (n : ℕ) (x : X) → slice_get xs n ≡ Some x → xs ≡ take n xs ++ x ∷ drop (suc n) xs
+pub split_at : {X : Type 0} (xs : List X) (n : ℕ) (x : X) → slice_get xs n ≡ Some x → xs ≡ take n xs ++ x ∷ drop (suc n) xs
 split_at [] n x is = absurd (none-some x is)
 split_at {X} (y ∷ xs) zero x is = let same : y ≡ x = cc in ap (λ (z : X). z ∷ xs) same
 split_at {X} (y ∷ xs) (suc n) x is = ap (λ (l : List X). y ∷ l) (split_at xs n x is)
@@ -98,6 +99,7 @@ fault_at rs i r found is none_ fault =
 
 pub is_first : (rs : List RecText) (i : ℕ) (r : RecText) (fault : SiteFault) → slice_get rs i ≡ Some r → first_fault (take i rs) ≡ None → IsFaultIn r fault → IsFirstFault rs fault
 is_first rs i r (Load fault) is none_ in_it = in_it
+is_first rs i r (Group fault) is none_ in_it = in_it
 is_first rs i r (Build name fault) is none_ in_it = fault_at rs i r (name, fault) is none_ in_it
 is_first rs i r NoMemory is none_ in_it = tt
 
@@ -107,6 +109,6 @@ none_more rs i r is none_ fault =
     ∙ faultless_more (take i rs) (r ∷ []) none_
     ∙ ap (λ (x : Option (List ℕ × BuildFault)). option_or x None) fault
 
-pub site_more : (rs : List RecText) (i : ℕ) (r : RecText) (before after : SiteData) → slice_get rs i ≡ Some r → before ≡ site_of (take i rs) → after ≡ with_record before r → after ≡ site_of (take (i + 1) rs)
+pub site_more : (rs : List RecText) (i : ℕ) (r : RecText) (before after : SiteData) → slice_get rs i ≡ Some r → before ≡ records_of (take i rs) → after ≡ with_record before r → after ≡ records_of (take (i + 1) rs)
 site_more rs i r before after is was now =
-    now ∙ ap (λ (s : SiteData). with_record s r) was ∙ sym (one_more (take i rs) r) ∙ ap site_of (sym (next_taken rs i r is))
+    now ∙ ap (λ (s : SiteData). with_record s r) was ∙ sym (one_more (take i rs) r) ∙ ap records_of (sym (next_taken rs i r is))

@@ -1,5 +1,6 @@
 -- What the calls of a desk add, and what they answer.
-use Rattle.std.specs.Prelude.{◌≡◌, ℕ, List, [], ◌∷◌, ◌++◌, length, Option, Some, Result, Ok, Err, ⊤}
+use Rattle.std.specs.Prelude.{◌≡◌, ◌⊎◌, ℕ, Bool, true, false, List, [], ◌∷◌, ◌++◌, length, map, take, Option, None}
+use Rattle.std.specs.Prelude.{Some, Result, Ok, Err, slice_get, ⊤}
 use Rattle.std.specs.FinSet.{FinSet}
 use Rattle.std.specs.Ordering.{nat_cmp}
 use Rattle.pvd_type.specs.declared.memory.NoMemory.{NoMemory}
@@ -15,10 +16,10 @@ use Rattle.journal_core.specs.Moments.{Moment}
 use Rattle.journal_core.specs.declared.entry.Entry.{Entry}
 use Rattle.histories.specs.History.{Begins, deeds_by, tagged}
 use Rattle.desk_api.specs.History.{entries, IsLegal}
-use Rattle.desk_api.specs.Marks.{InOrder, AllHold, deed_of, deeds_of, next_place}
-use Rattle.desk_api.specs.Puts.{actions_of, written_by}
-use Rattle.desk_api.specs.Sites.{footprint_of}
-use Rattle.desk_api.specs.Views.{value_of, laid}
+use Rattle.desk_api.specs.Marks.{InOrder, AllHold, deed_of, deeds_of, next_place, place}
+use Rattle.desk_api.specs.Puts.{actions_of, entries_by, footprint_by}
+use Rattle.desk_api.specs.Sites.{footprint_of, is_atomic}
+use Rattle.desk_api.specs.Views.{value_of, laid, AreStatesOf}
 use Rattle.desk_api.specs.declared.channel.Channel.{Channel}
 use Rattle.desk_api.specs.declared.history.Base.{Base}
 use Rattle.desk_api.specs.declared.history.SiteData.{SiteData}
@@ -50,68 +51,148 @@ pub record Calls (old new : Seat) (are : List Mark → Type 0) : Type 0 where
 abbrev pub EndsAtLastMark : Seat → Type 0
 EndsAtLastMark s = length (entries s.seen) ≡ next_place (length (entries s.seen)) s.log
 
--- A get reads the channel's records at one place, and its answer is what the channel shows of them: of states of all
--- records, of which it looks at those found alone.
-pub record IsGet (site : SiteData) (channel : Channel) (value : Data) (marks : List Mark) : Type 0 where
-  pub at : ℕ
-  pub found : List RecState
-  pub marks_are : marks ≡ Read at channel (footprint_of site channel) found ∷ []
-  pub value_is : value ≡ value_of site channel (laid site.opening (footprint_of site channel) found)
+-- A call that made no mark leaves the log as it was; after another the history ends at its last mark.
+abbrev pub EndsAtItsMarks : Seat → Seat → Type 0
+EndsAtItsMarks old new = (new.log ≡ old.log) ⊎ EndsAtLastMark new
 
-abbrev pub AreGet : SiteData → Channel → Result PvValue NoMemory → List Mark → Type 0
-AreGet site channel (Ok value) marks = IsGet site channel (view value) marks
-AreGet site channel (Err e) marks = marks ≡ []
+-- Each mark in turn is a look at these records, at its own place.
 
--- What a put asks for: a channel of a site, the marked leaves of a value, and a moment.
+abbrev pub IsLook : Channel → List ℕ → Mark → Type 0
+IsLook channel recs mark = (at : ℕ) × ((found : List RecState) × (mark ≡ Read at channel recs found))
+
+abbrev pub AreLooks : Channel → List (List ℕ) → List Mark → Type 0
+AreLooks channel [] [] = ⊤
+AreLooks channel (recs ∷ looks) (mark ∷ marks) = IsLook channel recs mark × AreLooks channel looks marks
+AreLooks channel looks marks = ⊥
+
+-- The looks of a get: one at all of the channel's records, or one at each.
+
+abbrev pub looks_by : Bool → List ℕ → List (List ℕ)
+looks_by true recs = recs ∷ []
+looks_by false recs = map (λ rec. rec ∷ []) recs
+
+abbrev pub looks_of : SiteData → Channel → Option Bool → List (List ℕ)
+looks_of site channel atomic = looks_by (is_atomic site channel atomic) (footprint_of site channel)
+
+-- what these marks found, laid over states of all records one after another
+abbrev pub laid_by : List RecState → List Mark → List RecState
+laid_by states [] = states
+laid_by states (Read at channel footprint found ∷ marks) = laid_by (laid states footprint found) marks
+laid_by states (mark ∷ marks) = laid_by states marks
+
+-- Each mark in turn is a look at these records, which found them in these states.
+
+abbrev pub IsFinding : List RecState → Channel → List ℕ → Mark → Type 0
+IsFinding states channel recs mark =
+    (at : ℕ) × ((found : List RecState) × (mark ≡ Read at channel recs found) × AreStatesOf states recs found)
+
+abbrev pub AreFindings : List RecState → Channel → List (List ℕ) → List Mark → Type 0
+AreFindings states channel [] [] = ⊤
+AreFindings states channel (recs ∷ looks) (mark ∷ marks) =
+    IsFinding states channel recs mark × AreFindings states channel looks marks
+AreFindings states channel looks marks = ⊥
+
+-- A get looks at the channel's records, at all in one place where it is atomic and else at one after another. Its
+-- answer is what the channel shows of them: of states of all records, of which it looks at those found alone.
+pub record IsGet (site : SiteData) (channel : Channel) (atomic : Option Bool) (value : Data)
+    (marks : List Mark) : Type 0 where
+  pub looks : AreLooks channel (looks_of site channel atomic) marks
+  pub value_is : value ≡ value_of site channel (laid_by site.opening marks)
+
+-- Memory ran out after the first looks of a get.
+pub record IsPartOfGet (site : SiteData) (channel : Channel) (atomic : Option Bool) (marks : List Mark) : Type 0 where
+  pub looks : AreLooks channel (take (length marks) (looks_of site channel atomic)) marks
+
+abbrev pub AreGet : SiteData → Channel → Option Bool → Result PvValue NoMemory → List Mark → Type 0
+AreGet site channel atomic (Ok value) marks = IsGet site channel atomic (view value) marks
+AreGet site channel atomic (Err e) marks = IsPartOfGet site channel atomic marks
+
+-- What a put asks for: a channel of a site, the marked leaves of a value, a moment, and whether it is to be atomic.
 pub record Asked : Type 0 where
   pub site : SiteData
   pub channel : Channel
   pub mask : FinSet nat_cmp
   pub value : Data
   pub moment : Moment
+  pub atomic : Option Bool
 
 abbrev pub asked_actions : Asked → Result (List (ℕ × Action)) FieldAnswer
 asked_actions a = actions_of a.site a.channel a.mask a.value
 
--- A put was done: it is one entry, with the actions asked for and the records that they write, at its moment.
-pub record IsDone (a : Asked) (done : Done) (marks : List Mark) : Type 0 where
+-- The entries that it asks for, each by its actions.
+
+abbrev pub entries_of_actions : Bool → Result (List (ℕ × Action)) FieldAnswer
+    → Result (List (List (ℕ × Action))) FieldAnswer
+entries_of_actions atomic (Ok actions) = Ok (entries_by atomic actions)
+entries_of_actions atomic (Err answer) = Err answer
+
+abbrev pub asked_entries : Asked → Result (List (List (ℕ × Action))) FieldAnswer
+asked_entries a = entries_of_actions (is_atomic a.site a.channel a.atomic) (asked_actions a)
+
+-- An entry with these actions was added, which holds what such an entry holds, at the put's moment.
+pub record IsAdded (a : Asked) (actions : List (ℕ × Action)) (mark : Mark) : Type 0 where
   pub at : ℕ
   pub entry : Entry
-  pub marks_are : marks ≡ Entered at entry ∷ []
-  pub actions_are : asked_actions a ≡ Ok entry.actions
-  pub footprint_is : entry.footprint ≡ written_by entry.actions
+  pub mark_is : mark ≡ Entered at entry
+  pub actions_are : entry.actions ≡ actions
+  pub footprint_is : entry.footprint ≡ footprint_by a.site actions
   pub moment_is : entry.moment ≡ a.moment
-  pub done_is : done ≡ record { first = at; count = 1 }
+
+-- each of these entries was added, one after another
+abbrev pub AreAdded : Asked → List (List (ℕ × Action)) → List Mark → Type 0
+AreAdded a [] [] = ⊤
+AreAdded a (actions ∷ entries) (mark ∷ marks) = IsAdded a actions mark × AreAdded a entries marks
+AreAdded a entries marks = ⊥
+
+abbrev pub first_place : List Mark → Option ℕ
+first_place [] = None
+first_place (mark ∷ marks) = Some (place mark)
+
+-- A put was done: each of its entries was added.
+pub record IsDone (a : Asked) (done : Done) (marks : List Mark) : Type 0 where
+  pub entries : List (List (ℕ × Action))
+  pub asked : asked_entries a ≡ Ok entries
+  pub added : AreAdded a entries marks
+  pub first_is : first_place marks ≡ Some done.first
+  pub count_is : done.count ≡ length marks
 
 -- A put was refused by the channel, before it did anything.
 pub record IsRefused (a : Asked) (refusal : PutRefusal) (marks : List Mark) : Type 0 where
   pub refusal_is : asked_actions a ≡ Err (Refused refusal)
   pub marks_are : marks ≡ []
 
--- The entry of a put would have been too heavy.
-pub record IsFull (a : Asked) (kept added limit done : ℕ) (marks : List Mark) : Type 0 where
-  pub at : ℕ
+-- The first entries of a put were added, so many, and the next one would have been too heavy.
+pub record IsFull (a : Asked) (kept weight limit done : ℕ) (marks : List Mark) : Type 0 where
+  pub entries : List (List (ℕ × Action))
+  pub asked : asked_entries a ≡ Ok entries
+  pub before : List Mark
+  pub added : AreAdded a (take done entries) before
+  pub done_is : done ≡ length before
   pub actions : List (ℕ × Action)
-  pub actions_are : asked_actions a ≡ Ok actions
-  pub marks_are : marks ≡ Overweight at (written_by actions) actions kept added limit ∷ []
-  pub done_is : done ≡ 0
+  pub next : slice_get entries done ≡ Some actions
+  pub at : ℕ
+  pub marks_are : marks ≡ before ++ Overweight at (footprint_by a.site actions) actions kept weight limit ∷ []
 
--- Memory ran out before the entry of a put was added.
-pub record IsStopped (done : ℕ) (marks : List Mark) : Type 0 where
-  pub marks_are : marks ≡ []
-  pub done_is : done ≡ 0
+-- the entries that a put asks for, and none where it is refused
+abbrev pub entries_or_none : Result (List (List (ℕ × Action))) FieldAnswer → List (List (ℕ × Action))
+entries_or_none (Ok entries) = entries
+entries_or_none (Err answer) = []
+
+-- Memory ran out behind the first entries of a put, so many.
+pub record IsStopped (a : Asked) (done : ℕ) (marks : List Mark) : Type 0 where
+  pub added : AreAdded a (take done (entries_or_none (asked_entries a))) marks
+  pub done_is : done ≡ length marks
 
 abbrev pub ArePut : Asked → Result Done PutAnswer → List Mark → Type 0
 ArePut a (Ok done) marks = IsDone a done marks
 ArePut a (Err (answers.Refused refusal)) marks = IsRefused a refusal marks
-ArePut a (Err (answers.JournalFull kept added limit done)) marks = IsFull a kept added limit done marks
-ArePut a (Err (answers.NoMemory done)) marks = IsStopped done marks
+ArePut a (Err (answers.JournalFull kept weight limit done)) marks = IsFull a kept weight limit done marks
+ArePut a (Err (answers.NoMemory done)) marks = IsStopped a done marks
 
--- where a put's answer has a mark
-abbrev pub OnMarked : Result Done PutAnswer → Type 0 → Type 0
-OnMarked (Ok done) P = P
-OnMarked (Err (answers.JournalFull kept added limit done)) P = P
-OnMarked (Err _) P = ⊤
+-- where a put's answer is not that memory ran out
+abbrev pub OnTold : Result Done PutAnswer → Type 0 → Type 0
+OnTold (Err (answers.NoMemory done)) P = ⊤
+OnTold answer P = P
 
 -- The mark's entry, if it has one, has this moment, where that is told.
 abbrev pub HasMoment : Option Moment → Mark → Type 0

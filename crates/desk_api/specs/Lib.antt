@@ -1,6 +1,7 @@
 pub mod History
 pub mod Sites
 pub mod Loading
+pub mod Grouping
 pub mod Records
 pub mod Types
 pub mod Views

@@ -1,5 +1,6 @@
 -- What the steps of a desk's calls find and do, and when that is true.
-use Rattle.std.specs.Prelude.{◌≡◌, ℕ, ◌+◌, ◌<◌, ◌≤◌, List, [], ◌∷◌, ◌++◌, length, Some, slice_get}
+use Rattle.std.specs.Prelude.{◌≡◌, ℕ, ◌+◌, ◌<◌, ◌≤◌, ◌⊎◌, ◌==◌, true, List, [], ◌∷◌, ◌++◌, length, Some, slice_get}
+use Rattle.std.specs.List.{list_any}
 use Rattle.rec_kinds.specs.declared.datum.Action.{Action}
 use Rattle.rec_kinds.specs.declared.state.RecState.{RecState}
 use Rattle.journal_core.specs.Weights.{weight, weight_with}
@@ -12,6 +13,7 @@ use Rattle.desk_api.specs.Sites.{footprint_of}
 use Rattle.desk_api.specs.Views.{AreStatesOf}
 use Rattle.desk_api.specs.declared.channel.Channel.{Channel}
 use Rattle.desk_api.specs.declared.history.RollItem.{RollItem}
+use Rattle.desk_api.specs.declared.history.SiteData.{SiteData}
 use Rattle.desk_api.specs.declared.mark.Mark.{Mark}
 use Rattle.desk_api.specs.declared.mark.Mark.TheVariants.{Read, Entered, Overweight}
 
@@ -47,12 +49,18 @@ abbrev pub deeds_of : List Mark → List (Deed Entry RollItem)
 deeds_of [] = []
 deeds_of (mark ∷ marks) = deed_of mark ++ deeds_of marks
 
--- What makes a read true: its place is within the history, its footprint is the channel's, and it found the records as
--- they are there.
+-- what a get of the channel looks at in one step: all of its records, or one of them
+abbrev pub IsLookOf : SiteData → Channel → List ℕ → Type 0
+IsLookOf site channel footprint =
+    (footprint ≡ footprint_of site channel)
+    ⊎ ((rec : ℕ) × (list_any (λ r. r == rec) (footprint_of site channel) ≡ true) × (footprint ≡ rec ∷ []))
+
+-- What makes a read true: its place is within the history, its footprint is the channel's or one record of it, and it
+-- found the records as they are there.
 pub record IsTrueRead (h : History) (at : ℕ) (channel : Channel) (footprint : List ℕ)
     (found : List RecState) : Type 0 where
   pub within : at ≤ length (entries h)
-  pub footprint_is : footprint ≡ footprint_of h.base.site channel
+  pub footprint_is : IsLookOf h.base.site channel footprint
   pub found_is : AreStatesOf (state_at h at) footprint found
 
 -- What makes an entry's mark true: the history has it there, as this seat's, and up to it the entries aren't above the

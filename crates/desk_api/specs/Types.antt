@@ -8,9 +8,11 @@ use Rattle.pvd_type.specs.declared.shape.Scalar.TheVariants.{Text}
 use Rattle.nt_types.specs.Types.{scalar_tree}
 use Rattle.rec_kinds.specs.Configs.{Config}
 use Rattle.rec_fields.specs.Types.{record_tree}
+use Rattle.group_view.specs.Groups.{GroupData}
+use Rattle.group_view.specs.Types.{group_tree}
 use Rattle.desk_api.specs.declared.channel.Channel.{Channel}
 use Rattle.desk_api.specs.declared.channel.ChannelKind.{ChannelKind}
-use Rattle.desk_api.specs.declared.channel.ChannelKind.TheVariants.{Rec, Desc}
+use Rattle.desk_api.specs.declared.channel.ChannelKind.TheVariants.{Rec, Desc, Group}
 use Rattle.desk_api.specs.declared.history.SiteData.{SiteData}
 
 -- the type that a record of this configuration shows; no record shows a structure without members
@@ -18,14 +20,20 @@ abbrev pub type_shown : Option Config → Tree
 type_shown None = node struct [] no_fields
 type_shown (Some config) = record_tree config
 
--- the type of a channel of this kind, whose record has this configuration; a description is a text
-abbrev pub type_for : ChannelKind → Option Config → Tree
-type_for Rec config = type_shown config
-type_for Desc config = scalar_tree Text
+-- the type of a group; no group shows a structure without an id and members
+abbrev pub group_type : Option GroupData → Tree
+group_type None = node struct [] no_fields
+group_type (Some group) = group_tree group
+
+-- the type of a channel of this kind with this number; a description is a text
+abbrev pub type_for : ChannelKind → SiteData → ℕ → Tree
+type_for Rec site number = type_shown (slice_get site.configs number)
+type_for Desc site number = scalar_tree Text
+type_for Group site number = group_type (slice_get site.groups number)
 
 -- The type of a channel's values.
 abbrev pub type_of : SiteData → Channel → Tree
-type_of site channel = type_for channel.kind (slice_get site.configs channel.number)
+type_of site channel = type_for channel.kind site channel.number
 
 -- the set holds leaves of the type
 abbrev pub HoldsLeaves : Tree → FinSet nat_cmp → Type 0

@@ -7,10 +7,12 @@ use Rattle.nt_types.specs.Types.{scalar_tree}
 use Rattle.rec_kinds.specs.Configs.{Config}
 use Rattle.rec_kinds.specs.declared.state.RecState.{RecState}
 use Rattle.rec_fields.specs.Shown.{shown, desc_shown}
-use Rattle.desk_api.specs.Types.{type_shown}
+use Rattle.group_view.specs.Groups.{GroupData}
+use Rattle.group_view.specs.Views.{group_shown}
+use Rattle.desk_api.specs.Types.{type_shown, group_type}
 use Rattle.desk_api.specs.declared.channel.Channel.{Channel}
 use Rattle.desk_api.specs.declared.channel.ChannelKind.{ChannelKind}
-use Rattle.desk_api.specs.declared.channel.ChannelKind.TheVariants.{Rec, Desc}
+use Rattle.desk_api.specs.declared.channel.ChannelKind.TheVariants.{Rec, Desc, Group}
 use Rattle.desk_api.specs.declared.history.SiteData.{SiteData}
 
 -- what a record shows, and a blank value where there is no such record or state
@@ -23,14 +25,19 @@ abbrev pub described : Option Config → Data
 described (Some config) = desc_shown config
 described None = blank_of (scalar_tree Text)
 
-abbrev pub value_for : ChannelKind → Option Config → Option RecState → Data
-value_for Rec config state = shown_or_blank config state
-value_for Desc config state = described config
+-- what a group shows of all records, and a blank value where there is no such group
+abbrev pub grouped : Option GroupData → List RecState → Data
+grouped (Some group) states = group_shown group states
+grouped None states = blank_of (group_type None)
+
+abbrev pub value_for : ChannelKind → SiteData → ℕ → List RecState → Data
+value_for Rec site number states = shown_or_blank (slice_get site.configs number) (slice_get states number)
+value_for Desc site number states = described (slice_get site.configs number)
+value_for Group site number states = grouped (slice_get site.groups number) states
 
 -- What the channel shows where the records have these states.
 abbrev pub value_of : SiteData → Channel → List RecState → Data
-value_of site channel states =
-    value_for channel.kind (slice_get site.configs channel.number) (slice_get states channel.number)
+value_of site channel states = value_for channel.kind site channel.number states
 
 -- The states of these records, in order, laid over others.
 abbrev pub laid : List RecState → List ℕ → List RecState → List RecState

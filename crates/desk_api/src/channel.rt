@@ -7,6 +7,8 @@ pub enum ChannelKind {
     Rec,
     /// The description of a record: its field DESC, without an alarm.
     Desc,
+    /// A group of records (QSRV manual, "Group PV definitions").
+    Group,
 }
 
 /// A channel of a site.
@@ -14,6 +16,6 @@ pub enum ChannelKind {
 pub struct Channel {
     /// What it shows.
     pub kind: ChannelKind,
-    /// The number of its record, from 0.
+    /// The number of its record, or of its group, from 0.
     pub number: u32,
 }

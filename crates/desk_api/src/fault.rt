@@ -1,8 +1,9 @@
 // Why a site can't be built.
 use db_load::LoadFault;
+use group_defs::GroupFault;
 use pvd_type::{Name, NoMemory};
 use rec_kinds::BuildFault;
-use std::alloc::AllocFailed;
+use std::alloc::{AllocError, AllocFailed};
 
 /// Why a database text gives no site.
 #[derive(Debug, Drop)]
@@ -11,6 +12,8 @@ pub enum SiteFault {
     Load(LoadFault),
     /// The record of this name can't be built from its fields.
     Build(Name, BuildFault),
+    /// A group can't be defined or built.
+    Group(GroupFault),
     /// Memory ran out.
     NoMemory,
 }
@@ -22,6 +25,17 @@ impl From<NoMemory> for SiteFault {
     ghost from_gives = { λ _ e. e ≡ faults.NoMemory };
 
     fn from(_: NoMemory) -> SiteFault {
+        SiteFault::NoMemory
+    }
+}
+
+impl From<AllocError> for SiteFault {
+    ghost use Rattle.std.specs.Prelude.{◌≡◌};
+    ghost use Rattle.desk_api.specs.declared.fault.SiteFault.TheVariants as faults;
+
+    ghost from_gives = { λ _ e. e ≡ faults.NoMemory };
+
+    fn from(_: AllocError) -> SiteFault {
         SiteFault::NoMemory
     }
 }

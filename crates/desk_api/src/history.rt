@@ -1,4 +1,5 @@
 //! The committed history of a desk, as contracts see it. No value of these types is made.
+use group_view::Group;
 use rec_kinds::{RecConfig, RecState};
 use std::collections::LinkedList;
 
@@ -10,6 +11,8 @@ pub struct SiteData {
     pub configs: LinkedList<RecConfig>,
     /// Their states at the opening.
     pub opening: LinkedList<RecState>,
+    /// The groups of these records.
+    pub groups: LinkedList<Group>,
 }
 
 /// What a desk's history begins with.

@@ -1,11 +1,15 @@
 // Laws of the definitions. Each is the contract of a function that does nothing.
-ghost use Rattle.std.specs.Prelude.{◌≡◌, ℕ, ◌≤◌, true, List, [], ◌++◌, length, Some, IsTrue};
+ghost use Rattle.std.specs.Prelude.{◌≡◌, ℕ, ◌≤◌, ◌==◌, Bool, true, List, [], ◌++◌, length, Option, Some, IsTrue};
+ghost use Rattle.std.specs.List.{list_all, list_any};
+ghost use Rattle.std.specs.List.Sorted.{IsStrictlyIncreasing};
 ghost use Rattle.histories.specs.History.{Begins};
-ghost use Rattle.journal_core.specs.Legality.{AreValid};
+ghost use Rattle.journal_core.specs.Legality.{AreProcessed, AreValid};
 ghost use Rattle.desk_api.specs.History.{History, entries, state_at, kept_at, IsLegal};
 ghost use Rattle.desk_api.specs.Marks.{AllHold, IsTrueRead};
-ghost use Rattle.desk_api.specs.Calls.{Adds};
-ghost use Rattle.desk_api.specs.Sites.{channel_named, is_channel};
+ghost use Rattle.journal_core.specs.Moments.{Moment};
+ghost use Rattle.desk_api.specs.Calls.{Adds, AreFindings, laid_by, looks_of};
+ghost use Rattle.desk_api.specs.Puts.{footprint_by};
+ghost use Rattle.desk_api.specs.Sites.{AreOver, channel_named, footprint_of, is_channel};
 ghost use Rattle.desk_api.specs.Types.{type_of};
 ghost use Rattle.desk_api.specs.Views.{value_of, laid};
 ghost use Rattle.desk_api.specs.declared.channel.Channel.{Channel};
@@ -13,21 +17,46 @@ ghost use Rattle.desk_api.specs.declared.history.SiteData.{SiteData};
 ghost use Rattle.desk_api.specs.declared.mark.Mark.{Mark};
 ghost use Rattle.desk_api.specs.declared.mark.Seat.{Seat};
 ghost use Rattle.pvd_value.specs.Fits.{fits_of};
+ghost use Rattle.rec_kinds.specs.declared.datum.Action.{Action};
 ghost use Rattle.rec_kinds.specs.declared.state.RecState.{RecState};
+
+use group_view::value_reads_records;
 
 /// What is found may be asked for: a name of a site stands for a channel of it.
 pub fn found_channels()
     ensures { (site : SiteData) (name : List ℕ) (channel : Channel) → channel_named site name ≡ Some channel → IsTrue (is_channel site channel) }
 {}
 
-/// Where each record is in a state that is valid for it, what a channel shows fits its type.
+/// Where the groups are over the records, and each record is in a state that is valid for it, what a channel shows fits its type.
 pub fn values_fit()
-    ensures { (site : SiteData) (channel : Channel) (states : List RecState) → AreValid site.configs states → fits_of 16 (value_of site channel states) (type_of site channel) ≡ true }
+    ensures { (site : SiteData) (channel : Channel) (states : List RecState) → AreOver site → AreValid site.configs states → fits_of 16 (value_of site channel states) (type_of site channel) ≡ true }
 {}
 
-/// What a true read found, laid over the opening states, shows what the channel shows of all records at the read's place.
+/// What a true read of all of a channel's records found, laid over the opening states, shows what the channel shows of all
+/// records at the read's place.
 pub fn gets_show_their_place()
-    ensures { (h : History) (at : ℕ) (channel : Channel) (footprint : List ℕ) (found : List RecState) → IsTrueRead h at channel footprint found → value_of h.base.site channel (laid h.base.site.opening footprint found) ≡ value_of h.base.site channel (state_at h at) }
+    ensures { (h : History) (at : ℕ) (channel : Channel) (found : List RecState) → IsTrueRead h at channel (footprint_of h.base.site channel) found → value_of h.base.site channel (laid h.base.site.opening (footprint_of h.base.site channel) found) ≡ value_of h.base.site channel (state_at h at) }
+{
+    value_reads_records();
+}
+
+/// What a get's looks found of the channel's records, laid over the opening states, shows what the channel shows of any states
+/// in which all of them found these records.
+pub fn looks_show_states()
+    ensures { (site : SiteData) (channel : Channel) (atomic : Option Bool) (states : List RecState) (marks : List Mark) → length site.opening ≡ length states → AreFindings states channel (looks_of site channel atomic) marks → value_of site channel (laid_by site.opening marks) ≡ value_of site channel states }
+{
+    value_reads_records();
+}
+
+/// An entry writes only records that it holds.
+pub fn entries_write_inside()
+    ensures { (site : SiteData) (states : List RecState) (moment : Moment) (actions : List (ℕ × Action)) (drove : List Bool) (writes : List (ℕ × RecState)) → AreProcessed site.configs states moment actions drove writes → IsTrue (list_all (λ write. list_any (λ rec. rec == write.0) (footprint_by site actions)) writes) }
+{}
+
+/// The records that a get reads and those that an entry holds stand in rising order, each once.
+pub fn footprints_rise()
+    ensures gets { (site : SiteData) (channel : Channel) → IsStrictlyIncreasing (footprint_of site channel) }
+    ensures entries { (site : SiteData) (actions : List (ℕ × Action)) → IsStrictlyIncreasing (footprint_by site actions) }
 {}
 
 /// A desk that isn't called adds no mark, and calls one after another add their marks one after another.

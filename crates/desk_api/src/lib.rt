@@ -4,11 +4,13 @@
 mod channel;
 mod desk;
 mod fault;
+mod groups;
 mod history;
 mod laws;
 mod mark;
 mod put;
 mod records;
+mod serving;
 mod site;
 #[cfg(test)]
 mod tests;
@@ -16,13 +18,18 @@ mod tests;
 pub use channel::{Channel, ChannelKind};
 pub use desk::Desk;
 pub use fault::SiteFault;
+pub use group_view::Group;
 pub use histories::{Deed, Story};
 pub use history::{Base, RollItem, SiteData};
 pub use journal_core::Entry;
-pub use laws::{calls_in_turn, found_channels, gets_show_their_place, truth_lasts, values_fit};
+pub use laws::{
+    calls_in_turn, entries_write_inside, footprints_rise, found_channels, gets_show_their_place,
+    looks_show_states, truth_lasts, values_fit,
+};
 pub use mark::{Mark, Seat};
 pub use put::{Done, PutAnswer};
 pub use pvd_type::{NoMemory, PvType};
 pub use pvd_value::PvValue;
-pub use rec_kinds::{Moment, PutRefusal, RecState};
+pub use rec_fields::FieldAnswer;
+pub use rec_kinds::{Action, Moment, PutRefusal, RecState};
 pub use site::{Site, is_record_name};

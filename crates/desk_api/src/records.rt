@@ -5,9 +5,11 @@ ghost use Rattle.std.specs.String.{string_eq};
 ghost use Rattle.indexmap.specs.IndexMap.{insert_entry};
 ghost use Rattle.db_load.specs.Forms.{is_among};
 ghost use Rattle.desk_api.specs.Loading.{fault_in, first_fault};
-ghost use Rattle.desk_api.specs.Records.{AreNew, IsFaultIn, IsFirstFault, channel_at, with_one, with_record};
+ghost use Rattle.desk_api.specs.Records.{AreNew, IsFaultIn, IsFirstFault, channel_at, records_of, with_one, with_record};
 ghost use Rattle.desk_api.specs.Sites as sites;
+ghost use Rattle.desk_api.specs.Sites.{first_named, names_from};
 ghost use Rattle.desk_api.specs.Types.{type_shown};
+ghost use Rattle.group_view.specs.Seen.{configs_seen};
 ghost use Rattle.journal_core.specs.Legality.{AreValid};
 ghost use Rattle.rec_kinds.specs.Building.{IsBuildFault};
 ghost use Rattle.rec_kinds.specs.Validity.{IsValid};
@@ -20,6 +22,7 @@ use rec_fields::type_of;
 use rec_kinds::{BuildFault, RecConfig, RecState, RecText, build, longout};
 use std::alloc::Global;
 use std::marker::Model;
+use std::sync::Arc;
 
 /// Why a record can't be built: memory ran out, or its fields are at fault.
 fn unbuilt(alloc: Global, stated: &RecText, fault: BuildFault) -> SiteFault
@@ -38,7 +41,7 @@ fn unbuilt(alloc: Global, stated: &RecText, fault: BuildFault) -> SiteFault
 /// How a record is configured, the state that it opens with, and the type that it shows.
 #[derive(Drop)]
 struct Served {
-    config: RecConfig,
+    config: Arc<RecConfig>,
     opening: RecState,
     ty: PvType,
 }
@@ -74,7 +77,7 @@ pub(crate) struct Records {
 }
 
 impl Model for Records {
-    ghost use Rattle.std.specs.Prelude.{◌≡◌, ◌≤◌, true, length, map, string_bytes};
+    ghost use Rattle.std.specs.Prelude.{◌≡◌, ◌≤◌, [], true, length, map, string_bytes};
     ghost use Rattle.std.specs.List.{list_all};
     ghost use Rattle.journal_core.specs.Legality.{AreValid};
     ghost use Rattle.rec_fields.specs.Types.{record_tree};
@@ -83,15 +86,15 @@ impl Model for Records {
 
     ghost Value = { SiteData };
 
-    ghost view = { λ r. record { names = map (λ e. string_bytes e.0) r.by_name.entries; configs = map (λ e. e.1.config) r.by_name.entries; opening = map (λ e. e.1.opening) r.by_name.entries } };
+    ghost view = { λ r. record { names = map (λ e. string_bytes e.0) r.by_name.entries; configs = map (λ e. e.1.config.value) r.by_name.entries; opening = map (λ e. e.1.opening) r.by_name.entries; groups = [] } };
 
-    ghost invariant = { λ r. AreValid (map (λ e. e.1.config) r.by_name.entries) (map (λ e. e.1.opening) r.by_name.entries) × (map (λ e. e.1.ty) r.by_name.entries ≡ map (λ e. record_tree e.1.config) r.by_name.entries) × (list_all is_record_name (map (λ e. string_bytes e.0) r.by_name.entries) ≡ true) × (length r.by_name.entries ≤ 4000) };
+    ghost invariant = { λ r. AreValid (map (λ e. e.1.config.value) r.by_name.entries) (map (λ e. e.1.opening) r.by_name.entries) × (map (λ e. e.1.ty) r.by_name.entries ≡ map (λ e. record_tree e.1.config.value) r.by_name.entries) × (list_all is_record_name (map (λ e. string_bytes e.0) r.by_name.entries) ≡ true) × (length r.by_name.entries ≤ 4000) };
 }
 
 impl Records {
     /// No records.
     pub(crate) fn new(alloc: Global) -> Records
-        ensures { result ≡ sites.site_of [] }
+        ensures { result ≡ records_of [] }
     {
         Records {
             by_name: IndexMap::new(alloc),
@@ -113,7 +116,7 @@ impl Records {
     pub(crate) fn of_texts(alloc: Global, texts: &[RecText]) -> Result<Records, SiteFault>
         requires new { AreNew [] texts.now }
         requires few { length texts.now ≤ 4000 }
-        ensures ok { IfOk result (λ r. (first_fault texts.now ≡ None) × (r ≡ sites.site_of texts.now)) }
+        ensures ok { IfOk result (λ r. (first_fault texts.now ≡ None) × (r ≡ records_of texts.now)) }
         ensures fault { IfErr result (IsFirstFault texts.now) }
     {
         let mut records = Records::new(alloc);
@@ -159,7 +162,7 @@ impl Records {
         let name = String::from_str(alloc, name)?;
         let ty = type_of(alloc, &config)?;
         let served = Served {
-            config,
+            config: Arc::new(alloc, config)?,
             opening,
             ty,
         };
@@ -171,12 +174,27 @@ impl Records {
         ensures names { result ≡ length self.now.names }
         ensures opening { result ≡ length self.now.opening }
         ensures valid { AreValid self.now.configs self.now.opening }
+        ensures few { result ≤ 4000 }
     {
         self.by_name.len()
     }
 
+    /// The channel that a name stands for: a record's name, alone or with `.VAL`, or with `.DESC`, which is its description. None
+    /// exactly for every other name.
+    pub(crate) fn find(&self, name: &str) -> Option<Channel>
+        ensures { result ≡ first_named name.now (names_from 0 self.now.names) }
+    {
+        if let Some(record) = name.strip_suffix(".DESC") {
+            return self.channel(ChannelKind::Desc, record);
+        }
+        if let Some(record) = name.strip_suffix(".VAL") {
+            return self.channel(ChannelKind::Rec, record);
+        }
+        self.channel(ChannelKind::Rec, name)
+    }
+
     /// The channel of this kind on the record of this name. None exactly where no record has it.
-    pub(crate) fn channel(&self, kind: ChannelKind, name: &str) -> Option<Channel>
+    fn channel(&self, kind: ChannelKind, name: &str) -> Option<Channel>
         ensures found { result ≡ channel_at kind 0 self.now.names name.now }
         ensures named { list_all sites.is_record_name self.now.names ≡ true }
     {
@@ -187,6 +205,19 @@ impl Records {
             }),
             None => None,
         }
+    }
+
+    /// How the records are configured, in their order. The configurations are shared and not copied.
+    pub(crate) fn configs(&self, alloc: Global) -> Result<Vec<Arc<RecConfig>>, NoMemory>
+        ensures { IfOk result (λ configs. configs_seen configs.items ≡ self.now.configs) }
+    {
+        let count = self.by_name.len();
+        let mut configs = Vec::with_capacity(alloc, count)?;
+        for rec in 0..count {
+            let (_, served) = self.by_name.get_index(rec).unwrap();
+            configs.push(Arc::try_clone(&served.config)?)?;
+        }
+        Ok(configs)
     }
 
     /// The name of a record, by its number.

@@ -1,5 +1,7 @@
-pub mod Cells
+pub mod Listing
 pub mod Ported
 pub mod Marking
+pub mod Doing
 pub mod Soloing
-pub mod Putting
+pub mod Beginning
+pub mod Reading

@@ -2,7 +2,7 @@
 use Rattle.std.proofs.Common.{◌≡◌, ℕ, ◌<◌, zero, suc, Bool, true, false, ◌||◌, List, [], ◌∷◌, length, map, set, get_or, Option, None, Some, Result, Ok, Err, IfOk, OnErr, refl, sym, ◌∙◌, ap, arith}
 use Rattle.std.specs.List.{slice_get}
 use Rattle.std.specs.Prelude.{option_map, is_some}
-use Rattle.std.proofs.lemmas.Option.{slice_get-map, slice_get_within}
+use Rattle.std.proofs.lemmas.Option.{slice_get-map}
 use Rattle.std.proofs.Common.{inl, inr}
 use Rattle.std.proofs.lemmas.List.{length-map}
 use Rattle.pva_outside.specs.Ports.{PortView}
@@ -10,7 +10,7 @@ use Rattle.rec_kinds.specs.Configs.{Config}
 use Rattle.rec_kinds.specs.Texts.{text_of_datum}
 use Rattle.desk_core.specs.Ports.{Ports, IsDrivenOnce, IsDrivenAt, IsTried, IsTriedAt, ports_there, ports_wanted}
 use Rattle.desk_core.specs.declared.driving.Outcome.{Outcome}
-use Rattle.desk_core.proofs.Cells.{got}
+use Rattle.desk_core.proofs.Listing.{got}
 
 map-set : {X Y : Type 0} (f : X → Y) (xs : List X) (n : ℕ) (x : X) → map f (set xs n x) ≡ set (map f xs) n (f x)
 map-set f [] n x = refl
@@ -20,7 +20,7 @@ map-set {Y = Y} f (y ∷ xs) (suc n) x = ap (λ (l : List Y). f y ∷ l) (map-se
 map-got : {X Y : Type 0} (f : X → Y) (xs : List X) (n : ℕ) (x : X) → n < length xs → x ≡ get_or xs n x → slice_get (map f xs) n ≡ Some (f x)
 map-got f xs n x less is = slice_get-map f xs n ∙ ap (option_map f) (got xs n x less is)
 
-same_set : {X : Type 0} (xs : List X) (n : ℕ) (x : X) → slice_get xs n ≡ Some x → set xs n x ≡ xs
+pub same_set : {X : Type 0} (xs : List X) (n : ℕ) (x : X) → slice_get xs n ≡ Some x → set xs n x ≡ xs
 same_set [] n x is = refl
 same_set {X} (y ∷ xs) zero x is = let same : y ≡ x = cc in ap (λ (z : X). z ∷ xs) (sym same)
 same_set {X} (y ∷ xs) (suc n) x is = ap (λ (l : List X). y ∷ l) (same_set xs n x is)
@@ -96,7 +96,7 @@ module _ {P : Type 0} (port : P → PortView) (configs : List Config) (ports : L
       let same_bool : is_some d.before ≡ is_some config.port = cc in
       ap (λ (b : Bool). drove || b) (sym same_bool) ∙ told_by d.before d.after drove text d.driven
 
-  -- no record is beyond the ports
-  pub in_ports : (rec : ℕ) (config : Config) → slice_get configs rec ≡ Some config → rec < length ports
-  in_ports rec config configured =
-      omega (arith, slice_get_within configs rec config configured, ap length wanted, length-map ports (λ (o : Option P). is_some o), length-map configs (λ (c : Config). is_some c.port))
+-- there is a place for each record
+pub as_many_ports : {P : Type 0} (configs : List Config) (ports : List (Option P)) → ports_there ports ≡ ports_wanted configs → length ports ≡ length configs
+as_many_ports {P} configs ports wanted =
+    omega (arith, ap length wanted, length-map ports (λ (o : Option P). is_some o), length-map configs (λ (c : Config). is_some c.port))

@@ -7,4 +7,4 @@ use Rattle.desk_core.specs.declared.solo.SoloDesk.{SoloDesk}
 
 -- what the ports tell, record by record
 abbrev pub ports_of : {P : Type 0} → (P → PortView) → SoloDesk P → Ports
-ports_of port desk = map (option_map port) desk.ports.items
+ports_of port desk = map (option_map port) desk.cells.ports.items

@@ -1,3 +1,6 @@
+pub mod Looking
 pub mod Standing
 pub mod Ports
+pub mod Effects
+pub mod Begun
 pub mod Desks

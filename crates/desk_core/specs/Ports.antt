@@ -1,5 +1,6 @@
 -- How puts drive the ports of their records (EPICS record reference, "DTYP", "OUT").
-use Rattle.std.specs.Prelude.{◌≡◌, ℕ, Bool, true, false, List, [], ◌∷◌, length, map, set, take, is_some, Option, None, Some, Result, Ok, Err, slice_get, ◌⊎◌}
+use Rattle.std.specs.Prelude.{◌≡◌, ℕ, Bool, true, false, List, [], ◌∷◌, length, map, set, take, drop, is_some, Option}
+use Rattle.std.specs.Prelude.{None, Some, Result, Ok, Err, slice_get, ◌⊎◌}
 use Rattle.pva_outside.specs.Ports.{PortView, IsDriven}
 use Rattle.pva_outside.specs.declared.port.DriveStep.{DriveStep}
 use Rattle.pva_outside.specs.declared.port.DriveStep.TheVariants.{Drove, Failed}
@@ -7,11 +8,10 @@ use Rattle.rec_kinds.specs.Configs.{Config}
 use Rattle.rec_kinds.specs.Texts.{text_of_datum}
 use Rattle.rec_kinds.specs.declared.datum.Action.{Action}
 use Rattle.rec_kinds.specs.declared.state.RecState.{RecState}
-use Rattle.rec_fields.specs.declared.puts.FieldAnswer.{FieldAnswer}
 use Rattle.journal_core.specs.Legality.{AreProcessed}
 use Rattle.journal_core.specs.declared.entry.Entry.{Entry}
 use Rattle.desk_api.specs.History.{entries, state_at}
-use Rattle.desk_api.specs.Calls.{Asked, asked_actions, now}
+use Rattle.desk_api.specs.Calls.{Asked, asked_entries, entries_or_none, now}
 use Rattle.desk_api.specs.declared.mark.Seat.{Seat}
 use Rattle.desk_api.specs.declared.put.Done.{Done}
 use Rattle.desk_api.specs.declared.put.PutAnswer.{PutAnswer}
@@ -56,32 +56,52 @@ AreDriven old new (drove ∷ drives) (write ∷ writes) =
     × AreDriven next new drives writes)
 AreDriven old new _ _ = ⊥
 
--- The entry that a put added drove the ports: each of its actions once.
+-- Entries drove the ports, one after another: each of their actions once.
+abbrev pub AreDrivenInTurn : Ports → Ports → List Entry → Type 0
+AreDrivenInTurn old new [] = new ≡ old
+AreDrivenInTurn old new (entry ∷ entries) =
+    ((next : Ports) × AreDriven old next entry.drove entry.writes × AreDrivenInTurn next new entries)
+
+-- From this place on the history has these entries of the seat.
+abbrev pub AreOwnFrom : Seat → ℕ → List Entry → Type 0
+AreOwnFrom s at added = map (λ entry. (s.number, entry)) added ≡ take (length added) (drop at (entries s.seen))
+
+-- The entries that a put added drove the ports.
 pub record AreDrivenBy (s : Seat) (old new : Ports) (done : Done) : Type 0 where
-  pub entry : Entry
-  pub there : slice_get (entries s.seen) done.first ≡ Some (s.number, entry)
-  pub driven : AreDriven old new entry.drove entry.writes
+  pub added : List Entry
+  pub as_many : length added ≡ done.count
+  pub there : AreOwnFrom s done.first added
+  pub driven : AreDrivenInTurn old new added
 
--- the actions that a put asks for, and none where it is refused
-abbrev pub actions_or_none : Result (List (ℕ × Action)) FieldAnswer → List (ℕ × Action)
-actions_or_none (Ok actions) = actions
-actions_or_none (Err answer) = []
+-- the actions of the entry that a put adds behind so many others, and none where there is no such entry
+abbrev pub actions_or_none : Option (List (ℕ × Action)) → List (ℕ × Action)
+actions_or_none (Some actions) = actions
+actions_or_none None = []
 
--- A put that added no entry drove the ports by its first actions, each once, or by none: with what these would have
--- written.
-pub record AreDrivenInPart (s : Seat) (old new : Ports) (asked : Asked) : Type 0 where
+abbrev pub next_actions : Asked → ℕ → List (ℕ × Action)
+next_actions asked done = actions_or_none (slice_get (entries_or_none (asked_entries asked)) done)
+
+-- A put that ended behind so many entries: these drove the ports, and then the first actions of the next one did,
+-- each once, or none: with what these would have written.
+pub record AreDrivenInPart (s t : Seat) (old new : Ports) (asked : Asked) (done : ℕ) : Type 0 where
+  pub added : List Entry
+  pub as_many : length added ≡ done
+  pub there : AreOwnFrom t (now s) added
+  pub between : Ports
+  pub driven : AreDrivenInTurn old between added
   pub drives : List Bool
   pub writes : List (ℕ × RecState)
-  pub driven : AreDriven old new drives writes
-  pub first : AreProcessed asked.site.configs (state_at s.seen (now s)) asked.moment
-      (take (length writes) (actions_or_none (asked_actions asked))) drives writes
+  pub tried : AreDriven between new drives writes
+  pub first : AreProcessed asked.site.configs (state_at t.seen (now t)) asked.moment
+      (take (length writes) (next_actions asked done)) drives writes
 
 -- What a put did to the ports, by its answer. A put that is refused drives none.
 abbrev pub DrivesPorts : Seat → Seat → Ports → Ports → Asked → Result Done PutAnswer → Type 0
 DrivesPorts s t old new asked (Ok done) = AreDrivenBy t old new done
 DrivesPorts s t old new asked (Err (answers.Refused refusal)) = new ≡ old
-DrivesPorts s t old new asked (Err (answers.JournalFull kept added limit done)) = AreDrivenInPart s old new asked
-DrivesPorts s t old new asked (Err (answers.NoMemory done)) = AreDrivenInPart s old new asked
+DrivesPorts s t old new asked (Err (answers.JournalFull kept weight limit done)) =
+    AreDrivenInPart s t old new asked done
+DrivesPorts s t old new asked (Err (answers.NoMemory done)) = AreDrivenInPart s t old new asked done
 
 -- a port that was driven once with this text, or not at all
 abbrev pub IsTried : Option PortView → Option PortView → List ℕ → Type 0

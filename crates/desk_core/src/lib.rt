@@ -1,9 +1,14 @@
 //! The desks that a server reads its records through.
 #![tactic(auto)]
 
+mod cells;
 mod draft;
 mod driving;
+mod entering;
+#[cfg(test)]
+mod group_tests;
 mod log;
+mod looks;
 mod solo;
 #[cfg(test)]
 mod tests;

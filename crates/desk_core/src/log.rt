@@ -1,9 +1,8 @@
 // A log that takes no bytes: the view of the only seat of a table with one word. Each mark is one load of that word.
 ghost use Rattle.std.specs.Prelude.{◌≡◌, IfOk};
 ghost use Rattle.desk_api.specs.Calls.{first_seat, with_mark};
-ghost use Rattle.desk_api.specs.Sites.{footprint_of};
-ghost use Rattle.desk_api.specs.Views.{found_in};
 ghost use Rattle.desk_api.specs.declared.mark.Mark.TheVariants as marks;
+ghost use Rattle.desk_core.specs.Looking.{look_of, looked};
 ghost use Rattle.desk_core.specs.Standing.{base_of};
 
 use atomic_table::{Play, Table, TableRule};
@@ -101,15 +100,15 @@ impl Log {
 
 // One helper for each kind of mark. Its arguments are the parts of the mark, from which the caller picks it.
 
-/// Notes that a get of the channel of this site found its records as they are now.
+/// Notes that a get of the channel found these records as they are now.
 pub(crate) fn note_read<B: Picks>(
     log: &mut Log,
-    _site: &Site,
     _channel: Channel,
-    _cells: &Vec<RecState>,
+    _recs: &[u32],
+    _cells: &[RecState],
 )
-    requires { B.mark ≡ (λ at. marks.Read at _channel (footprint_of _site.now _channel) (found_in _cells.now.items (footprint_of _site.now _channel))) }
-    ensures { log.new ≡ with_mark log.old (λ at. marks.Read at _channel (footprint_of _site.now _channel) (found_in _cells.now.items (footprint_of _site.now _channel))) }
+    requires { B.mark ≡ look_of _channel _cells.now _recs.now }
+    ensures { log.new ≡ looked _channel _cells.now log.old _recs.now }
 {
     log.add::<B>();
 }

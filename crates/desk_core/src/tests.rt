@@ -1,13 +1,14 @@
-ghost use Rattle.std.specs.Prelude.{◌≡◌, ◌∷◌, [], IfOk, IsTrue, OnOk, OnSome, true};
+// Gets and puts of one record, with a port and without, and what the tests of groups share with them.
+ghost use Rattle.std.specs.Prelude.{◌≡◌, IfOk, IsTrue, OnOk, is_some, true};
 ghost use Rattle.desk_api.specs.Sites.{is_channel};
 ghost use Rattle.desk_api.specs.Types.{type_of, HoldsLeaves};
-ghost use Rattle.desk_core.specs.Ports.{ports_wanted};
-ghost use Rattle.pvd_type.specs.Tree.{Tree};
+ghost use Rattle.desk_core.specs.Ports.{ports_there, ports_wanted};
 ghost use Rattle.pvd_value.specs.Fits.{fits_of};
 ghost use Rattle.pvd_value.specs.View.{view};
 
-use crate::{Channel, Desk, Done, Moment, PutAnswer, PvValue, Site, SoloDesk, drive};
-use desk_api::{ChannelKind, PutRefusal};
+use crate::driving::discard;
+use crate::{Channel, Desk, Done, Moment, PutAnswer, PvType, PvValue, Site, SoloDesk, drive};
+use desk_api::{ChannelKind, PutRefusal, found_channels};
 use pva_outside::MemoryPort;
 use pvd_type::{BitSet, NoMemory};
 use pvd_value::fits;
@@ -16,86 +17,119 @@ use rec_kinds::longout;
 use std::alloc::Global;
 use std::test::Fail;
 
-const RECORD: Channel = Channel {
-    kind: ChannelKind::Rec,
-    number: 0,
-};
-
-/// Drops what it is given.
-fn discard<T: Drop>(_value: T) {}
-
-/// A value with this number.
-fn value_with(alloc: Global, number: i32) -> Result<PvValue, NoMemory> {
-    let (config, state) = longout(alloc, number)?;
-    let value = view(alloc, &config, &state);
-    discard(config);
-    discard(state);
-    value
+/// The site of a text without macros.
+pub(crate) fn site_of(alloc: Global, text: &str) -> Result<Site, NoMemory> {
+    match Site::build(alloc, text, &[]) {
+        Ok(site) => Ok(site),
+        Err(fault) => {
+            discard(fault);
+            Err(NoMemory)
+        }
+    }
 }
 
-/// No leaf.
-fn no_leaf(alloc: Global) -> BitSet
-    ensures { (t : Tree) → HoldsLeaves t result }
+/// A port where one is wanted. The drive with this number, counted from 1, fails.
+fn port_for(alloc: Global, wanted: bool, failing: u64) -> Result<Option<MemoryPort>, NoMemory>
+    ensures { IfOk result (λ port. is_some port ≡ wanted) }
 {
-    BitSet::new(alloc)
+    if !wanted {
+        return Ok(None);
+    }
+    Ok(Some(MemoryPort::new(vec![in alloc; failing]?)))
 }
 
-/// All leaves of the record's type, or none, for a value of that type.
-fn leaves<D: Desk>(
+/// A port for each record whose configuration says that it has one. The first drive of the record with this name fails.
+fn ports_for(alloc: Global, site: &Site, failing: &str) -> Result<Vec<Option<MemoryPort>>, NoMemory>
+    ensures { IfOk result (λ ports. ports_there ports.items ≡ ports_wanted site.now.configs) }
+{
+    let count = site.records();
+    let mut ports = Vec::with_capacity(alloc, count)?;
+    for rec in 0..count {
+        let fails = site.name(rec) == failing;
+        ports.push(port_for(alloc, site.port(rec).is_some(), u64::from(fails))?)?;
+    }
+    Ok(ports)
+}
+
+/// The desk of the records of a text. The first drive of the port of the record with this name fails.
+pub(crate) fn desk_of(
+    alloc: Global,
+    text: &str,
+    limit: u64,
+    failing: &str,
+) -> Result<SoloDesk<MemoryPort>, NoMemory> {
+    let site = site_of(alloc, text)?;
+    let ports = ports_for(alloc, &site, failing)?;
+    SoloDesk::new(alloc, site, ports, limit)
+}
+
+/// Those of these numbers that are leaves of the type.
+fn leaves_of(alloc: Global, ty: &PvType, numbers: &[u16]) -> Result<BitSet, NoMemory>
+    ensures { IfOk result (HoldsLeaves ty.now) }
+{
+    let mut mask = BitSet::new(alloc);
+    for number in numbers {
+        mask.insert(u32::from(*number))?;
+    }
+    let leaves = ty.leaves(alloc)?;
+    mask.meet(&leaves);
+    Ok(mask)
+}
+
+/// Those of these numbers that are leaves of the channel, where the value is one of it.
+fn mask_for<D: Desk>(
     alloc: Global,
     desk: &D,
+    channel: Channel,
     value: &PvValue,
-    marked: bool,
+    numbers: &[u16],
 ) -> Result<BitSet, NoMemory>
-    requires { IsTrue (is_channel (D.seat desk.now).seen.base.site RECORD) }
-    ensures fits { OnOk result (fits_of 16 (view value.now) (type_of (D.seat desk.now).seen.base.site RECORD) ≡ true) }
-    ensures leaves { IfOk result (HoldsLeaves (type_of (D.seat desk.now).seen.base.site RECORD)) }
+    requires { IsTrue (is_channel (D.seat desk.now).seen.base.site channel) }
+    ensures fits { OnOk result (fits_of 16 (view value.now) (type_of (D.seat desk.now).seen.base.site channel) ≡ true) }
+    ensures leaves { IfOk result (HoldsLeaves (type_of (D.seat desk.now).seen.base.site channel)) }
 {
-    let Some(ty) = desk.type_of(RECORD) else {
+    let Some(ty) = desk.type_of(channel) else {
         return Err(NoMemory);
     };
     if !fits(ty, value) {
         return Err(NoMemory);
     }
-    if marked {
-        return ty.leaves(alloc);
-    }
-    Ok(no_leaf(alloc))
+    leaves_of(alloc, ty, numbers)
 }
 
-/// Puts a value with all leaves marked or none, at 100 seconds and 5 nanoseconds.
-fn put_value<D: Desk>(
+/// Puts leaves of a value at 100 seconds and 5 nanoseconds. None where memory ran out before.
+pub(crate) fn put<D: Desk>(
     alloc: Global,
     desk: &mut D,
+    name: &str,
     value: &PvValue,
-    marked: bool,
-) -> Result<Result<Done, PutAnswer>, NoMemory>
-    requires { IsTrue (is_channel (D.seat desk.old).seen.base.site RECORD) }
-    ensures { (D.seat desk.new).seen.base ≡ (D.seat desk.old).seen.base }
-{
-    match leaves(alloc, desk, value, marked) {
-        Ok(mask) => Ok(desk.put(alloc, RECORD, &mask, value, Moment::new(100, 5))),
-        Err(no_memory) => Err(no_memory),
+    numbers: &[u16],
+    atomic: Option<bool>,
+) -> Option<Result<Done, PutAnswer>> {
+    found_channels();
+    let Some(channel) = desk.find(name) else {
+        return None;
+    };
+    match mask_for(alloc, desk, channel, value, numbers) {
+        Ok(mask) => Some(desk.put(alloc, channel, &mask, value, Moment::new(100, 5), atomic)),
+        Err(_) => None,
     }
 }
 
-/// Puts a number.
-fn put<D: Desk>(
+/// What a channel shows. None where memory ran out.
+pub(crate) fn got<D: Desk>(
     alloc: Global,
     desk: &mut D,
-    number: i32,
-    marked: bool,
-) -> Result<Result<Done, PutAnswer>, NoMemory>
-    requires { IsTrue (is_channel (D.seat desk.old).seen.base.site RECORD) }
-    ensures { (D.seat desk.new).seen.base ≡ (D.seat desk.old).seen.base }
-{
-    match value_with(alloc, number) {
-        Ok(value) => {
-            let answer = put_value(alloc, desk, &value, marked);
-            discard(value);
-            answer
-        }
-        Err(no_memory) => Err(no_memory),
+    name: &str,
+    atomic: Option<bool>,
+) -> Option<PvValue> {
+    found_channels();
+    let Some(channel) = desk.find(name) else {
+        return None;
+    };
+    match desk.get(alloc, channel, atomic) {
+        Ok(value) => Some(value),
+        Err(_) => None,
     }
 }
 
@@ -107,6 +141,16 @@ fn int(value: Option<&PvValue>) -> Option<i32> {
     }
 }
 
+/// The number that a record's structure has, and the severity and the status of its alarm.
+pub(crate) type Row = [i32; 3];
+
+/// What a record's structure shows.
+pub(crate) fn row(value: Option<&PvValue>) -> Option<Row> {
+    let members = value?.members();
+    let alarm = members.get(1)?.members();
+    Some([int(members.get(0))?, int(alarm.get(0))?, int(alarm.get(1))?])
+}
+
 /// Whether a value is this text.
 fn is_text(value: Option<&PvValue>, wanted: &str) -> bool {
     match value {
@@ -115,92 +159,130 @@ fn is_text(value: Option<&PvValue>, wanted: &str) -> bool {
     }
 }
 
-/// The number that a value has, and the severity, the status and the message of its alarm, where the message is this one.
-fn shown_with(value: &PvValue, message: &str) -> Option<[Option<i32>; 3]> {
+/// What a record's structure shows, where its alarm has this message.
+fn row_with(value: &PvValue, message: &str) -> Option<Row> {
     let alarm = value.members().get(1)?.members();
     if !is_text(alarm.get(2), message) {
         return None;
     }
-    Some([
-        int(value.members().get(0)),
-        int(alarm.get(0)),
-        int(alarm.get(1)),
-    ])
+    row(Some(value))
 }
 
-/// What the record's channel shows: its number, and the severity and the status of its alarm, where it has this message.
-fn got<D: Desk>(
-    alloc: Global,
-    desk: &mut D,
-    message: &str,
-) -> Result<Option<[Option<i32>; 3]>, NoMemory>
-    requires { IsTrue (is_channel (D.seat desk.old).seen.base.site RECORD) }
-    ensures { (D.seat desk.new).seen.base ≡ (D.seat desk.old).seen.base }
-{
-    match desk.get(alloc, RECORD) {
-        Ok(value) => {
-            let shown = shown_with(&value, message);
-            discard(value);
-            Ok(shown)
-        }
-        Err(no_memory) => Err(no_memory),
+/// What the record shows, where its alarm has this message.
+fn shown(alloc: Global, desk: &mut SoloDesk<MemoryPort>, message: &str) -> Option<Row> {
+    let Some(value) = got(alloc, desk, "X", None) else {
+        return None;
+    };
+    let row = row_with(&value, message);
+    discard(value);
+    row
+}
+
+/// The port of a record.
+fn port_of<'a>(desk: &'a SoloDesk<MemoryPort>, name: &str) -> Option<&'a MemoryPort> {
+    found_channels();
+    let Some(channel) = desk.find(name) else {
+        return None;
+    };
+    match channel.kind {
+        ChannelKind::Rec => desk.port(channel.number as usize),
+        ChannelKind::Desc | ChannelKind::Group => None,
     }
 }
 
-/// A number without an alarm.
-const fn quiet(number: i32) -> Option<[Option<i32>; 3]> {
-    Some([Some(number), Some(0), Some(0)])
+/// How often a record's port was driven, where the last text is this one.
+pub(crate) fn driven(desk: &SoloDesk<MemoryPort>, name: &str, text: &str) -> Option<u64> {
+    let port = port_of(desk, name)?;
+    if port.last() != text.as_bytes() {
+        return None;
+    }
+    Some(port.drives())
 }
 
-/// What puts of 6 with no leaf marked and of 7, 8 and 9 with all marked answer, and what is shown after them.
-fn puts<D: Desk>(
+/// A record's structure with this number.
+fn value_with(alloc: Global, number: i32) -> Result<PvValue, NoMemory> {
+    let (config, state) = longout(alloc, number)?;
+    let value = view(alloc, &config, &state);
+    discard(config);
+    discard(state);
+    value
+}
+
+/// What a put answers, and what the record shows behind it.
+type Told = (Option<Result<Done, PutAnswer>>, Option<Row>);
+
+/// Puts a leaf of the record's structure with this number. The alarm has this message then.
+fn told(
     alloc: Global,
-    desk: &mut D,
-) -> Result<([Result<Done, PutAnswer>; 4], Option<[Option<i32>; 3]>), NoMemory>
-    requires { IsTrue (is_channel (D.seat desk.old).seen.base.site RECORD) }
-{
-    let refused = put(alloc, desk, 6, false)?;
-    let first = put(alloc, desk, 7, true)?;
-    let second = put(alloc, desk, 8, true)?;
-    let third = put(alloc, desk, 9, true)?;
-    Ok(([refused, first, second, third], got(alloc, desk, "")?))
+    desk: &mut SoloDesk<MemoryPort>,
+    number: i32,
+    leaf: u16,
+    message: &str,
+) -> Told {
+    let Ok(value) = value_with(alloc, number) else {
+        return (None, None);
+    };
+    let answer = put(alloc, desk, "X", &value, &[leaf], None);
+    discard(value);
+    (answer, shown(alloc, desk, message))
 }
 
-/// What the four puts answer where the limit has room for two entries.
-const ANSWERS: [Result<Done, PutAnswer>; 4] = [
-    Err(PutAnswer::Refused(PutRefusal::NothingWritable)),
-    Ok(Done { first: 0, count: 1 }),
-    Ok(Done { first: 1, count: 1 }),
-    Err(PutAnswer::JournalFull {
-        kept: 272,
-        entry: 136,
-        limit: 272,
-        done: 0,
-    }),
-];
+/// The leaf of a record's value, and that of its alarm's severity.
+const VALUE: u16 = 1;
 
-/// The desk of a record without a port, which is 42.
-fn plain_desk(alloc: Global) -> Result<SoloDesk<MemoryPort>, NoMemory>
-    ensures { IfOk result (λ desk. IsTrue (is_channel desk.log.seen.base.site RECORD)) }
-{
+const SEVERITY: u16 = 3;
+
+/// What a put of a leaf that can't be written answers.
+const REFUSED: Option<Result<Done, PutAnswer>> = Some(Err(PutAnswer::Refused(
+    PutRefusal::NothingWritable,
+)));
+
+/// What a put answers that is one entry at this place.
+pub(crate) const fn done(first: u64) -> Option<Result<Done, PutAnswer>> {
+    Some(Ok(Done { first, count: 1 }))
+}
+
+/// What a put answers whose next entry would be above the limit.
+pub(crate) const fn full(
+    kept: u64,
+    entry: u64,
+    limit: u64,
+    done: u32,
+) -> Option<Result<Done, PutAnswer>> {
+    Some(Err(PutAnswer::JournalFull {
+        kept,
+        entry,
+        limit,
+        done,
+    }))
+}
+
+/// The desk of a record without a port, which is 42, and whose history has room for one put.
+fn plain_desk(alloc: Global) -> Result<SoloDesk<MemoryPort>, NoMemory> {
     let site = Site::single(alloc, "X", 42)?;
     let ports = vec![in alloc; None]?;
-    SoloDesk::new(alloc, site, ports, 272)
+    SoloDesk::new(alloc, site, ports, 200)
+}
+
+/// What the record opens with, and what three puts to it come to.
+fn plain_puts(alloc: Global) -> Result<(Option<Row>, [Told; 3]), NoMemory> {
+    let mut desk = plain_desk(alloc)?;
+    desk.has_legal_history();
+    let opening = shown(alloc, &mut desk, "");
+    let refused = told(alloc, &mut desk, 6, SEVERITY, "");
+    let first = told(alloc, &mut desk, 7, VALUE, "");
+    let second = told(alloc, &mut desk, 8, VALUE, "");
+    discard(desk);
+    Ok((opening, [refused, first, second]))
 }
 
 #[test]
-fn a_desk_of_one_record_shows_it_and_takes_puts_up_to_its_limit(
-    rt: HostRuntime,
-) -> Result<(), Fail> {
-    let mut desk = plain_desk(rt.alloc())?;
-    desk.has_legal_history();
-    let found = [desk.find("X"), desk.find("Y")];
-    let shown = got(rt.alloc(), &mut desk, "")?;
-    let (answers, last) = puts(rt.alloc(), &mut desk)?;
-    discard(desk);
-    assert_eq!(rt; found, [Some(RECORD), None]);
-    assert_eq!(rt; (shown, last), (quiet(42), quiet(8)));
-    assert_eq!(rt; answers, ANSWERS);
+fn a_record_is_got_and_put_up_to_the_limit(rt: HostRuntime) -> Result<(), Fail> {
+    let (opening, puts) = plain_puts(rt.alloc())?;
+    assert_eq!(rt; opening, Some([42, 0, 0]));
+    assert_eq!(rt; puts[0], (REFUSED, Some([42, 0, 0])));
+    assert_eq!(rt; puts[1], (done(0), Some([7, 0, 0])));
+    assert_eq!(rt; puts[2], (full(136, 136, 200, 0), Some([7, 0, 0])));
     Ok(())
 }
 
@@ -208,95 +290,41 @@ fn a_desk_of_one_record_shows_it_and_takes_puts_up_to_its_limit(
 const PORTED: &str =
     "record(longout, \"X\") { field(VAL, \"42\") field(DTYP, \"File\") field(OUT, \"@file x\") }";
 
-/// Whether a site has one record, with a port.
-fn has_one_port(site: &Site) -> bool
-    ensures wanted { result ≡ true → ports_wanted site.now.configs ≡ true ∷ [] }
-    ensures channel { result ≡ true → IsTrue (is_channel site.now RECORD) }
-{
-    if site.records() != 1 {
-        return false;
-    }
-    site.port(0).is_some()
-}
+/// What a put comes to, and how often the port was driven then.
+type Driven = (Told, Option<u64>);
 
-/// The site of the record with a port.
-fn ported_site(alloc: Global) -> Result<Site, NoMemory>
-    ensures wanted { IfOk result (λ site. ports_wanted site.configs ≡ true ∷ []) }
-    ensures channel { IfOk result (λ site. IsTrue (is_channel site RECORD)) }
-{
-    let site = match Site::build(alloc, PORTED, &[]) {
-        Ok(site) => site,
-        Err(fault) => {
-            discard(fault);
-            return Err(NoMemory);
-        }
-    };
-    if has_one_port(&site) {
-        return Ok(site);
-    }
-    discard(site);
-    Err(NoMemory)
-}
-
-/// A desk of the record with a port whose first drive fails.
-fn ported_desk(alloc: Global) -> Result<SoloDesk<MemoryPort>, NoMemory>
-    ensures { IfOk result (λ desk. IsTrue (is_channel desk.log.seen.base.site RECORD)) }
-{
-    let site = ported_site(alloc)?;
-    let failing = vec![in alloc; 1]?;
-    let ports = vec![in alloc; Some(MemoryPort::new(failing))]?;
-    SoloDesk::new(alloc, site, ports, 272)
-}
-
-/// How often the record's port was driven, and the first byte of the last text.
-fn drives(desk: &SoloDesk<MemoryPort>) -> Option<(u64, Option<u8>)>
-    requires { IsTrue (is_channel desk.now.log.seen.base.site RECORD) }
-{
-    match desk.port(0) {
-        Some(port) => Some((port.drives(), port.last().first().copied())),
-        None => None,
-    }
-}
-
-/// What a port was driven with, and what its record shows then.
-type Told = (Option<(u64, Option<u8>)>, Option<[Option<i32>; 3]>);
-
-/// Puts a number, and tells what it came to.
-fn told(
-    alloc: Global,
-    desk: &mut SoloDesk<MemoryPort>,
-    number: i32,
-    marked: bool,
-    message: &str,
-) -> Result<(Result<Done, PutAnswer>, Told), NoMemory>
-    requires { IsTrue (is_channel desk.old.log.seen.base.site RECORD) }
-    ensures { desk.new.log.seen.base ≡ desk.old.log.seen.base }
-{
-    let answer = put(alloc, desk, number, marked)?;
-    let drives = drives(desk);
-    let shown = got(alloc, desk, message)?;
-    Ok((answer, (drives, shown)))
+/// What four puts to the record come to, of whose port the first drive fails.
+fn ported_puts(alloc: Global) -> Result<[Driven; 4], NoMemory> {
+    let mut desk = desk_of(alloc, PORTED, 272, "X")?;
+    let refused = told(alloc, &mut desk, 6, SEVERITY, "");
+    let never = driven(&desk, "X", "");
+    let failed = told(alloc, &mut desk, 7, VALUE, "WRITE");
+    let once = driven(&desk, "X", "7");
+    let drove = told(alloc, &mut desk, 8, VALUE, "");
+    let twice = driven(&desk, "X", "8");
+    let heavy = told(alloc, &mut desk, 9, VALUE, "");
+    let thrice = driven(&desk, "X", "9");
+    discard(desk);
+    Ok([
+        (refused, never),
+        (failed, once),
+        (drove, twice),
+        (heavy, thrice),
+    ])
 }
 
 #[test]
 fn a_port_that_fails_once_leaves_its_alarm_and_is_driven_again(
     rt: HostRuntime,
 ) -> Result<(), Fail> {
-    let mut desk = ported_desk(rt.alloc())?;
-    let refused = told(rt.alloc(), &mut desk, 6, false, "")?;
-    let failed = told(rt.alloc(), &mut desk, 7, true, "WRITE")?;
-    let driven = told(rt.alloc(), &mut desk, 8, true, "")?;
-    let full = told(rt.alloc(), &mut desk, 9, true, "")?;
-    discard(desk);
-    let answers = [refused.0, failed.0, driven.0, full.0];
-    assert_eq!(rt; answers, ANSWERS);
-    assert_eq!(rt; refused.1, (Some((0, None)), quiet(42)));
+    let puts = ported_puts(rt.alloc())?;
+    assert_eq!(rt; puts[0], ((REFUSED, Some([42, 0, 0])), Some(0)));
+    assert_eq!(rt; puts[1], ((done(0), Some([7, 3, 2])), Some(1)));
+    assert_eq!(rt; puts[2], ((done(1), Some([8, 0, 0])), Some(2)));
     assert_eq!(rt;
-        failed.1,
-        (Some((1, Some(b'7'))), Some([Some(7), Some(3), Some(2)]))
+        puts[3],
+        ((full(272, 136, 272, 0), Some([8, 0, 0])), Some(3))
     );
-    assert_eq!(rt; driven.1, (Some((2, Some(b'8'))), quiet(8)));
-    assert_eq!(rt; full.1, (Some((3, Some(b'9'))), quiet(8)));
     Ok(())
 }
 

@@ -32,8 +32,8 @@ pub(crate) fn list(scalar: Scalar) -> Shape
     Shape::List(scalar, Extent::Variable)
 }
 
-/// An alarm.
-fn alarm(alloc: Global) -> Result<Shape, NoMemory>
+/// An alarm, `alarm_t` (EPICS Normative Types 1.0, "alarm_t"): a severity, a status and a message.
+pub fn alarm(alloc: Global) -> Result<Shape, NoMemory>
     ensures { IfOk result (λ s. shape_view s ≡ alarm_tree) }
 {
     let severity = member(alloc, "severity", Shape::Plain(Scalar::I32))?;
@@ -42,8 +42,8 @@ fn alarm(alloc: Global) -> Result<Shape, NoMemory>
     structure(alloc, "alarm_t", three(alloc, severity, status, message)?)
 }
 
-/// A time stamp.
-fn time(alloc: Global) -> Result<Shape, NoMemory>
+/// A time stamp, `time_t` (EPICS Normative Types 1.0, "time_t"): seconds past the epoch, nanoseconds and a tag.
+pub fn time(alloc: Global) -> Result<Shape, NoMemory>
     ensures { IfOk result (λ s. shape_view s ≡ time_tree) }
 {
     let seconds = member(alloc, "secondsPastEpoch", Shape::Plain(Scalar::I64))?;

@@ -1,5 +1,5 @@
 -- What one read of a file does, by its name.
-use Rattle.std.specs.Prelude.{◌≡◌, ℕ, List, [], ◌∷◌, ◌++◌, Option, Some, option_map, IfSome}
+use Rattle.std.specs.Prelude.{◌≡◌, ℕ, ◌≤◌, ◌<◌, ⊤, List, [], ◌∷◌, ◌++◌, length, Option, None, Some, option_map, IfSome}
 use Rattle.pva_outside.specs.Count.{Rose}
 use Rattle.pva_outside.specs.declared.files.FileStep.{FileStep}
 use Rattle.pva_outside.specs.declared.files.FileStep.TheVariants.{Got, Failed, NoMemory}
@@ -24,16 +24,26 @@ pub record IsAsked (old new : FilesView) (name : List ℕ) : Type 0 where
 abbrev pub StandsUnder : FilesView → List ℕ → List ℕ → Type 0
 StandsUnder files name bytes = IfSome files.contents (λ contents. contents name ≡ Some bytes)
 
--- A file was read, and has these bytes.
+-- how many bytes a file may have
+abbrev pub most_bytes : ℕ
+most_bytes = 1048576
+
+-- A file was read, and has these bytes, which aren't too many.
 pub record HasRead (old new : FilesView) (name bytes : List ℕ) : Type 0 where
   pub asked : IsAsked old new name
   pub bytes_are : StandsUnder old name bytes
+  pub most : length bytes ≤ most_bytes
   pub faults : new.faults ≡ old.faults
 
 -- A file couldn't be read.
 pub record HasFailed (old new : FilesView) (name : List ℕ) : Type 0 where
   pub asked : IsAsked old new name
   pub faults : Rose old.faults new.faults
+
+-- There is no file that can be read: none, or one of too many bytes.
+abbrev pub Unreadable : Option (List ℕ) → Type 0
+Unreadable None = ⊤
+Unreadable (Some bytes) = most_bytes < length bytes
 
 -- One read, by its answer.
 abbrev pub IsRead : FilesView → FilesView → FileStep → List ℕ → Type 0

@@ -1,8 +1,8 @@
 // Files by name: the trait, and the files in memory.
 ghost use Rattle.std.specs.Prelude.{◌≡◌, ◌↔◌, ◌⊎◌, [], Some, None, Contains, IfOk, OnErr, OnOk, map, option_map};
 ghost use Rattle.std.specs.String.{string_bytes};
-ghost use Rattle.pva_outside.specs.Count.{Rose};
-ghost use Rattle.pva_outside.specs.Files.{FilesView, IsRead};
+ghost use Rattle.pva_outside.specs.Count.{RoseByOne};
+ghost use Rattle.pva_outside.specs.Files.{FilesView, IsRead, Unreadable};
 ghost use Rattle.pva_outside.specs.MemoryFiles.{contents_of};
 
 use crate::count::raise;
@@ -18,6 +18,9 @@ pub enum FileStep {
     /// Memory ran out. No name was asked for and no count rose.
     NoMemory,
 }
+
+/// How many bytes a file may have.
+pub(crate) const MOST: usize = 1_048_576;
 
 /// Files by name. Each has at most 1,048,576 bytes: a longer one counts as one that can't be read.
 pub trait Files {
@@ -38,8 +41,8 @@ pub struct MemoryFile {
     pub bytes: Vec<u8>,
 }
 
-/// Files in memory. Of two of one name the first counts. A read fails where there is none of the name, and at the calls that
-/// are to fail.
+/// Files in memory. Of two of one name the first counts. A read fails where there is none of the name, where it has
+/// more than 1,048,576 bytes, and at the calls that are to fail.
 #[derive(Drop)]
 pub struct MemoryFiles {
     files: Vec<MemoryFile>,
@@ -104,9 +107,9 @@ impl Files for MemoryFiles {
 
     fn read(&mut self, alloc: Global, name: &str) -> FileStep
         ensures step { IsRead (memory_files self.old) (memory_files self.new) result name.now }
-        ensures counted { Rose (files_calls self.old) (files_calls self.new) }
+        ensures counted { RoseByOne (files_calls self.old) (files_calls self.new) }
         ensures failing { failing_reads self.new ≡ failing_reads self.old }
-        ensures fails { result ≡ FileStep.Failed → Contains (failing_reads self.old) (files_calls self.new) ⊎ (contents_of self.old.files.items name.now ≡ None) }
+        ensures fails { result ≡ FileStep.Failed → Contains (failing_reads self.old) (files_calls self.new) ⊎ Unreadable (contents_of self.old.files.items name.now) }
         ensures gives { (bytes : _) → result ≡ FileStep.Got bytes → ¬ (Contains (failing_reads self.old) (files_calls self.new)) }
     {
         raise(&mut self.calls);
@@ -121,8 +124,8 @@ impl Files for MemoryFiles {
             return FileStep::Failed;
         }
         match found {
-            Some(bytes) => FileStep::Got(bytes),
-            None => {
+            Some(bytes) if bytes.len() <= MOST => FileStep::Got(bytes),
+            Some(_) | None => {
                 raise(&mut self.faults);
                 FileStep::Failed
             }

@@ -1,9 +1,12 @@
 // Where the values of output records go: the trait, the port in memory and the port over a writer.
-ghost use Rattle.std.specs.Prelude.{◌≡◌, ◌≤◌, ◌↔◌, Contains, Some, option_map, length, take};
+ghost use Rattle.std.specs.Prelude.{◌≡◌, ◌≤◌, ◌<◌, ◌↔◌, Contains, OnOk, Some, option_map, length, take};
+ghost use Rattle.std.specs.Io.KnownBytes.{Appends};
 ghost use Rattle.pva_outside.specs.Count.{RoseByOne};
 ghost use Rattle.pva_outside.specs.Ports.{PortView, IsDriven};
+ghost use Rattle.pva_outside.specs.WriterPort.{line};
 
 use crate::count::raise;
+use std::io;
 use std::io::Write;
 
 /// What one drive of a port came to.
@@ -106,8 +109,24 @@ impl Port for MemoryPort {
     }
 }
 
-/// A port over a writer of std, as a file that was opened for appending. Each drive writes the text and a line feed; an error
-/// of either write is a fault. It tells no drives.
+/// How many bytes a line may have that is handed to the writer as one.
+const LINE: usize = 128;
+
+/// A text of at most 127 bytes and a line feed behind it, and their number.
+fn line_of(text: &[u8]) -> ([u8; 128], usize)
+    requires { length text.now < 128 }
+    ensures most { result.1 ≤ 128 }
+    ensures line { take result.1 result.0 ≡ line text.now }
+{
+    let mut line = [b'\n'; 128];
+    line[..text.len()].copy_from_slice(text);
+    (line, text.len() + 1)
+}
+
+/// A port over a writer of std, as a file that was opened for appending. Each drive writes the text and a line feed behind it,
+/// and an error of the writer is a fault. A text of up to 127 bytes and its line feed are one `write`, so that the lines of
+/// several processes with one file stay whole, unless the writer takes a part alone; a longer text is followed by a write of
+/// the line feed. It tells no drives.
 #[derive(Drop)]
 pub struct WriterPort<W: Write + Drop> {
     writer: W,
@@ -115,27 +134,40 @@ pub struct WriterPort<W: Write + Drop> {
 }
 
 impl<W: Write + Drop> WriterPort<W> {
-    ghost use Rattle.pva_outside.specs.WriterPort.{writer_port, new_writer_port};
+    ghost use Rattle.pva_outside.specs.WriterPort.{writer_port, new_writer_port, lines_told, line};
 
     /// A port that writes to `writer`, with a count of 0.
     pub fn new(writer: W) -> WriterPort<W>
-        ensures { writer_port result ≡ new_writer_port }
+        ensures port { writer_port result ≡ new_writer_port }
+        ensures told { lines_told W.contents result ≡ W.contents writer }
     {
         WriterPort { writer, faults: 0 }
+    }
+
+    /// Writes a text and a line feed.
+    fn put(&mut self, text: &[u8]) -> io::Result<()>
+        ensures port { writer_port self.new ≡ writer_port self.old }
+        ensures line { OnOk result (Appends (lines_told W.contents self.old) (lines_told W.contents self.new) (line text.now)) }
+    {
+        if text.len() < LINE {
+            let (line, len) = line_of(text);
+            return self.writer.write_all(&line[..len]);
+        }
+        self.writer.write_all(text)?;
+        self.writer.write_all(b"\n")
     }
 }
 
 impl<W: Write + Drop> Port for WriterPort<W> {
-    ghost use Rattle.pva_outside.specs.WriterPort.{writer_port};
+    ghost use Rattle.pva_outside.specs.WriterPort.{writer_port, lines_told, line};
 
     ghost port = { writer_port };
 
-    fn drive(&mut self, text: &[u8]) -> DriveStep {
-        if self.writer.write_all(text).is_err() {
-            raise(&mut self.faults);
-            return DriveStep::Failed;
-        }
-        if self.writer.write_all(b"\n").is_err() {
+    fn drive(&mut self, text: &[u8]) -> DriveStep
+        ensures step { IsDriven (writer_port self.old) (writer_port self.new) result text.now }
+        ensures line { result ≡ DriveStep.Drove → Appends (lines_told W.contents self.old) (lines_told W.contents self.new) (line text.now) }
+    {
+        if self.put(text).is_err() {
             raise(&mut self.faults);
             return DriveStep::Failed;
         }

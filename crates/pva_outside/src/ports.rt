@@ -1,7 +1,7 @@
 // What makes ports: the trait, and the ports in memory.
 ghost use Rattle.std.specs.Prelude.{◌≡◌, ◌↔◌, Contains, OnErr, OnOk, Some, map};
 ghost use Rattle.std.specs.String.{string_bytes};
-ghost use Rattle.pva_outside.specs.Count.{Rose};
+ghost use Rattle.pva_outside.specs.Count.{RoseByOne};
 ghost use Rattle.pva_outside.specs.Files.{one_more};
 ghost use Rattle.pva_outside.specs.Makers.{MakerView, IsMade};
 ghost use Rattle.pva_outside.specs.MemoryPort.{memory_port, new_port, failing_drives};
@@ -94,7 +94,7 @@ impl PortMaker for MemoryPorts {
 
     fn make(&mut self, alloc: Global, path: &str) -> PortStep<MemoryPort>
         ensures step { IsMade (memory_maker self.old) (memory_maker self.new) result path.now }
-        ensures counted { Rose (maker_calls self.old) (maker_calls self.new) }
+        ensures counted { RoseByOne (maker_calls self.old) (maker_calls self.new) }
         ensures failing { failing_makes self.new ≡ failing_makes self.old }
         ensures drives { drives_to_fail self.new ≡ drives_to_fail self.old }
         ensures fails { result ≡ PortStep.Failed → Contains (failing_makes self.old) (maker_calls self.new) }

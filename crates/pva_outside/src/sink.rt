@@ -1,6 +1,6 @@
 // Where a program prints: the trait, the sink over a writer, and the sink in memory.
 ghost use Rattle.std.specs.Prelude.{◌≡◌, ◌<◌, ◌↔◌, ℕ, List, [], Option, Some, Contains, length};
-ghost use Rattle.pva_outside.specs.Count.{Rose};
+ghost use Rattle.pva_outside.specs.Count.{RoseByOne};
 ghost use Rattle.pva_outside.specs.Sinks.{Sinks};
 
 use crate::count::raise;
@@ -125,7 +125,7 @@ impl Sink for MemorySink {
     fn write(&mut self, bytes: &[u8]) -> SinkStep
         requires { 0 < length bytes.now }
         ensures step { Sinks (Some (sink_bytes self.old)) (Some (sink_bytes self.new)) (sink_faults self.old) (sink_faults self.new) result bytes.now }
-        ensures counted { Rose (sink_calls self.old) (sink_calls self.new) }
+        ensures counted { RoseByOne (sink_calls self.old) (sink_calls self.new) }
         ensures failing { failing_calls self.new ≡ failing_calls self.old }
         ensures fails { (result ≡ SinkStep.Failed) ↔ Contains (failing_calls self.old) (sink_calls self.new) }
         ensures all { (n : ℕ) → result ≡ SinkStep.Took n → n ≡ length bytes.now }

@@ -1,16 +1,13 @@
 // The files of the system.
-ghost use Rattle.std.specs.Prelude.{◌≡◌, ◌≤◌, length};
-ghost use Rattle.pva_outside.specs.Files.{IsRead};
+ghost use Rattle.std.specs.Prelude.{◌≡◌};
 
 use crate::count::raise;
+use crate::files::MOST;
 use crate::refusal::{Refusal, refusal_of};
 use crate::{FileStep, Files};
 use std::alloc::{AllocGlobal, Global};
 use std::io::Read;
 use std::{fs, io, rt};
-
-/// How many bytes a file may have.
-const MOST: usize = 1_048_576;
 
 /// The files of the system, by their paths. An error of kind `OutOfMemory` is `NoMemory`, and every other is a fault, a file of
 /// more than 1,048,576 bytes too. They tell neither contents nor names.
@@ -44,10 +41,7 @@ impl<R: rt::Files + Drop> Files for SystemFiles<R> {
 
     ghost files = { system_files };
 
-    fn read(&mut self, alloc: Global, name: &str) -> FileStep
-        ensures step { IsRead (system_files self.old) (system_files self.new) result name.now }
-        ensures most { (bytes : _) → result ≡ FileStep.Got bytes → length bytes.items ≤ 1_048_576 }
-    {
+    fn read(&mut self, alloc: Global, name: &str) -> FileStep {
         match self.begin(alloc, name) {
             Ok(bytes) if bytes.len() <= MOST => FileStep::Got(bytes),
             Ok(_) => {

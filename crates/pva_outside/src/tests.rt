@@ -297,11 +297,28 @@ fn a_memory_port_counts_its_drives_and_fails_at_those_that_are_to_fail(
     Ok(())
 }
 
+// A writer over a script whose calls are all that the script has.
+fn moving(alloc: Global, counts: &[usize]) -> Result<Script, Fail> {
+    let mut acts = Vec::new(alloc);
+    for count in counts {
+        acts.push(Act::Move(*count))?;
+    }
+    Ok(Script::new(acts))
+}
+
 #[test]
-fn a_writer_port_takes_texts(rt: HostRuntime) -> Result<(), Fail> {
-    let mut port = WriterPort::new(Vec::new(rt.alloc()));
+fn a_writer_port_hands_a_short_line_on_as_one(rt: HostRuntime) -> Result<(), Fail> {
+    // A text of 127 bytes and its line feed are one call, and the call behind the script takes nothing.
+    let mut port = WriterPort::new(moving(rt.alloc(), &[128])?);
+    assert_eq!(rt; port.drive(&[b'a'; 127]), DriveStep::Drove);
+    assert_eq!(rt; port.drive(b""), DriveStep::Failed);
+    // What a writer took in part is gone on with.
+    let mut port = WriterPort::new(moving(rt.alloc(), &[1, 1, 1])?);
     assert_eq!(rt; port.drive(b"7"), DriveStep::Drove);
     assert_eq!(rt; port.drive(b""), DriveStep::Drove);
+    // A longer text is followed by its line feed.
+    let mut port = WriterPort::new(moving(rt.alloc(), &[128, 1])?);
+    assert_eq!(rt; port.drive(&[b'a'; 128]), DriveStep::Drove);
     Ok(())
 }
 
@@ -348,6 +365,20 @@ fn files_in_memory_are_read_by_name_but_at_the_calls_that_are_to_fail(
     }
     assert_eq!(rt; files.asked().len(), 4);
     assert_eq!(rt; files.asked()[1].as_str(), "c.db");
+    Ok(())
+}
+
+#[test]
+fn files_in_memory_have_a_longest_length(rt: HostRuntime) -> Result<(), Fail> {
+    let alloc = rt.alloc();
+    let bytes = vec![in alloc; 7u8; 1_048_577]?;
+    let held = vec![in alloc;
+        file(alloc, "most", &bytes[1..])?,
+        file(alloc, "more", &bytes)?,
+    ]?;
+    let mut files = MemoryFiles::new(alloc, held, Vec::new(alloc));
+    assert_eq!(rt; length_of(&mut files, alloc, "most"), Some(1_048_576));
+    assert_eq!(rt; length_of(&mut files, alloc, "more"), None);
     Ok(())
 }
 

@@ -33,6 +33,7 @@ built macros bytes site utf8 is = record { utf8 = utf8; builds = is }
 pub unbuilt : (macros : Macros) (bytes : List ℕ) (fault : SiteFault) (stop : SourceStop) → IsUtf8 bytes → Builds macros bytes (Err fault) → stop ≡ stop_at fault → BytesGive macros bytes (Err stop)
 unbuilt macros bytes faults.NoMemory stop utf8 is same = subst (λ (s : SourceStop). BytesGive macros bytes (Err s)) (sym same) tt
 unbuilt macros bytes (faults.Load fault) stop utf8 is same = subst (λ (s : SourceStop). BytesGive macros bytes (Err s)) (sym same) (inl (record { utf8 = utf8; builds = is }))
+unbuilt macros bytes (faults.Group fault) stop utf8 is same = subst (λ (s : SourceStop). BytesGive macros bytes (Err s)) (sym same) (inl (record { utf8 = utf8; builds = is }))
 unbuilt macros bytes (faults.Build name fault) stop utf8 is same = subst (λ (s : SourceStop). BytesGive macros bytes (Err s)) (sym same) (inl (record { utf8 = utf8; builds = is }))
 
 pub file_gives : (macros : Macros) (old new : FilesView) (name bytes : List ℕ) (r : Result SiteData SourceStop) → HasRead old new name bytes → BytesGive macros bytes r → Opens macros (file name) old new r

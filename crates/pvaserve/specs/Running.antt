@@ -130,7 +130,7 @@ Tells line whole old new faults faults' status =
 
 -- What `--check` makes of its source.
 abbrev pub Checking : Result SiteData SourceStop → Option (List ℕ) → Option (List ℕ) → ℕ → ℕ → ℕ → Type 0
-Checking (Ok site) old new faults faults' status = Tells (counts_line (length site.names)) 0 old new faults faults' status
+Checking (Ok site) old new faults faults' status = Tells (counts_line (length site.names) (length site.groups)) 0 old new faults faults' status
 Checking (Err Unread) old new faults faults' status = IsSilent old new faults faults' status 3
 Checking (Err (Fault fault)) old new faults faults' status = Tells (fault_line fault) 4 old new faults faults' status
 Checking (Err NoMemory) old new faults faults' status = IsSilent old new faults faults' status 7

@@ -9,6 +9,10 @@ use Rattle.db_load.specs.declared.fault.LoadFault.{LoadFault}
 use Rattle.db_load.specs.declared.fault.LoadFault.TheVariants as loads
 use Rattle.rec_kinds.specs.declared.fault.BuildFault.{BuildFault}
 use Rattle.rec_kinds.specs.declared.fault.BuildFault.TheVariants as builds
+use Rattle.pvd_type.specs.declared.checking.TypeFault.{TypeFault}
+use Rattle.pvd_type.specs.declared.checking.TypeFault.TheVariants as types
+use Rattle.group_defs.specs.declared.fault.GroupFault.{GroupFault}
+use Rattle.group_defs.specs.declared.fault.GroupFault.TheVariants as definitions
 use Rattle.desk_api.specs.declared.fault.SiteFault.{SiteFault}
 use Rattle.desk_api.specs.declared.fault.SiteFault.TheVariants as faults
 use Rattle.pvaserve.specs.declared.telling.Place.{Place as PlaceRead}
@@ -43,14 +47,35 @@ place_in_build (builds.BadLength field) = (field.line, codes "BadLength")
 place_in_build (builds.BadPort field) = (field.line, codes "BadPort")
 place_in_build builds.NoMemory = (0, codes "NoMemory")
 
+-- A group's fault has no line.
+
+abbrev pub place_in_type : TypeFault → ℕ × List ℕ
+place_in_type types.TooDeep = (0, codes "TooDeep")
+place_in_type types.TooMany = (0, codes "TooMany")
+place_in_type types.EmptyName = (0, codes "EmptyName")
+place_in_type types.SameName = (0, codes "SameName")
+place_in_type types.NoMemory = (0, codes "NoMemory")
+
+abbrev pub place_in_group : GroupFault → ℕ × List ℕ
+place_in_group (definitions.BadJson name) = (0, codes "BadJson")
+place_in_group (definitions.UnknownKey name) = (0, codes "UnknownKey")
+place_in_group (definitions.SameMember name) = (0, codes "SameMember")
+place_in_group (definitions.UnknownTrigger name) = (0, codes "UnknownTrigger")
+place_in_group (definitions.NameTaken name) = (0, codes "NameTaken")
+place_in_group (definitions.BadMember name) = (0, codes "BadMember")
+place_in_group (definitions.Shape fault) = place_in_type fault
+place_in_group (definitions.TooMany found) = (0, codes "TooMany")
+place_in_group definitions.NoMemory = (0, codes "NoMemory")
+
 abbrev pub place_of : SiteFault → ℕ × List ℕ
 place_of (faults.Load fault) = place_in_load fault
 place_of (faults.Build name fault) = place_in_build fault
+place_of (faults.Group fault) = place_in_group fault
 place_of faults.NoMemory = (0, codes "NoMemory")
 
--- the line about a site of so many records
-abbrev pub counts_line : ℕ → List ℕ
-counts_line records = decimal records ++ codes " records, 0 groups\n"
+-- the line about a site of so many records and groups
+abbrev pub counts_line : ℕ → ℕ → List ℕ
+counts_line records groups = decimal records ++ (codes " records, " ++ (decimal groups ++ codes " groups\n"))
 
 -- the line about a fault
 abbrev pub fault_line : SiteFault → List ℕ

@@ -28,7 +28,7 @@ Usage: pvaserve --inetd SOURCE [OPTIONS]
        pvaserve --check SOURCE [--macros A=1,B=2]
 
 --inetd         serves one connection over standard input and output, from its greeting to its end
---check         prints how many records SOURCE has, or the line where it is wrong, and why
+--check         prints how many records and groups SOURCE has, or the line where it is wrong (0 where that has none), and why
 SOURCE          the file of a database text, or NAME=VALUE: one longout and the decimal value that it opens with
 --macros LIST   what $(A) and $(B) stand for in the text, as A=1,B=2; of two values of one name the last counts
 --big           answers in big endian
@@ -50,7 +50,8 @@ Check it, then serve it to a client that inetd or systemd connects:
     pvaserve --inetd slide.db --macros P=BL:M1
 
 The channels are then BL:M1:Pos, which is BL:M1:Pos.VAL too, and BL:M1:Pos.DESC. A put of 6000 gives BL:M1:Pos
-the alarm HIHI. A record with field(DTYP, \"File\") and field(OUT, \"@file PATH\") appends each value to PATH.
+the alarm HIHI. A record with field(DTYP, \"File\") and field(OUT, \"@file PATH\") appends each value to PATH. Records
+are members of a group, which is a channel too, by info(Q:group, {..}), as the QSRV manual has it.
 
 Status: 0 done; 2 words that aren't taken; 3 a file can't be read, or a port's can't be opened; 4 the text is wrong;
 5 the client's stream is wrong, or asks for what isn't served yet; 6 the connection or a print failed; 7 no memory;

@@ -116,7 +116,7 @@ fn status_by(whole: u8, printed: Printed) -> u8
 
 /// Prints what a site has.
 fn tell_site<S: Sink>(alloc: Global, site: &Site, sink: &mut S) -> u8
-    ensures { Tells (counts_line (length site.now.names)) 0 (S.written sink.old) (S.written sink.new) (S.faults sink.old) (S.faults sink.new) result }
+    ensures { Tells (counts_line (length site.now.names) (length site.now.groups)) 0 (S.written sink.old) (S.written sink.new) (S.faults sink.old) (S.faults sink.new) result }
 {
     let Ok(line) = line_of_site(alloc, site) else {
         return Status::NoMemory as u8;

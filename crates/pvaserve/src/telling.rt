@@ -1,12 +1,14 @@
 // What `--check` says of a source.
 ghost use Rattle.std.specs.Prelude.{◌≡◌, IfOk, codes, length};
 ghost use Rattle.std.specs.String.{string_bytes};
-ghost use Rattle.pvaserve.specs.Telling.{IsPrinted, counts_line, fault_line, place_in_text, place_in_load, place_in_build, place_of, place_told};
+ghost use Rattle.pvaserve.specs.Telling.{IsPrinted, counts_line, fault_line, place_in_build, place_in_group, place_in_load, place_in_text, place_in_type, place_of, place_told};
 
 use db_load::LoadFault;
 use db_text::TextFault;
 use desk_api::{Site, SiteFault};
+use group_defs::GroupFault;
 use pva_outside::{Sink, SinkStep};
+use pvd_type::TypeFault;
 use rec_kinds::BuildFault;
 use std::alloc::{AllocError, Global};
 
@@ -104,6 +106,38 @@ fn place_in_build(fault: &BuildFault) -> Place
     }
 }
 
+/// The name of the fault of a type, which has no line.
+fn place_in_type(fault: &TypeFault) -> Place
+    ensures { place_told result ≡ place_in_type fault.now }
+{
+    let name = match fault {
+        TypeFault::TooDeep => "TooDeep",
+        TypeFault::TooMany => "TooMany",
+        TypeFault::EmptyName => "EmptyName",
+        TypeFault::SameName => "SameName",
+        TypeFault::NoMemory => "NoMemory",
+    };
+    Place { line: 0, name }
+}
+
+/// The name of the fault of a group, which has no line.
+fn place_in_group(fault: &GroupFault) -> Place
+    ensures { place_told result ≡ place_in_group fault.now }
+{
+    let name = match fault {
+        GroupFault::BadJson(_) => "BadJson",
+        GroupFault::UnknownKey(_) => "UnknownKey",
+        GroupFault::SameMember(_) => "SameMember",
+        GroupFault::UnknownTrigger(_) => "UnknownTrigger",
+        GroupFault::NameTaken(_) => "NameTaken",
+        GroupFault::BadMember(_) => "BadMember",
+        GroupFault::Shape(fault) => return place_in_type(fault),
+        GroupFault::TooMany(_) => "TooMany",
+        GroupFault::NoMemory => "NoMemory",
+    };
+    Place { line: 0, name }
+}
+
 /// Where a fault of a site stands, by its innermost variant.
 fn place_of(fault: &SiteFault) -> Place
     ensures { place_told result ≡ place_of fault.now }
@@ -111,6 +145,7 @@ fn place_of(fault: &SiteFault) -> Place
     match fault {
         SiteFault::Load(fault) => place_in_load(fault),
         SiteFault::Build(_, fault) => place_in_build(fault),
+        SiteFault::Group(fault) => place_in_group(fault),
         SiteFault::NoMemory => Place {
             line: 0,
             name: "NoMemory",
@@ -120,10 +155,11 @@ fn place_of(fault: &SiteFault) -> Place
 
 /// The line that says what a site has.
 pub fn line_of_site(alloc: Global, site: &Site) -> Result<String, AllocError>
-    ensures { IfOk result (λ line. string_bytes line ≡ counts_line (length site.now.names)) }
+    ensures { IfOk result (λ line. string_bytes line ≡ counts_line (length site.now.names) (length site.now.groups)) }
 {
     let records = site.records();
-    format!(in alloc; "{records} records, 0 groups\n")
+    let groups = site.groups();
+    format!(in alloc; "{records} records, {groups} groups\n")
 }
 
 /// The line that says where a text is wrong.

@@ -356,8 +356,85 @@ fn pieces_of_one_byte_between_idle_calls_are_answered_the_same(
     Ok(())
 }
 
+/// Two records of a motor slide and a group of them, whose names begin with a macro.
+const TEMPLATE: &[u8] = b"# motor slice
+record(longout, \"$(P):Pos\") {
+  field(DESC, \"Position of $(NAME=the slide)\")
+  field(EGU, \"um\") field(SCAN, \"Passive\") field(VAL, \"1200\")
+  field(HIHI, \"5000\") field(HHSV, \"MAJOR\")
+  info(Q:group, { \"$(P):G\": {
+    \"pos\": {+channel:\"VAL\", +type:\"plain\", +putorder:1, +trigger:\"*\"},
+    \"\": {+channel:\"VAL\", +type:\"meta\"} } })
+}
+record(mbbo, \"$(P):Mode\") {
+  field(ZRST, \"Hold\") field(ONST, \"Move\") field(VAL, \"0\")
+  info(Q:group, { \"$(P):G\": { \"mode\": {+channel:\"VAL\", +putorder:0, +trigger:\"\"} } })
+}
+";
+
 /// A text that is checked: whether it is a site, and what is printed.
-const CHECKED: [(&[u8], u8, &[u8]); 7] = [
+const CHECKED: [(&[u8], u8, &[u8]); 18] = [
+    (TEMPLATE, 0, b"2 records, 1 groups\n"),
+    // the text of a group is no JSON
+    (
+        b"record(bo, A) { info(Q:group, \"x\") }",
+        4,
+        b"line 0: BadJson\n",
+    ),
+    // a key is none of QSRV's
+    (
+        b"record(bo, A) { info(Q:group, { \"G\": { \"a\": {+chanel:\"VAL\"} } }) }",
+        4,
+        b"line 0: UnknownKey\n",
+    ),
+    // a member is named by two records
+    (
+        b"record(bo, A) { info(Q:group, { \"G\": { \"a\": {+channel:\"VAL\"} } }) } record(bo, B) { info(Q:group, { \"G\": { \"a\": {+channel:\"VAL\"} } }) }",
+        4,
+        b"line 0: SameMember\n",
+    ),
+    // a member has the name of what `meta` places at the top
+    (
+        b"record(bo, A) { info(Q:group, { \"G\": { \"\": {+channel:\"VAL\", +type:\"meta\"}, \"alarm\": {+channel:\"VAL\"} } }) }",
+        4,
+        b"line 0: SameMember\n",
+    ),
+    // a member triggers one that isn't there
+    (
+        b"record(bo, A) { info(Q:group, { \"G\": { \"a\": {+channel:\"VAL\", +trigger:\"b\"} } }) }",
+        4,
+        b"line 0: UnknownTrigger\n",
+    ),
+    // a group has the name of a record's channel
+    (
+        b"record(bo, A) { info(Q:group, { \"A.DESC\": { \"a\": {+channel:\"VAL\"} } }) }",
+        4,
+        b"line 0: NameTaken\n",
+    ),
+    // a member has no channel
+    (
+        b"record(bo, A) { info(Q:group, { \"G\": { \"a\": {+type:\"plain\"} } }) }",
+        4,
+        b"line 0: BadMember\n",
+    ),
+    // a member stands below one that is no structure
+    (
+        b"record(bo, A) { info(Q:group, { \"G\": { \"a\": {+channel:\"VAL\"}, \"a.b\": {+channel:\"VAL\"} } }) }",
+        4,
+        b"line 0: BadMember\n",
+    ),
+    // a member stands on level 33
+    (
+        b"record(bo, A) { info(Q:group, { \"G\": { \"a.a.a.a.a.a.a.a.a.a.a.a.a.a.a.a.a.a.a.a.a.a.a.a.a.a.a.a.a.a.a.a\": {+channel:\"VAL\", +type:\"plain\"} } }) }",
+        4,
+        b"line 0: TooDeep\n",
+    ),
+    // a fault of a record stands before one of a group
+    (
+        b"record(bo, A) { info(Q:group, \"x\") }\nrecord(bo, B) { field(VAL, \"2\") }",
+        4,
+        b"line 2: BadNumber\n",
+    ),
     (
         b"record(longin, \"A\") { field(VAL, \"0x10\") }",
         0,
@@ -387,12 +464,53 @@ const CHECKED: [(&[u8], u8, &[u8]); 7] = [
 fn a_text_is_checked_and_no_port_is_made(rt: HostRuntime) -> Result<(), Fail> {
     let alloc = rt.alloc();
     for (text, status, printed) in CHECKED {
-        let words = ["--check", "a.db", "--macros", "P=X.Y,P=B"];
+        let words = ["--check", "a.db", "--macros", "P=X.Y,P=BL:M1"];
         let outcome = outcome_of(alloc, &words, text, &[], &[1], &[], &[])?;
         assert_eq!(rt; outcome.status, status);
         assert_eq!(rt; outcome.printed.as_slice(), printed);
         assert_eq!(rt; outcome.written.as_slice(), b"".as_slice());
         assert_eq!(rt; outcome.ports, 0);
+    }
+    Ok(())
+}
+
+#[test]
+fn a_template_without_its_macro(rt: HostRuntime) -> Result<(), Fail> {
+    let alloc = rt.alloc();
+    let outcome = outcome_of(alloc, &["--check", "a.db"], TEMPLATE, &[], &[], &[], &[])?;
+    assert_eq!(rt; outcome.status, 4);
+    assert_eq!(rt;
+        outcome.printed.as_slice(),
+        b"line 2: UnknownMacro\n".as_slice()
+    );
+    Ok(())
+}
+
+/// A record whose group has so many members, without a leaf.
+fn text_of_members(alloc: Global, count: u32) -> Result<String, AllocError> {
+    let mut text = String::from_str(
+        alloc,
+        "record(bo, A) { info(Q:group, { \"G\": { \"a\": {+channel:\"VAL\"}",
+    )?;
+    for number in 1..count {
+        text.push_str(format!(in alloc; ", \"m{number}\": {{+type:\"structure\"}}")?.as_str())?;
+    }
+    text.push_str("} }) }")?;
+    Ok(text)
+}
+
+#[test]
+fn groups_of_two_hundred_fifty_six_members_and_of_more(rt: HostRuntime) -> Result<(), Fail> {
+    let alloc = rt.alloc();
+    for (count, status, printed) in [
+        (256u32, 0, &b"1 records, 1 groups\n"[..]),
+        (257, 4, b"line 0: TooMany\n"),
+    ] {
+        let text = text_of_members(alloc, count)?;
+        let words = ["--check", "a.db"];
+        let outcome = outcome_of(alloc, &words, text.as_bytes(), &[], &[], &[], &[])?;
+        assert_eq!(rt; outcome.status, status);
+        assert_eq!(rt; outcome.printed.as_slice(), printed);
     }
     Ok(())
 }

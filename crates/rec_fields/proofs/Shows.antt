@@ -1,5 +1,5 @@
 -- What a record shows fits its type, and a put of it puts what the record holds.
-use Rattle.std.proofs.Common.{◌≡◌, ℕ, ◌<◌, ◌≤◌, ◌^◌, ◌==◌, ℤ, pos, negsuc, unsigned_abs, nat_lt, length, Bool, true, false, ◌&&◌, List, [], ◌∷◌, map, Option, None, Some, Err, if◌then◌else◌, refl, ap, ◌∙◌, arith}
+use Rattle.std.proofs.Common.{◌≡◌, ℕ, ◌<◌, ◌≤◌, ◌^◌, ◌==◌, ℤ, pos, negsuc, unsigned_abs, nat_lt, length, Bool, true, false, ◌&&◌, List, [], ◌∷◌, map, Option, None, Some, Err, if◌then◌else◌, Result, refl, sym, subst, ap, ◌∙◌, arith}
 use Rattle.std.specs.List.{list_all}
 use Rattle.std.specs.Prelude.{⊤}
 use Rattle.std.specs.FinSet.{FinSet, contains}
@@ -19,13 +19,15 @@ use Rattle.rec_kinds.specs.declared.element.Element.{Element}
 use Rattle.rec_kinds.specs.declared.element.Element.TheVariants as elements
 use Rattle.rec_kinds.specs.declared.datum.Datum.{Datum}
 use Rattle.rec_kinds.specs.declared.datum.Datum.TheVariants.{Num, Index, Text, Nums, Texts}
+use Rattle.rec_kinds.specs.declared.datum.Action.{Action}
 use Rattle.rec_kinds.specs.declared.put.PutRefusal.{PutRefusal}
 use Rattle.rec_kinds.specs.declared.put.PutRefusal.TheVariants.{IndexOutside, Disabled, NothingWritable}
 use Rattle.rec_kinds.specs.declared.state.RecState.{RecState}
 use Rattle.rec_fields.specs.Again.{MayBePutAgain, IsPutAgain}
-use Rattle.rec_fields.specs.Puts.{datum_in, value_in, action_for, put_of, taken_unless, value_leaf}
+use Rattle.rec_fields.specs.Puts.{datum_in, value_in, action_for, put_of, taken_unless, value_leaf, IsAction}
 use Rattle.rec_fields.specs.Shown.{three, datum_shown, value_shown, shown}
 use Rattle.rec_fields.specs.Types.{tree_of, record_tree}
+use Rattle.rec_fields.specs.declared.puts.FieldAnswer.{FieldAnswer}
 use Rattle.rec_fields.specs.declared.puts.FieldAnswer.TheVariants.{Refused}
 
 -- an alarm and a time stamp of any numbers
@@ -168,6 +170,12 @@ pub put_at : (config : Config) (value : Data) (mask : FinSet nat_cmp) (d : Datum
 put_at config value mask d r marked is refused =
     ap (λ b. if b then put_of config (datum_in (value_in value)) else Err (Refused NothingWritable)) marked
     ∙ (ap (put_of config) is ∙ ap (λ (q : Option PutRefusal). taken_unless q d) refused)
+
+-- a put that is checked is what the put does
+pub is_action : (config : Config) (value : Data) (mask : FinSet nat_cmp) (d : Datum) (r : Option PutRefusal) (answer : Result Action FieldAnswer) →
+    action_for config value mask ≡ taken_unless r d → answer ≡ taken_unless r d → IsAction config value mask answer
+is_action config value mask d None answer e h = subst (IsAction config value mask) (sym h) e
+is_action config value mask d (Some r) answer e h = subst (IsAction config value mask) (sym h) e
 
 pub again : (config : Config) (state : RecState) (mask : FinSet nat_cmp) → MayBePutAgain config state mask → IsPutAgain config state mask
 again config state mask m = record {

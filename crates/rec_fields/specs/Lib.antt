@@ -3,3 +3,4 @@ pub mod Shown
 pub mod Puts
 pub mod Given
 pub mod Again
+pub mod Plain

@@ -1,5 +1,6 @@
 // The data that values bring.
 ghost use Rattle.std.specs.Prelude.{◌≡◌, true, IfOk, IfSome, Some};
+ghost use Rattle.std.specs.Option.{option_and_then};
 ghost use Rattle.pvd_value.specs.Data.{members};
 ghost use Rattle.pvd_value.specs.Fits.{element_of};
 ghost use Rattle.pvd_value.specs.View.{view, items_view, row_view};
@@ -77,6 +78,14 @@ fn index_datum(values: &[PvValue]) -> Option<Datum>
     ensures sort { IfSome result (λ d. is_of (sort_in (members (row_view values.now))) d ≡ true) }
 {
     index_of_number(first_number(values)?)
+}
+
+/// The index that a number is.
+pub(crate) fn index_of_leaf(leaf: &PvValue) -> Option<Datum>
+    ensures same { result ≡ option_and_then index_of (int_in (view leaf.now)) }
+    ensures sort { IfSome result (λ d. is_of index d ≡ true) }
+{
+    index_of_number(int_of(leaf)?)
 }
 
 /// The number that stands first.

@@ -2,10 +2,11 @@
 ghost use Rattle.std.specs.Prelude.{◌≡◌, ◌<◌, pos, IfOk};
 ghost use Rattle.pvd_value.specs.Data.{single, int, long, text};
 ghost use Rattle.pvd_value.specs.View.{view};
-ghost use Rattle.rec_fields.specs.Shown.{three};
+ghost use Rattle.rec_fields.specs.Shown.{three, alarm_shown, time_shown};
 
 use pvd_type::{Name, NoMemory};
 use pvd_value::PvValue;
+use rec_kinds::RecState;
 use std::alloc::Global;
 
 /// A structure of three values.
@@ -18,6 +19,26 @@ pub(crate) fn three_of(
     ensures { IfOk result (λ v. view v ≡ three (view a) (view b) (view c)) }
 {
     Ok(PvValue::Struct(vec![in alloc; a, b, c]?))
+}
+
+/// The alarm that a record shows of a state.
+pub fn alarm_view(alloc: Global, state: &RecState) -> Result<PvValue, NoMemory>
+    ensures { IfOk result (λ v. view v ≡ alarm_shown state.now) }
+{
+    alarm_of(
+        alloc,
+        state.severity.number(),
+        state.status.number(),
+        state.message.as_str(),
+    )
+}
+
+/// The time stamp that a record shows of a state.
+pub fn time_view(alloc: Global, state: &RecState) -> Result<PvValue, NoMemory>
+    ensures { IfOk result (λ v. view v ≡ time_shown state.now) }
+{
+    let moment = &state.moment;
+    time_of(alloc, moment.seconds(), moment.nanoseconds(), state.tag)
 }
 
 /// An alarm.

@@ -2,15 +2,15 @@
 ghost use Rattle.std.specs.Prelude.{◌≡◌, true, IfOk};
 ghost use Rattle.pvd_value.specs.Fits.{fits_of};
 ghost use Rattle.pvd_value.specs.View.{view};
-ghost use Rattle.rec_kinds.specs.Validity.{MayBeDone};
-ghost use Rattle.rec_fields.specs.Puts.{IsAction, value_leaf, outside};
+ghost use Rattle.rec_kinds.specs.Validity.{IsOfSort, MayBeDone, refusal};
+ghost use Rattle.rec_fields.specs.Puts.{IsAction, value_leaf, outside, taken_unless};
 ghost use Rattle.rec_fields.specs.Types.{record_tree};
 ghost use Rattle.rec_fields.specs.declared.puts.FieldAnswer.TheVariants.{NoMemory as TheNoMemory};
 
 use crate::datum::{datum_of, first_of};
 use pvd_type::{BitSet, NoMemory};
 use pvd_value::PvValue;
-use rec_kinds::{Action, Kind, PutRefusal, RecConfig, check_put};
+use rec_kinds::{Action, Datum, Kind, PutRefusal, RecConfig, check_put};
 use std::alloc::Global;
 
 /// Why a put of a value gives no action.
@@ -49,6 +49,15 @@ pub fn action_of(
     let Some(datum) = datum_of(alloc, first_of(value))? else {
         return Err(FieldAnswer::Refused(index_refusal(config)));
     };
+    checked(config, datum)
+}
+
+/// The put of a datum, if the record takes it.
+pub(crate) fn checked(config: &RecConfig, datum: Datum) -> Result<Action, FieldAnswer>
+    requires { IsOfSort config.now datum }
+    ensures answer { result ≡ taken_unless (refusal config.now datum) datum }
+    ensures may { IfOk result (MayBeDone config.now) }
+{
     match check_put(config, &datum) {
         Ok(()) => Ok(Action::Put(datum)),
         Err(refusal) => Err(FieldAnswer::Refused(refusal)),
@@ -56,7 +65,7 @@ pub fn action_of(
 }
 
 /// Why an index outside 16 bits is refused.
-fn index_refusal(config: &RecConfig) -> PutRefusal
+pub(crate) fn index_refusal(config: &RecConfig) -> PutRefusal
     ensures { FieldAnswer.Refused result ≡ outside config.now }
 {
     if config.is_disabled() {

@@ -9,7 +9,7 @@ ghost use Rattle.rec_fields.specs.Shown.{shown, value_shown, number_shown, numbe
 ghost use Rattle.rec_fields.specs.Types.{record_tree};
 
 use crate::numbers::narrowed;
-use crate::parts::{alarm_of, three_of, time_of};
+use crate::parts::{alarm_view, three_of, time_view};
 use pvd_type::{Name, NoMemory};
 use pvd_value::{Items, PvValue};
 use rec_kinds::{Datum, Element, Kind, RecConfig, RecState};
@@ -23,20 +23,18 @@ pub fn view(alloc: Global, config: &RecConfig, state: &RecState) -> Result<PvVal
     ensures fits { IfOk result (λ v. fits_of 16 (view v) (record_tree config.now) ≡ true) }
 {
     let value = value_of(alloc, config, &state.datum)?;
-    let alarm = alarm_of(
-        alloc,
-        state.severity.number(),
-        state.status.number(),
-        state.message.as_str(),
-    )?;
-    let moment = &state.moment;
-    let time = time_of(alloc, moment.seconds(), moment.nanoseconds(), state.tag)?;
+    let alarm = alarm_view(alloc, state)?;
+    let time = time_view(alloc, state)?;
     let whole = three_of(alloc, value, alarm, time)?;
     Ok(whole)
 }
 
 /// What a record holds.
-fn value_of(alloc: Global, config: &RecConfig, datum: &Datum) -> Result<PvValue, NoMemory>
+pub(crate) fn value_of(
+    alloc: Global,
+    config: &RecConfig,
+    datum: &Datum,
+) -> Result<PvValue, NoMemory>
     requires { suits config.now datum.now ≡ true }
     ensures { IfOk result (λ v. view v ≡ value_shown config.now datum.now) }
 {

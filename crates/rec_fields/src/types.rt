@@ -32,7 +32,7 @@ pub(crate) fn made(ty: Result<PvType, TypeFault>) -> Result<PvType, NoMemory>
 }
 
 /// The scalar type of a list's elements.
-fn scalar_for(element: Element) -> Scalar
+pub(crate) fn scalar_for(element: Element) -> Scalar
     ensures { result ≡ scalar_of element }
 {
     match element {

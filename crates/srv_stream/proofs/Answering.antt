@@ -8,17 +8,17 @@ use Rattle.pva_frames.specs.declared.event.Event.TheVariants.{Message}
 use Rattle.pvd_type.specs.declared.memory.NoMemory.{NoMemory}
 use Rattle.desk_api.proofs.Adding.{adds_nothing}
 use Rattle.desk_api.specs.declared.mark.Seat.{Seat}
-use Rattle.srv_stream.specs.Calls.{Shown, site_of, Handled, GaveUp, Responds, Stopped, Handles}
-use Rattle.srv_stream.specs.State.{State}
-use Rattle.srv_stream.specs.Steps.{IsStep, after_step, bytes_of, PartOf, NextPart}
-use Rattle.srv_stream.specs.Tasks.{Hearing, not_built, unreadable, heard}
+use Rattle.srv_session.specs.Calls.{Shown, site_of, Handled, GaveUp, Responds, Stopped, Handles}
+use Rattle.srv_session.specs.State.{State}
+use Rattle.srv_session.specs.Steps.{IsStep, after_step, bytes_of, PartOf, NextPart}
+use Rattle.srv_session.specs.Tasks.{Hearing, not_built, unreadable, heard}
 use Rattle.srv_stream.specs.Streams.{View, stop_at, stop_of, stop_as, AnsweredEvent, UnansweredEvent, PartOfEvent, AnswersEventErr, AnswersEvent, Passed, FedUpTo, FedPart, FedErr}
-use Rattle.srv_stream.specs.declared.task.SessionStop.{SessionStop}
-use Rattle.srv_stream.specs.declared.task.SessionStop.TheVariants as stops
+use Rattle.srv_session.specs.declared.stop.SessionStop.{SessionStop}
+use Rattle.srv_session.specs.declared.stop.SessionStop.TheVariants as stops
 use Rattle.srv_stream.specs.declared.ended.Ended.{Ended}
 use Rattle.srv_stream.specs.declared.ended.Ended.TheVariants as ends
 use Rattle.srv_stream.proofs.Passing.{passed_step, fed_stopped, fed_part}
-use Rattle.srv_stream.proofs.Rows.{no_next_part}
+use Rattle.srv_session.proofs.Rows.{no_next_part}
 use Rattle.srv_stream.proofs.Stopping.{event_stops}
 use Rattle.journal_core.specs.Moments.{Moment}
 
@@ -42,7 +42,7 @@ part_answered : (old new : Shown) (moment : Moment) (e : Event) (stream : Assemb
     → PartOfEvent old.seat new.seat moment (behind old stream) (behind new stream) e
 part_answered old new moment e stream x = record { marks = x.marks; part = x.part_is; adds = x.adds; moments = x.moments; out = x.output }
 
-unanswered : (old new : Shown) (m : Whole) (hearing : Hearing) (ended : Ended) (stream : Assembled) → Stopped old new (Message m) hearing → stop_at m hearing ≡ Some ended
+unanswered : (old new : Shown) (m : Whole) (hearing : Hearing) (ended : Ended) (stream : Assembled) → Stopped old new (heard (site_of old) old.state (Message m)) hearing → stop_at m hearing ≡ Some ended
     → UnansweredEvent old.seat new.seat (behind old stream) (behind new stream) (Message m) ended
 unanswered old new m hearing ended stream x is = record { seat = x.seat; stop = ap (stop_at m) x.heard_is ∙ is; out = x.output }
 

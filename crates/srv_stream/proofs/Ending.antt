@@ -16,9 +16,9 @@ use Rattle.desk_api.specs.History.{IsLegal}
 use Rattle.desk_api.specs.declared.history.SiteData.{SiteData}
 use Rattle.desk_api.specs.declared.mark.Mark.{Mark}
 use Rattle.desk_api.specs.declared.mark.Seat.{Seat}
-use Rattle.srv_stream.specs.State.{opening}
-use Rattle.srv_stream.specs.Rows.{greeting}
-use Rattle.srv_stream.specs.Steps.{Step, AreSteps, state_after, events_of, marks_of, out_of}
+use Rattle.srv_session.specs.State.{opening}
+use Rattle.srv_session.specs.Replies.{greeting}
+use Rattle.srv_session.specs.Steps.{Step, AreSteps, state_after, events_of, marks_of, out_of}
 use Rattle.srv_stream.specs.Streams.{refused, Stands, View}
 use Rattle.srv_stream.specs.Moves.{Moves}
 use Rattle.srv_stream.specs.Served.{Whole, IsProperPrefixOf, AtEnd, AtTrouble, AllAnswered, IsSmooth, Completes, HasCause, Served}
@@ -26,7 +26,7 @@ use Rattle.srv_stream.specs.declared.ended.Ended.{Ended}
 use Rattle.srv_stream.specs.declared.ended.Ended.TheVariants as ends
 use Rattle.srv_stream.proofs.Going.{Going, Idling, SawEnd}
 use Rattle.srv_stream.proofs.Moving.{moves_nothing, moves_rest}
-use Rattle.srv_stream.proofs.Rows.{no_next_part}
+use Rattle.srv_session.proofs.Rows.{no_next_part}
 use Rattle.srv_stream.proofs.Stopping.{is_stop, trouble_stops}
 use Rattle.journal_core.specs.Moments.{Moment}
 

@@ -19,16 +19,16 @@ use Rattle.desk_api.specs.declared.mark.Mark.{Mark}
 use Rattle.desk_api.specs.declared.mark.Mark.TheVariants.{Read, Entered, Overweight}
 use Rattle.desk_api.specs.declared.mark.Seat.{Seat}
 use Rattle.journal_core.specs.Moments.{Moment}
-use Rattle.srv_stream.specs.Calls.{Shown, site_of, Handled}
-use Rattle.srv_stream.specs.Hearings.{IsOf}
-use Rattle.srv_stream.specs.State.{State}
-use Rattle.srv_stream.specs.Steps.{Step, state_after, events_of, marks_of}
+use Rattle.srv_session.specs.Calls.{Shown, site_of, Handled}
+use Rattle.srv_session.specs.Calls.{IsOf}
+use Rattle.srv_session.specs.State.{State}
+use Rattle.srv_session.specs.Steps.{Step, state_after, events_of, marks_of}
 use Rattle.srv_stream.specs.Streams.{moment_told, is_sound, refused, Stands, Follows, View, Passed, FedOn, FedUpTo, FedPart, FedErr, Feeds}
 use Rattle.srv_stream.specs.declared.ended.Ended.{Ended}
 use Rattle.srv_stream.specs.declared.ended.Ended.TheVariants as ends
 use Rattle.srv_stream.proofs.Passing.{grown_on, grown, part_grows, passed_nothing, passed_fed, fed_on_more, fed_err}
 use Rattle.srv_stream.proofs.Resting.{sound_fed}
-use Rattle.srv_stream.proofs.Steps.{step_on_site, steps_on_site}
+use Rattle.srv_session.proofs.Steps.{step_on_site, steps_on_site}
 
 -- The session's channel stays one of the site.
 
@@ -36,8 +36,8 @@ pub passed_on_site : {old mid : Seat} {told : Option Moment} {v u : View} {xs : 
 passed_on_site {old} {mid} {told} {v} {u} {xs} a ok =
     subst (λ (z : Base). IsOf z.site u.state) (sym a.adds.grows.base) (subst (IsOf old.seen.base.site) (sym a.state) (steps_on_site old.seen.base.site v.state a.steps ok))
 
-pub handled_on_site : {old new : Shown} {moment : Moment} {e : Event} → Handled old new moment e → IsOf (site_of old) old.state → IsOf (site_of new) new.state
-handled_on_site {old} {new} {moment} {e} x ok =
+pub handled_on_site : {old new : Shown} {moment : Moment} (e : Event) → Handled old new moment e → IsOf (site_of old) old.state → IsOf (site_of new) new.state
+handled_on_site {old} {new} {moment} e x ok =
     let step : Step = record { event = e; marks = x.marks; sent = x.sent } in
     subst (λ (z : Base). IsOf z.site new.state) (sym x.adds.grows.base) (subst (IsOf (site_of old)) (sym x.state) (step_on_site (site_of old) old.state step ok))
 

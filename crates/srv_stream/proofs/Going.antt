@@ -8,9 +8,9 @@ use Rattle.pva_frames.specs.Assembled.{opening as unread, fed, rest_of}
 use Rattle.desk_api.specs.Calls.{Adds, HaveMoment}
 use Rattle.desk_api.specs.declared.history.SiteData.{SiteData}
 use Rattle.desk_api.specs.declared.mark.Seat.{Seat}
-use Rattle.srv_stream.specs.State.{opening}
-use Rattle.srv_stream.specs.Rows.{greeting}
-use Rattle.srv_stream.specs.Steps.{Step, state_after, marks_of, out_of}
+use Rattle.srv_session.specs.State.{opening}
+use Rattle.srv_session.specs.Replies.{greeting}
+use Rattle.srv_session.specs.Steps.{Step, state_after, marks_of, out_of}
 use Rattle.srv_stream.specs.Streams.{View, Follows}
 use Rattle.srv_stream.specs.Moves.{Moves, IsAll}
 use Rattle.srv_stream.specs.Served.{Settled}

@@ -19,10 +19,11 @@ use Rattle.desk_api.specs.declared.history.SiteData.{SiteData}
 use Rattle.desk_api.specs.declared.history.Base.{Base}
 use Rattle.desk_api.specs.declared.mark.Mark.{Mark}
 use Rattle.desk_api.specs.declared.mark.Seat.{Seat}
-use Rattle.srv_stream.specs.State.{State, opening}
-use Rattle.srv_stream.specs.Rows.{greeting}
-use Rattle.srv_stream.specs.Steps.{Step, state_after, events_of, marks_of, out_of}
-use Rattle.srv_stream.specs.Hearings.{IsOf}
+use Rattle.srv_session.specs.State.{State, opening}
+use Rattle.srv_session.specs.Replies.{greeting}
+use Rattle.srv_session.specs.Steps.{Step, state_after, events_of, marks_of, out_of}
+use Rattle.srv_session.specs.Calls.{IsOf}
+use Rattle.srv_session.proofs.OnSite.{opening_on_site}
 use Rattle.srv_stream.specs.Streams.{refused, Stands, Follows, View, Passed, FedOn, FedUpTo, FedPart, FedErr}
 use Rattle.srv_stream.specs.Views.{first_view}
 use Rattle.srv_stream.specs.Served.{Settled, Served}
@@ -32,8 +33,8 @@ use Rattle.srv_stream.proofs.Going.{Going, Idling, Keeps, SawEnd}
 use Rattle.srv_stream.proofs.Moving.{all_read, moves_nothing, moves_rest, moves_got, moves_took}
 use Rattle.srv_stream.proofs.Passing.{fed_on_more, fed_up_to_more, fed_part_more}
 use Rattle.srv_stream.proofs.Resting.{rests}
-use Rattle.srv_stream.proofs.Rows.{no_next_part}
-use Rattle.srv_stream.proofs.Steps.{marks_append, steps_on_site}
+use Rattle.srv_session.proofs.Rows.{no_next_part}
+use Rattle.srv_session.proofs.Steps.{marks_append, steps_on_site}
 use Rattle.journal_core.specs.Moments.{Moment}
 
 -- What is settled stays so.
@@ -373,7 +374,7 @@ is_no_output (x ∷ xs) ys b is f same = absurd (false≢true (sym (eqb-suc-zero
 -- the session's channel stays one of the site
 pub going_on_site : {old new : Seat} {start wire : Wire} {told : Option Moment} {order : Order} {v : View} {trouble : Option Ended} {at_end : Bool} {calls : ℕ} → Going old new start wire told order v trouble at_end calls → trouble ≡ None → IsOf new.seen.base.site v.state
 going_on_site {old} {new} {start} {wire} {told} {order} {v} a none =
-    subst (λ (z : Base). IsOf z.site v.state) (sym a.adds.grows.base) (subst (IsOf old.seen.base.site) (sym (a.keeps none).state) (steps_on_site old.seen.base.site (opening order) a.steps tt))
+    subst (λ (z : Base). IsOf z.site v.state) (sym a.adds.grows.base) (subst (IsOf old.seen.base.site) (sym (a.keeps none).state) (steps_on_site old.seen.base.site (opening order) a.steps (opening_on_site old.seen.base.site order)))
 
 -- a feeding that ended otherwise than for want of memory
 pub up_to_of : (old new : Seat) (told : Option Moment) (v w : View) (bytes : List ℕ) (ended : Ended) → (ended ≡ ends.NoMemory → ⊥) → FedErr old new told v w bytes ended → FedUpTo old new told v w bytes ended

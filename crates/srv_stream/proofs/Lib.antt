@@ -1,11 +1,4 @@
 mod Resting
-mod Rows
-mod Asking
-mod Heard
-mod Saying
-mod Replying
-mod Steps
-mod Handling
 mod Passing
 mod Feeding
 mod Moving

@@ -13,15 +13,15 @@ use Rattle.desk_api.specs.declared.history.SiteData.{SiteData}
 use Rattle.desk_api.specs.declared.history.Base.{Base}
 use Rattle.desk_api.specs.declared.mark.Mark.{Mark}
 use Rattle.desk_api.specs.declared.mark.Seat.{Seat}
-use Rattle.srv_stream.specs.State.{State}
-use Rattle.srv_stream.specs.Steps.{Step, bytes_of, after_step, IsStep, AreSteps, state_after, events_of, marks_of, out_of, NextPart}
+use Rattle.srv_session.specs.State.{State}
+use Rattle.srv_session.specs.Steps.{Step, bytes_of, after_step, IsStep, AreSteps, state_after, events_of, marks_of, out_of, NextPart}
 use Rattle.srv_stream.specs.Streams.{stop_of, refused, Stands, View, Passed, FedOn, FedUpTo, FedPart, FedErr, is_sound}
 use Rattle.srv_stream.specs.declared.ended.StreamFault.TheVariants as faults
 use Rattle.srv_stream.specs.declared.ended.Ended.{Ended}
 use Rattle.srv_stream.specs.declared.ended.Ended.TheVariants as ends
 use Rattle.srv_stream.proofs.Resting.{fed_on_append, rests}
-use Rattle.srv_stream.proofs.Rows.{no_next_part}
-use Rattle.srv_stream.proofs.Steps.{after_append, steps_append, events_append, marks_append, out_append}
+use Rattle.srv_session.proofs.Rows.{no_next_part}
+use Rattle.srv_session.proofs.Steps.{after_append, steps_append, events_append, marks_append, out_append}
 use Rattle.journal_core.specs.Moments.{Moment}
 
 -- what bytes bring, where the first of them are these events and what u stands for

@@ -7,8 +7,8 @@ use Rattle.pva_frames.specs.declared.event.Event.{Event}
 use Rattle.pva_frames.specs.declared.event.Event.TheVariants.{Message, Control}
 use Rattle.pva_frames.specs.declared.fault.FrameFault.{FrameFault}
 use Rattle.desk_api.specs.declared.history.SiteData.{SiteData}
-use Rattle.srv_stream.specs.State.{State}
-use Rattle.srv_stream.specs.Tasks.{Hearing, asks, not_built, unreadable, heard}
+use Rattle.srv_session.specs.State.{State}
+use Rattle.srv_session.specs.Tasks.{Hearing, asks, not_built, unreadable, heard}
 use Rattle.srv_stream.specs.Streams.{stop_at, stop_of, refused, Stands}
 use Rattle.srv_stream.specs.declared.ended.Ended.{Ended}
 use Rattle.srv_stream.specs.declared.ended.Ended.TheVariants as ends

@@ -9,13 +9,14 @@ use Rattle.pva_frames.specs.Messages.{left_from}
 use Rattle.pva_frames.specs.declared.event.Event.{Event}
 use Rattle.desk_api.specs.declared.history.SiteData.{SiteData}
 use Rattle.desk_api.specs.declared.mark.Mark.{Mark}
-use Rattle.srv_stream.specs.State.{opening}
-use Rattle.srv_stream.specs.Rows.{greeting}
+use Rattle.srv_session.specs.State.{opening}
+use Rattle.srv_session.specs.Replies.{greeting}
 use Rattle.srv_stream.specs.Served.{Dialogue, Whole, IsProperPrefixOf, DueRead}
 use Rattle.srv_stream.specs.Laws.{OneOutput, AnEndIsTold, ATroubleIsTold}
 use Rattle.srv_stream.specs.declared.ended.Ended.{Ended}
 use Rattle.srv_stream.specs.declared.ended.Ended.TheVariants as ends
-use Rattle.srv_stream.proofs.Determined.{same_out, same_trouble}
+use Rattle.srv_session.proofs.Determined.{same_out}
+use Rattle.srv_stream.proofs.Determined.{same_trouble}
 use Rattle.srv_stream.proofs.Stopping.{ended_in}
 
 -- its marks but for the endings, of which there are none so far

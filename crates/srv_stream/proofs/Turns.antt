@@ -6,9 +6,9 @@ use Rattle.pva_wire.specs.declared.order.Order.{Order}
 use Rattle.pva_frames.specs.Assembled.{opening as unread, fed, rest_of}
 use Rattle.desk_api.specs.History.{IsLegal}
 use Rattle.desk_api.specs.declared.mark.Seat.{Seat}
-use Rattle.srv_stream.specs.State.{opening}
-use Rattle.srv_stream.specs.Steps.{state_after}
-use Rattle.srv_stream.specs.Hearings.{IsOf}
+use Rattle.srv_session.specs.State.{opening}
+use Rattle.srv_session.specs.Steps.{state_after}
+use Rattle.srv_session.specs.Calls.{IsOf}
 use Rattle.srv_stream.specs.Streams.{View, Feeds}
 use Rattle.srv_stream.specs.Turning.{WritesSome, ReadsSome, Piece, piece_bytes, ReadEnd, ReadUpTo, IsOpen, over_by, ended_inside}
 use Rattle.srv_stream.specs.Views.{first_view}

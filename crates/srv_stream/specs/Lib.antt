@@ -1,9 +1,3 @@
-pub mod State
-pub mod Tasks
-pub mod Rows
-pub mod Steps
-pub mod Calls
-pub mod Hearings
 pub mod Streams
 pub mod Views
 pub mod Moves

@@ -11,9 +11,9 @@ use Rattle.desk_api.specs.Calls.{Adds, HaveMoment}
 use Rattle.desk_api.specs.declared.history.SiteData.{SiteData}
 use Rattle.desk_api.specs.declared.mark.Mark.{Mark}
 use Rattle.desk_api.specs.declared.mark.Seat.{Seat}
-use Rattle.srv_stream.specs.State.{opening}
-use Rattle.srv_stream.specs.Rows.{greeting}
-use Rattle.srv_stream.specs.Steps.{Step, AreSteps, state_after, events_of, marks_of, out_of, AreEndings, NextPart, after_next}
+use Rattle.srv_session.specs.State.{opening}
+use Rattle.srv_session.specs.Replies.{greeting}
+use Rattle.srv_session.specs.Steps.{Step, AreSteps, state_after, events_of, marks_of, out_of, AreEndings, NextPart, after_next}
 use Rattle.srv_stream.specs.Streams.{Stands, stop_of}
 use Rattle.srv_stream.specs.Moves.{Moves, IsAll}
 use Rattle.srv_stream.specs.declared.ended.Ended.{Ended}

@@ -13,11 +13,11 @@ use Rattle.desk_api.specs.Calls.{Adds, HaveMoment}
 use Rattle.desk_api.specs.declared.history.SiteData.{SiteData}
 use Rattle.desk_api.specs.declared.mark.Mark.{Mark}
 use Rattle.desk_api.specs.declared.mark.Seat.{Seat}
-use Rattle.srv_stream.specs.State.{State}
-use Rattle.srv_stream.specs.Tasks.{Hearing, asks, not_built, unreadable, heard}
-use Rattle.srv_stream.specs.Steps.{Step, bytes_of, after_step, IsStep, AreSteps, state_after, events_of, marks_of, out_of, PartOf, NextPart}
-use Rattle.srv_stream.specs.declared.task.SessionStop.{SessionStop}
-use Rattle.srv_stream.specs.declared.task.SessionStop.TheVariants as stops
+use Rattle.srv_session.specs.State.{State}
+use Rattle.srv_session.specs.Tasks.{Hearing, asks, not_built, unreadable, heard}
+use Rattle.srv_session.specs.Steps.{Step, bytes_of, after_step, IsStep, AreSteps, state_after, events_of, marks_of, out_of, PartOf, NextPart}
+use Rattle.srv_session.specs.declared.stop.SessionStop.{SessionStop}
+use Rattle.srv_session.specs.declared.stop.SessionStop.TheVariants as stops
 use Rattle.srv_stream.specs.declared.ended.StreamFault.TheVariants as faults
 use Rattle.srv_stream.specs.declared.ended.Ended.{Ended}
 use Rattle.srv_stream.specs.declared.ended.Ended.TheVariants as ends

@@ -1,15 +1,12 @@
 //! One connection, from the bytes that a client sends to those that the server answers.
 #![tactic(auto)]
 
-mod command;
 mod ended;
-mod hearing;
 mod laws;
-mod payloads;
 mod serve;
 mod serving;
-mod session;
-mod task;
+#[cfg(test)]
+mod session_tests;
 #[cfg(test)]
 mod tests;
 

@@ -1,7 +1,7 @@
 // One connection, from its greeting to its end.
 ghost use Rattle.std.specs.Prelude.{◌≡◌, ◌<◌, OnOk, length};
 ghost use Rattle.srv_stream.specs.Faults.{EndsAtFirstFault};
-ghost use Rattle.srv_stream.specs.Hearings.{IsOf};
+ghost use Rattle.srv_session.specs.Calls.{IsOf};
 ghost use Rattle.srv_stream.specs.Served.{Served};
 ghost use Rattle.srv_stream.specs.Streams.{Feeds, moment_told};
 ghost use Rattle.srv_stream.specs.Turning.{IsDue, WritesSome, ReadsSome, ended_inside, over_by};

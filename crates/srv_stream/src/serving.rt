@@ -4,15 +4,14 @@ ghost use Rattle.pva_frames.specs.Assembled.{rest_of};
 ghost use Rattle.pva_frames.specs.declared.event.Event.TheVariants.{Message};
 ghost use Rattle.pva_frames.specs.LentView.{whole_of};
 ghost use Rattle.srv_stream.specs.Streams.{is_sound, stop_as};
-ghost use Rattle.srv_stream.specs.declared.task.SessionStop.TheVariants as stops;
+ghost use Rattle.srv_session.specs.declared.stop.SessionStop.TheVariants as stops;
 
 use crate::ended::{Ended, StreamFault};
-use crate::session::Session;
-use crate::task::SessionStop;
 use desk_api::{Desk, Moment};
 use pva_frames::{Assembler, Event, Lent, Next};
 use pva_wire::Order;
 use pvd_type::NoMemory;
+use srv_session::{Session, SessionStop};
 use std::alloc::Global;
 
 /// The bytes of a header (pvAccess Protocol Specification, "Message Header").
@@ -38,7 +37,7 @@ pub struct Serving {
 }
 
 impl Serving {
-    ghost use Rattle.srv_stream.specs.Hearings.{IsOf};
+    ghost use Rattle.srv_session.specs.Calls.{IsOf};
     ghost use Rattle.srv_stream.specs.Streams.{Feeds, TakesSome, AnswersEvent};
     ghost use Rattle.srv_stream.specs.Views.{view_of, first_view};
 

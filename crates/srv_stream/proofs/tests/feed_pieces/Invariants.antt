@@ -1,4 +1,4 @@
-use Rattle.srv_stream.specs.Hearings.{IsOf}
+use Rattle.srv_session.specs.Calls.{IsOf}
 use Rattle.srv_stream.specs.Views.{view_of}
 use Rattle.srv_stream.proofs.tests.feed_pieces.Given as goal
 

@@ -2,6 +2,9 @@ use Rattle.std.specs.Prelude.{◌≡◌, String, ◌<◌, ℕ, List, length, map
 use Rattle.std.proofs.Common.{sym, ◌∙◌, ap, subst, arith, Global}
 use Rattle.std.proofs.lemmas.List.{length-map}
 use Rattle.db_load.specs.Forms.{is_among}
+use Rattle.rec_fields.specs.Types.{record_tree}
+use Rattle.rec_kinds.specs.Configs.{Config}
+use Rattle.rec_kinds.specs.Validity.{IsValid}
 use Rattle.desk_api.proofs.Recording.{Entries, data_of, AreKept, after_put, put_shows, kept_more}
 use Rattle.desk_api.specs.Records.{with_one}
 use Rattle.desk_api.specs.Sites.{is_record_name}
@@ -26,13 +29,16 @@ invariant_of-self c =
     let fresh = new_among es c.args.self.now _ _ c.self.view_is bytes c.requires.fresh in
     let named = subst (λ (n : List ℕ). IsTrue (is_record_name n)) (sym bytes) c.requires.named in
     let few = as_few es c.args.self.now c.self.view_is c.requires.few in
-    after_put c.put_in.result AreKept es _ _ _ fresh c.put_in.ensures.ok c.put_in.ensures.err c.self.invariant
-    (kept_more es _ _ c.self.invariant named c.requires.valid (c.in_ok-ty.ensures {u = tt}) few)
+    let own : c.in_ok-new.field-0.value ≡ c.args.config = (c.in_ok-new.ensures {u = tt}).ok in
+    let valid : IsValid c.in_ok-new.field-0.value c.args.opening = subst (λ (x : Config). IsValid x c.args.opening) (sym own) c.requires.valid in
+    let typed : c.in_ok-ty.ty ≡ record_tree c.in_ok-new.field-0.value = (c.in_ok-ty.ensures {u = tt}) ∙ ap record_tree (sym own) in
+    after_put c.put_in.result AreKept es _ _ _ fresh c.put_in.ensures.ok c.put_in.ensures.err c.self.invariant (kept_more es _ _ c.self.invariant named valid typed few)
 
 pub returns : goal.returns
 returns c =
     let es = c.self.inside.by_name.entries in
     let bytes : string_bytes c.in_ok-name.name ≡ c.args.name.now = (c.in_ok-name.ensures {u = tt}).ok in
     let fresh = new_among es c.args.self.now _ _ c.self.view_is bytes c.requires.fresh in
-    subst (λ (n : List ℕ). OnOk c.put_in.result (data_of c.put_in.new.records.entries ≡ with_one c.args.self.now n c.args.config c.args.opening)) bytes
+    let own : c.in_ok-new.field-0.value ≡ c.args.config = (c.in_ok-new.ensures {u = tt}).ok in
+    subst (λ (x : List ℕ × Config). OnOk c.put_in.result (data_of c.put_in.new.records.entries ≡ with_one c.args.self.now x.0 x.1 c.args.opening)) (λ i. (bytes i, own i))
     (put_shows c.put_in.result c.args.self.now es _ _ _ (sym c.self.view_is) fresh c.put_in.ensures.ok)

@@ -1,12 +1,12 @@
 use Rattle.std.specs.Prelude.{◌≡◌, ◌≤◌, ℕ, List, length, map, take, refl}
-use Rattle.std.proofs.Common.{sym, ◌∙◌, ap, subst, arith}
+use Rattle.std.proofs.Common.{sym, ◌∙◌, ap, arith}
 use Rattle.std.proofs.Math.Seq.{take-length}
 use Rattle.std.proofs.lemmas.List.{length-map, length-take}
 use Rattle.rec_kinds.specs.declared.record_text.RecText.{RecText}
 use Rattle.db_load.specs.Forms.{is_among}
 use Rattle.desk_api.proofs.Stating.{new_at, there, is_first, none_more, site_more}
 use Rattle.desk_api.specs.Loading.{first_fault}
-use Rattle.desk_api.specs.Sites.{site_of}
+use Rattle.desk_api.specs.Records.{records_of}
 use Rattle.desk_api.specs.declared.history.SiteData.{SiteData}
 use Rattle.desk_api.proofs.records.Records.of_texts.Goals as goal
 
@@ -52,4 +52,4 @@ returns-clause-ok c =
     let texts = c.args.texts.now in
     let end : c.loop-stated.stated-index ≡ length texts = omega (arith, c.loop-stated-test.false, c.loop-stated.auto.stated-index-end) in
     let whole : take c.loop-stated.stated-index texts ≡ texts = ap (λ (n : ℕ). take n texts) end ∙ take-length texts in
-    (ap first_fault (sym whole) ∙ c.loop-stated.invariant.0, c.loop-stated.invariant.1 ∙ ap site_of whole)
+    (ap first_fault (sym whole) ∙ c.loop-stated.invariant.0, c.loop-stated.invariant.1 ∙ ap records_of whole)

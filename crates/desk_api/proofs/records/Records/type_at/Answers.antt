@@ -1,5 +1,5 @@
 use Rattle.std.specs.Prelude.{◌≡◌, Some, slice_get}
-use Rattle.std.proofs.Common.{sym, ◌∙◌, ap, rules}
+use Rattle.std.proofs.Common.{◌∙◌, ap, rules}
 use Rattle.desk_api.proofs.Recording.{shows_type}
 use Rattle.desk_api.specs.Types.{type_shown}
 use Rattle.desk_api.specs.declared.history.SiteData.{SiteData}

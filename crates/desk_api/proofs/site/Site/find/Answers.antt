@@ -1,34 +1,22 @@
-use Rattle.std.specs.Prelude.{◌≡◌, ℕ, List, ◌++◌, codes, Option}
-use Rattle.std.specs.Str.Pattern.{FindsTextSuffix, StripsSuffix}
+use Rattle.std.specs.Prelude.{◌≡◌, ℕ, List, Option, Some, None, refl}
+use Rattle.std.specs.Option.{option_or}
 use Rattle.std.proofs.Common.{sym, ◌∙◌, ap}
-use Rattle.desk_api.proofs.Naming.{desc_found, val_found, own_found}
-use Rattle.desk_api.specs.Sites.{first_named, names_from, channel_named}
+use Rattle.group_view.specs.Groups.{GroupData}
+use Rattle.desk_api.proofs.Naming.{first_of_both}
+use Rattle.desk_api.specs.Records.{with_groups}
+use Rattle.desk_api.specs.Sites.{channel_named, first_named, group_names_from, names_from}
+use Rattle.desk_api.specs.declared.channel.Channel.{Channel}
 use Rattle.desk_api.specs.declared.history.SiteData.{SiteData}
 use Rattle.desk_api.proofs.site.Site.find.Goals as goal
 
--- what a name was before the suffix was taken off
-whole : (name suffix front : List ℕ) → StripsSuffix (FindsTextSuffix suffix) name front → name ≡ front ++ suffix
-whole name suffix front is = is.1.1 ∙ ap (λ (l : List ℕ). l ++ suffix) (sym is.2)
-
--- what a name stands for, of a site of these names
-named_as : (site records : SiteData) (name other : List ℕ) → records ≡ site → name ≡ other → first_named other (names_from 0 records.names) ≡ channel_named site name
-named_as site records name other same is = (λ i. first_named (sym is i) (names_from 0 (same i).names))
+-- what a name stands for of a site of these records and groups
+named : (site records : SiteData) (groups : List GroupData) (name : List ℕ) (found other : Option Channel) → with_groups records groups ≡ site → found ≡ first_named name (names_from 0 records.names)
+    → other ≡ first_named name (group_names_from 0 groups) → option_or found other ≡ channel_named site name
+named site records groups name found other is record_is group_is =
+    (λ i. option_or (record_is i) (group_is i)) ∙ sym (first_of_both name (names_from 0 records.names) (group_names_from 0 groups)) ∙ ap (λ (s : SiteData). channel_named s name) is
 
 pub returns-in-Some : goal.returns-in-Some
-returns-in-Some c =
-    let front = c.in-Some.record.now in
-    let is = whole c.args.name.now (codes ".DESC") front (c.in-Some.ensures {u = tt}).cases in
-    c.channel.ensures.found ∙ sym (desc_found 0 _ front c.channel.ensures.named) ∙ named_as c.args.self.now _ c.args.name.now _ c.self.view_is is
+returns-in-Some c = named c.args.self.now c.self.inside.records c.self.inside.groups c.args.name.now (Some c.in-Some.channel) _ c.self.view_is (sym c.in-Some.is ∙ c.find.ensures) refl
 
-pub returns-in-Some-strip_suffix : goal.returns-in-Some-strip_suffix
-returns-in-Some-strip_suffix c =
-    let front = c.in-Some-strip_suffix.record.now in
-    let is = whole c.args.name.now (codes ".VAL") front (c.in-Some-strip_suffix.ensures {u = tt}).cases in
-    let found = c.channel-in-Some-strip_suffix.ensures in
-    found.found ∙ sym (val_found 0 _ front found.named) ∙ named_as c.args.self.now _ c.args.name.now _ c.self.view_is is
-
-pub returns : goal.returns
-returns c =
-    let no_desc = (c.in_default.ensures {u = tt}).cases in
-    let no_val = (c.in_default-strip_suffix.ensures {u = tt}).cases in
-    c.channel-2.ensures.found ∙ sym (own_found 0 _ c.args.name.now no_val no_desc) ∙ named_as c.args.self.now _ c.args.name.now _ c.self.view_is (λ i. c.args.name.now)
+pub returns-in-None : goal.returns-in-None
+returns-in-None c = named c.args.self.now c.self.inside.records c.self.inside.groups c.args.name.now None c.find-in-None.result c.self.view_is (sym c.in-None.is ∙ c.find.ensures) c.find-in-None.ensures

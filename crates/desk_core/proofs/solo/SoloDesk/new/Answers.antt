@@ -5,10 +5,10 @@ use Rattle.desk_core.proofs.solo.SoloDesk.new.Goals as goal
 
 pub invariant_of-result : goal.invariant_of-result
 invariant_of-result g c =
-    let cells = (c.in_ok-cells.ensures {u = tt}).states in
+    let cells = (c.in_ok-states.ensures {u = tt}).states in
     let opening = (c.in_ok-opening_of.ensures {u = tt}).states in record {
       stands = first_stands _ _ _ _ c.in-Ok.ensures cells (c.new-history.ensures.opening ∙ opening) c.new-history.ensures.entries;
       legal = first_legal _ _ c.in-Ok.ensures;
       ported = c.requires;
-      valid = subst (AreValid c.args.site.configs) (sym cells) (c.in_ok-cells.ensures {u = tt}).valid;
+      valid = subst (AreValid c.args.site.configs) (sym cells) (c.in_ok-states.ensures {u = tt}).valid;
     }

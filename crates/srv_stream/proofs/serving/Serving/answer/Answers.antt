@@ -2,7 +2,8 @@ use Rattle.std.proofs.Common.{ℕ, List, sym, ◌∙◌, ap, subst}
 use Rattle.pva_frames.specs.declared.event.Event.{Event}
 use Rattle.pva_frames.specs.declared.event.Event.TheVariants.{Message, Control}
 use Rattle.srv_stream.specs.Streams.{AnsweredEvent, PartOfEvent, AnswersEvent}
-use Rattle.srv_stream.specs.Views.{show, view_of}
+use Rattle.srv_session.specs.Views.{show}
+use Rattle.srv_stream.specs.Views.{view_of}
 use Rattle.srv_stream.proofs.Answering.{answered, control_answers}
 use Rattle.srv_stream.proofs.Feeding.{handled_on_site}
 use Rattle.srv_stream.proofs.serving.Serving.answer.Goals as goal
@@ -18,7 +19,7 @@ returns-in-Ok-clause-answers g c =
 pub returns-in-Ok-clause-site : goal.returns-in-Ok-clause-site
 returns-in-Ok-clause-site g c =
     let seat = g.D.Desk.seat c.args.desk.now in
-    handled_on_site {old = show seat c.args.self.now.session} {new = show seat c.handle_control.new.self} (c.in-Ok.ensures seat c.has_legal_history.ensures c.args.moment) c.requires
+    handled_on_site {old = show seat c.args.self.now.session} {new = show seat c.handle_control.new.self} (Control c.in-Control.command c.in-Control.number) (c.in-Ok.ensures seat c.has_legal_history.ensures c.args.moment) c.requires
 
 pub returns-in-Err-clause-answers : goal.returns-in-Err-clause-answers
 returns-in-Err-clause-answers g c =

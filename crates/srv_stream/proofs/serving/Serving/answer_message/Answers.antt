@@ -1,6 +1,6 @@
 use Rattle.pva_frames.specs.LentView.{whole_of}
 use Rattle.pva_frames.specs.declared.event.Event.TheVariants.{Message}
-use Rattle.srv_stream.specs.Views.{show}
+use Rattle.srv_session.specs.Views.{show}
 use Rattle.srv_stream.proofs.Answering.{answered}
 use Rattle.srv_stream.proofs.serving.Serving.answer_message.Goals as goal
 

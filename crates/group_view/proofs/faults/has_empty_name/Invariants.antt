@@ -1,0 +1,6 @@
+use Rattle.std.proofs.Common.{◌≡◌, drop}
+use Rattle.group_view.specs.Faults.{has_empty_name}
+use Rattle.group_view.proofs.faults.has_empty_name.Given as goal
+
+abbrev pub invariant-loop-member : goal.invariant-loop-member
+invariant-loop-member l = has_empty_name (drop l.member-index l.members) ≡ has_empty_name l.members

@@ -1,0 +1,13 @@
+pub mod Pieces
+pub mod Links
+pub mod Groups
+pub mod Sources
+pub mod Slots
+pub mod Seen
+pub mod Types
+pub mod Views
+pub mod Leaves
+pub mod Faults
+pub mod Puts
+pub mod Built
+pub mod Laws

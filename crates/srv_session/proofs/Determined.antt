@@ -1,0 +1,241 @@
+-- What is said to an event is determined by its marks.
+use Rattle.std.proofs.Common.{◌≡◌, ℕ, suc, ◌+◌, ◌<◌, ◌≤◌, Bool, true, false, List, [], ◌∷◌, ◌++◌, length, take, Option, None, Some, Result, Ok, Err, refl, sym, ◌∙◌, ap, subst, arith, length-append, append_assoc}
+use Rattle.std.specs.Prelude.{codes, slice_get, nat_lt}
+use Rattle.std.specs.FinSet.{FinSet}
+use Rattle.std.specs.Ordering.{nat_cmp}
+use Rattle.std.proofs.lemmas.Bool.{false≢true}
+use Rattle.std.proofs.lemmas.Bool.Decides.{nat_tests}
+use Rattle.std.proofs.lemmas.Option.{none-some}
+use Rattle.pva_wire.specs.declared.status.Status.{Status}
+use Rattle.pva_wire.specs.Status.{good}
+use Rattle.pvd_value.specs.Data.{Data}
+use Rattle.pva_frames.specs.declared.event.Event.{Event}
+use Rattle.rec_kinds.specs.declared.datum.Action.{Action}
+use Rattle.rec_kinds.specs.declared.put.PutRefusal.{PutRefusal}
+use Rattle.histories.proofs.Prefixes.{element_within}
+use Rattle.rec_fields.specs.declared.puts.FieldAnswer.{FieldAnswer}
+use Rattle.rec_fields.specs.declared.puts.FieldAnswer.TheVariants.{Refused}
+use Rattle.chan_table.specs.declared.ask.AskKind.{AskKind}
+use Rattle.chan_table.specs.declared.ask.AskKind.TheVariants as kinds
+use Rattle.desk_api.specs.Calls as calls
+use Rattle.desk_api.specs.Calls.{AreLooks, AreAdded, ArePut, asked_actions, asked_entries, entries_of_actions, laid_by, looks_of}
+use Rattle.desk_api.specs.Sites.{is_atomic}
+use Rattle.desk_api.specs.Types.{type_of}
+use Rattle.desk_api.specs.Views.{value_of}
+use Rattle.desk_api.specs.declared.channel.Channel.{Channel}
+use Rattle.desk_api.specs.declared.history.SiteData.{SiteData}
+use Rattle.desk_api.specs.declared.mark.Mark.{Mark}
+use Rattle.desk_api.specs.declared.mark.Mark.TheVariants.{Read, Entered, Overweight}
+use Rattle.desk_api.specs.declared.put.Done.{Done}
+use Rattle.desk_api.specs.declared.put.PutAnswer.{PutAnswer}
+use Rattle.desk_api.specs.declared.put.PutAnswer.TheVariants as answers
+use Rattle.srv_session.specs.State.{State, Asked}
+use Rattle.srv_session.specs.Tasks.{Task, pass_over, echo_control, refuse, validate, echo, create, destroy_channel, begin, get, put, destroy_request, Hearing, asks, not_built, unreadable, heard}
+use Rattle.srv_session.specs.Replies.{Sent, said, error, got, answered}
+use Rattle.srv_session.specs.Rows.{Says, GetRow, asked, refusal_text, put_status, PutRow, Row}
+use Rattle.srv_session.specs.Steps.{Step, knowing, IsAnswer, bytes_of, after_step, AreSteps, events_of, marks_of, out_of}
+
+-- two ways to split a list of marks, and what was sent by the first parts
+pub record Same (m n k l : List Mark) (x y : List Sent) : Type 0 where
+  pub marks : m ≡ n
+  pub later : k ≡ l
+  pub sent : x ≡ y
+
+abbrev head_or : Mark → List Mark → Mark
+head_or a [] = a
+head_or a (b ∷ bs) = b
+
+abbrev tail_of : List Mark → List Mark
+tail_of [] = []
+tail_of (b ∷ bs) = bs
+
+same_says : (these : List Sent) (m n k l : List Mark) (x y : List Sent) → Says these m x → Says these n y → m ++ k ≡ n ++ l → Same m n k l x y
+same_says these m n k l x y p q e = record {
+  marks = p.marks_are ∙ sym q.marks_are;
+  later = sym (ap (λ (z : List Mark). z ++ k) p.marks_are) ∙ e ∙ ap (λ (z : List Mark). z ++ l) q.marks_are;
+  sent = p.sent_is ∙ sym q.sent_is;
+}
+
+-- parts of one length are equal
+split : (m n k l : List Mark) → length m ≡ length n → m ++ k ≡ n ++ l → (m ≡ n) × (k ≡ l)
+split [] [] k l same e = (refl, e)
+split [] (b ∷ n) k l same e = absurd (omega (arith, same))
+split (a ∷ m) [] k l same e = absurd (omega (arith, same))
+split (a ∷ m) (b ∷ n) k l same e =
+    let rest = split m n k l (omega (arith, same)) (ap tail_of e) in
+    let first : a ≡ b = ap (head_or a) e in
+    ((λ i. first i ∷ rest.0 i), rest.1)
+
+-- Gets.
+
+as_many_looks : (channel : Channel) (looks : List (List ℕ)) (marks : List Mark) → AreLooks channel looks marks → length marks ≡ length looks
+as_many_looks channel [] [] p = refl
+as_many_looks channel [] (mark ∷ marks) p = absurd p
+as_many_looks channel (recs ∷ looks) [] p = absurd p
+as_many_looks channel (recs ∷ looks) (mark ∷ marks) p = ap suc (as_many_looks channel looks marks p.1)
+
+same_get : (site : SiteData) (kind : AskKind) (req sub : ℕ) (ask : Asked) (channel : Channel) (m n k l : List Mark) (x y : List Sent)
+    → GetRow site kind req sub ask channel m x → GetRow site kind req sub ask channel n y → m ++ k ≡ n ++ l → Same m n k l x y
+same_get site kind req sub ask channel m n k l x y p q e =
+    let looks = looks_of site channel ask.atomic in
+    let both = split m n k l (as_many_looks channel looks m p.is_get.looks ∙ sym (as_many_looks channel looks n q.is_get.looks)) e in
+    let value : p.value ≡ q.value =
+    p.is_get.value_is ∙ ap (λ (marks : List Mark). value_of site channel (laid_by site.opening marks)) both.0 ∙ sym q.is_get.value_is in
+    record {
+      marks = both.0;
+      later = both.1;
+      sent = p.sent_is ∙ ap (λ (v : Data). said (got kind req sub (type_of site channel) ask.mask v) ∷ []) value ∙ sym q.sent_is;
+    }
+
+-- Puts.
+
+abbrev is_entry : Mark → Bool
+is_entry (Read at channel footprint found) = false
+is_entry (Entered at entry) = true
+is_entry (Overweight at footprint actions kept weight limit) = false
+
+abbrev AllEntries : List Mark → Type 0
+AllEntries [] = Unit {0}
+AllEntries (mark ∷ marks) = (is_entry mark ≡ true) × AllEntries marks
+
+added_entries : (a : calls.Asked) (entries : List (List (ℕ × Action))) (marks : List Mark) → AreAdded a entries marks → (length marks ≡ length entries) × AllEntries marks
+added_entries a [] [] p = (refl, tt)
+added_entries a [] (mark ∷ marks) p = absurd p
+added_entries a (actions ∷ entries) [] p = absurd p
+added_entries a (actions ∷ entries) (mark ∷ marks) p =
+    let rest = added_entries a entries marks p.1 in
+    (ap suc rest.0, (ap is_entry p.0.mark_is, rest.1))
+
+-- a mark that is no entry doesn't stand among entries
+apart : (m before k l : List Mark) (heavy : Mark) → AllEntries m → length before < length m → is_entry heavy ≡ false → m ++ k ≡ before ++ heavy ∷ l → ⊥
+apart [] before k l heavy all few is e = omega (arith, few)
+apart (a ∷ m) [] k l heavy all few is e = false≢true (sym is ∙ sym (ap (λ (marks : List Mark). is_entry (head_or a marks)) e) ∙ all.0)
+apart (a ∷ m) (b ∷ before) k l heavy all few is e = apart m before k l heavy all.1 (omega (arith, few)) is (ap tail_of e)
+
+-- What became of a put whose entries are these: all were added, it was refused, or the next was too heavy.
+data Outcome (a : calls.Asked) (marks : List Mark) (status : Status) : Type 0 where
+  done : (entries : List (List (ℕ × Action))) → asked_entries a ≡ Ok entries → length marks ≡ length entries → AllEntries marks → status ≡ good → Outcome a marks status
+  refused : (refusal : PutRefusal) → marks ≡ [] → asked_actions a ≡ Err (Refused refusal) → status ≡ error (refusal_text refusal) → Outcome a marks status
+  full : (entries : List (List (ℕ × Action))) → (before : List Mark) → (heavy : Mark) → asked_entries a ≡ Ok entries → AllEntries before → length before < length entries → is_entry heavy ≡ false
+      → marks ≡ before ++ heavy ∷ [] → status ≡ error (codes "journal full") → Outcome a marks status
+
+-- what an option has, or else this
+abbrev status_in : Status → Option Status → Status
+status_in d None = d
+status_in d (Some s) = s
+
+outcome : (a : calls.Asked) (answer : Result Done PutAnswer) (marks : List Mark) (status : Status) → ArePut a answer marks → put_status answer ≡ Some status → Outcome a marks status
+outcome a (Ok d) marks status p s =
+    let all = added_entries a p.entries marks p.added in done p.entries p.asked all.0 all.1 (sym (ap (status_in status) s))
+outcome a (Err (answers.Refused refusal)) marks status p s = refused refusal p.marks_are p.refusal_is (sym (ap (status_in status) s))
+outcome a (Err (answers.JournalFull kept weight limit d)) marks status p s =
+    let all = added_entries a (take d p.entries) p.before p.added in
+    let within = element_within p.entries d p.actions p.next in
+    full p.entries p.before _ p.asked all.1 (omega (arith, within, p.done_is)) refl p.marks_are (sym (ap (status_in status) s))
+outcome a (Err (answers.NoMemory d)) marks status p s = absurd (none-some status s)
+
+same_entries : {A E : Type 0} {r : Result A E} {x y : A} → r ≡ Ok x → r ≡ Ok y → x ≡ y
+same_entries p q = let e = sym p ∙ q in cc
+
+same_refusal : {A : Type 0} {r : Result A FieldAnswer} {x y : PutRefusal} → r ≡ Err (Refused x) → r ≡ Err (Refused y) → x ≡ y
+same_refusal p q = let e = sym p ∙ q in cc
+
+-- a put that is refused asks for no entries
+not_both : (a : calls.Asked) (entries : List (List (ℕ × Action))) (refusal : PutRefusal) → asked_entries a ≡ Ok entries → asked_actions a ≡ Err (Refused refusal) → ⊥
+not_both a entries refusal ok err =
+    let e : Err (Refused refusal) ≡ Ok entries = sym (ap (entries_of_actions (is_atomic a.site a.channel a.atomic)) err) ∙ ok in cc
+
+refused_marks : (m n k l : List Mark) → m ≡ [] → n ≡ [] → m ++ k ≡ n ++ l → (m ≡ n) × (k ≡ l)
+refused_marks m n k l p q e = (p ∙ sym q, sym (ap (λ (z : List Mark). z ++ k) p) ∙ e ∙ ap (λ (z : List Mark). z ++ l) q)
+
+-- entries up to one that is too heavy, and something behind it
+behind_heavy : (before k : List Mark) (heavy : Mark) (m : List Mark) → m ≡ before ++ heavy ∷ [] → m ++ k ≡ before ++ heavy ∷ k
+behind_heavy before k heavy m is = ap (λ (z : List Mark). z ++ k) is ∙ append_assoc before (heavy ∷ []) k
+
+-- The same is asked, at whatever moments.
+same_outcome : (a b : calls.Asked) (m n k l : List Mark) (s t : Status) → asked_actions a ≡ asked_actions b → asked_entries a ≡ asked_entries b → Outcome a m s → Outcome b n t → m ++ k ≡ n ++ l
+    → ((m ≡ n) × (k ≡ l)) × (s ≡ t)
+same_outcome a b m n k l s t same all (done es ok many entries good_s) (done fs ok2 many2 entries2 good_t) both =
+    (split m n k l (many ∙ ap length (same_entries ok (all ∙ ok2)) ∙ sym many2) both, good_s ∙ sym good_t)
+same_outcome a b m n k l s t same all (done es ok many entries good_s) (refused r q err why) both = absurd (not_both b es r (sym all ∙ ok) err)
+same_outcome a b m n k l s t same all (done es ok many entries good_s) (full fs before heavy ok2 entries2 few is q why) both =
+    let one : length es ≡ length fs = ap length (same_entries ok (all ∙ ok2)) in
+    absurd (apart m before k l heavy entries (omega (arith, many, one, few)) is (both ∙ behind_heavy before l heavy n q))
+same_outcome a b m n k l s t same all (refused r p err why) (done fs ok2 many2 entries2 good_t) both = absurd (not_both a fs r (all ∙ ok2) err)
+same_outcome a b m n k l s t same all (refused r p err why) (refused r2 q err2 why2) both =
+    (refused_marks m n k l p q both, why ∙ ap (λ (z : PutRefusal). error (refusal_text z)) (same_refusal (sym same ∙ err) err2) ∙ sym why2)
+same_outcome a b m n k l s t same all (refused r p err why) (full fs before heavy ok2 entries2 few is q why2) both = absurd (not_both a fs r (all ∙ ok2) err)
+same_outcome a b m n k l s t same all (full es before heavy ok entries few is p why) (done fs ok2 many2 entries2 good_t) both =
+    let one : length es ≡ length fs = ap length (same_entries ok (all ∙ ok2)) in
+    absurd (apart n before l k heavy entries2 (omega (arith, many2, one, few)) is (sym both ∙ behind_heavy before k heavy m p))
+same_outcome a b m n k l s t same all (full es before heavy ok entries few is p why) (refused r q err why2) both = absurd (not_both b es r (sym all ∙ ok) err)
+same_outcome a b m n k l s t same all (full es before heavy ok entries few is p why) (full fs before2 heavy2 ok2 entries2 few2 is2 q why2) both =
+    (split m n k l (ap length p ∙ counted ∙ sym (ap length q)) both, why ∙ sym why2)
+  where
+    joined : before ++ heavy ∷ k ≡ before2 ++ heavy2 ∷ l
+    joined = sym (behind_heavy before k heavy m p) ∙ both ∙ behind_heavy before2 l heavy2 n q
+
+    by_length : (less more : Bool) → nat_lt (length before) (length before2) ≡ less → nat_lt (length before2) (length before) ≡ more → length before ≡ length before2
+    by_length true more lt gt = absurd (apart before2 before (heavy2 ∷ l) k heavy entries2 (grind (arith, nat_tests)) is (sym joined))
+    by_length false true lt gt = absurd (apart before before2 (heavy ∷ k) l heavy2 entries (grind (arith, nat_tests)) is2 joined)
+    by_length false false lt gt = grind (arith, nat_tests)
+
+    counted : length (before ++ heavy ∷ []) ≡ length (before2 ++ heavy2 ∷ [])
+    counted =
+        let same = by_length (nat_lt (length before) (length before2)) (nat_lt (length before2) (length before)) refl refl in
+        omega (arith, same, length-append before (heavy ∷ []), length-append before2 (heavy2 ∷ []))
+
+same_put : (site : SiteData) (req sub : ℕ) (ask : Asked) (channel : Channel) (mask : FinSet nat_cmp) (value : Data) (m n k l : List Mark) (x y : List Sent)
+    → PutRow site req sub ask channel mask value m x → PutRow site req sub ask channel mask value n y → m ++ k ≡ n ++ l → Same m n k l x y
+same_put site req sub ask channel mask value m n k l x y p q e =
+    let a = asked site ask channel mask value p.moment in
+    let b = asked site ask channel mask value q.moment in
+    let same = same_outcome a b m n k l p.status q.status refl refl (outcome a p.answer m p.status p.is_put p.status_is) (outcome b q.answer n q.status q.is_put q.status_is) e in
+    record {
+      marks = same.0.0;
+      later = same.0.1;
+      sent = p.sent_is ∙ ap (λ (s : Status). said (answered kinds.Put req sub s) ∷ []) same.1 ∙ sym q.sent_is;
+    }
+
+same_row : (site : SiteData) (s : State) (task : Task) (m n k l : List Mark) (x y : List Sent) → Row site s task m x → Row site s task n y → m ++ k ≡ n ++ l → Same m n k l x y
+same_row site s pass_over m n k l x y p q e = same_says _ m n k l x y p q e
+same_row site s (echo_control number) m n k l x y p q e = same_says _ m n k l x y p q e
+same_row site s (refuse r) m n k l x y p q e = same_says _ m n k l x y p q e
+same_row site s (validate buffer registry user host) m n k l x y p q e = same_says _ m n k l x y p q e
+same_row site s (echo payload) m n k l x y p q e = same_says _ m n k l x y p q e
+same_row site s (create names) m n k l x y p q e = same_says _ m n k l x y p q e
+same_row site s (destroy_channel sid cid) m n k l x y p q e = same_says _ m n k l x y p q e
+same_row site s (begin kind req sub sid channel wanted) m n k l x y p q e = same_says _ m n k l x y p q e
+same_row site s (get kind req sub ask channel) m n k l x y p q e = same_get site kind req sub ask channel m n k l x y p q e
+same_row site s (put req sub ask channel mask value) m n k l x y p q e = same_put site req sub ask channel mask value m n k l x y p q e
+same_row site s (destroy_request req) m n k l x y p q e = same_says _ m n k l x y p q e
+
+pub same_answer : (site : SiteData) (s : State) (hearing : Hearing) (m n k l : List Mark) (x y : List Sent) → IsAnswer site s hearing m x → IsAnswer site s hearing n y → m ++ k ≡ n ++ l → Same m n k l x y
+same_answer site s (asks task types) m n k l x y p q e = same_row site (knowing s types) task m n k l x y p q e
+same_answer site s not_built m n k l x y p q e = absurd p
+same_answer site s (unreadable fault) m n k l x y p q e = absurd p
+
+abbrev pub event_or : Event → List Event → Event
+event_or a [] = a
+event_or a (b ∷ bs) = b
+
+abbrev pub later_events : List Event → List Event
+later_events [] = []
+later_events (b ∷ bs) = bs
+
+no_events : {e : Event} {es : List Event} → [] ≡ e ∷ es → ⊥
+no_events is = cc
+
+-- steps of the same events and marks
+pub same_out : (site : SiteData) (s : State) (xs ys : List Step) → AreSteps site s xs → AreSteps site s ys → events_of xs ≡ events_of ys → marks_of xs ≡ marks_of ys → out_of site s xs ≡ out_of site s ys
+same_out site s [] [] a b events marks = refl
+same_out site s [] (y ∷ ys) a b events marks = absurd (no_events events)
+same_out site s (x ∷ xs) [] a b events marks = absurd (no_events (sym events))
+same_out site s (x ∷ xs) (y ∷ ys) a b events marks =
+    let first : x.event ≡ y.event = ap (event_or x.event) events in
+    let here = subst (λ (e : Event). IsAnswer site s (heard site s e) y.marks y.sent) (sym first) b.0 in
+    let same = same_answer site s (heard site s x.event) x.marks y.marks (marks_of xs) (marks_of ys) x.sent y.sent a.0 here marks in
+    let step : x ≡ y = λ i. record { event = first i; marks = same.marks i; sent = same.sent i } in
+    (λ i. bytes_of s (step i) ++ out_of site (after_step site s (step i)) xs)
+    ∙ ap (λ (z : List ℕ). bytes_of s y ++ z)
+    (same_out site (after_step site s y) xs ys (subst (λ (z : Step). AreSteps site (after_step site s z) xs) step a.1) b.1 (ap later_events events) same.later)

@@ -1,0 +1,13 @@
+pub mod Tables
+pub mod Rows
+pub mod OnSite
+pub mod Steps
+pub mod Determined
+pub mod Replying
+pub mod Heeding
+pub mod Finding
+pub mod Opening
+pub mod Beginning
+pub mod Places
+pub mod Parts
+pub mod Validating

@@ -1,0 +1,274 @@
+-- A session stays one of its site.
+use Rattle.std.proofs.Common.{◌≡◌, ◌≢◌, ◌==◌, ℕ, Bool, true, false, cond, List, [], ◌∷◌, Option, None, Some, Result, Ok, Err, inl, inr, refl, sym, ◌∙◌, ap, subst, arith}
+use Rattle.std.specs.Prelude.{◌⊎◌, IsTrue, option_map, bytes_eq, codes}
+use Rattle.std.specs.FinMap.{get as at, insert, remove, contains_key, get-empty}
+use Rattle.std.specs.FinSet.{FinSet}
+use Rattle.std.specs.Ordering.{nat_cmp}
+use Rattle.std.proofs.lemmas.Bool.{false≢true}
+use Rattle.std.proofs.lemmas.Bool.Decides.{nat_tests}
+use Rattle.std.proofs.lemmas.Option.{none-some}
+use Rattle.pvd_value.specs.Data.{Data}
+use Rattle.pvd_desc.specs.Types.{Types}
+use Rattle.pvd_codec.specs.Reading.{Read, State as Source, part_at}
+use Rattle.pva_wire.specs.declared.order.Order.{Order}
+use Rattle.pva_frames.specs.declared.event.Whole.{Whole}
+use Rattle.pva_frames.specs.declared.event.Event.{Event}
+use Rattle.pva_frames.specs.declared.event.Event.TheVariants.{Message, Control}
+use Rattle.pva_messages.specs.Fields.{Valued}
+use Rattle.pva_messages.specs.Reading.{request_at}
+use Rattle.pva_messages.specs.Requests as said
+use Rattle.pva_messages.specs.Requests.{Request}
+use Rattle.pva_messages.specs.Subcommands.{begins, asks_back, ends}
+use Rattle.pvd_request.specs.Requests.{request_of}
+use Rattle.pvd_request.specs.declared.request.Request.{Request as Wanted}
+use Rattle.pvd_request.specs.declared.request.RequestFault.{RequestFault}
+use Rattle.pvd_request.specs.declared.request.Root.TheVariants as roots
+use Rattle.pvd_request.proofs.Sound.{request_sound}
+use Rattle.chan_table.specs.declared.ask.AskKind.{AskKind}
+use Rattle.chan_table.specs.declared.ask.AskKind.TheVariants as kinds
+use Rattle.desk_api.proofs.Naming.{found_is_channel}
+use Rattle.desk_api.specs.Sites.{channel_named, is_channel}
+use Rattle.desk_api.specs.Types.{type_of}
+use Rattle.desk_api.specs.declared.channel.Channel.{Channel}
+use Rattle.desk_api.specs.declared.history.SiteData.{SiteData}
+use Rattle.desk_api.specs.declared.mark.Mark.{Mark}
+use Rattle.srv_session.specs.State.{State, Channels, Requests, Asked, channel_at, is_full, is_on, is_open, least_free, without_channel, opening}
+use Rattle.srv_session.specs.Tasks.{Task, pass_over, echo_control, refuse, validate, echo, create, destroy_channel, begin, get, put, destroy_request, Hearing, asks, not_built, unreadable}
+use Rattle.srv_session.specs.Tasks.{heard, heard_control, validated_by, beginning, beginning_as, found_for, in_phase, getting, asked_get, heard_part, heard_putting, heard_put, asked_end, asked_request_end, heard_message, heard_read, heard_whole, is_heard}
+use Rattle.srv_session.specs.Rows.{opened, all_opened, ask_of, behind, after_task}
+use Rattle.srv_session.specs.Steps.{knowing, after_hearing, after_event}
+use Rattle.srv_session.specs.Calls.{Selects, IsAskOf, IsOf}
+use Rattle.srv_session.proofs.Tables.{same_or_not, got_inserted, got_beside, got_removed, got_left, is_least, opened_beside, opened_here, left_beside, left_none, stays_elsewhere}
+
+-- the channels of a site, and requests on them
+
+abbrev AreOf : SiteData → Channels → Type 0
+AreOf site channels = (sid : ℕ) (channel : Channel) → channel_at channels sid ≡ Some channel → IsTrue (is_channel site channel)
+
+abbrev AreOn : SiteData → Channels → Requests → Type 0
+AreOn site channels requests = (req : ℕ) (ask : Asked) → at requests req ≡ Some ask → IsAskOf site channels ask
+
+-- A channel is opened.
+
+module _ (site : SiteData) (channels : Channels) (cid : ℕ) where
+  one_of : (o : Option Channel) → ((channel : Channel) → o ≡ Some channel → IsTrue (is_channel site channel)) → AreOf site channels → AreOf site (opened channels cid o)
+  one_of None real ok = ok
+  one_of (Some channel) real ok = by_room (is_full channels)
+    where
+      new : (sid : ℕ) (c : Channel) → (sid ≡ least_free channels) ⊎ (sid ≢ least_free channels) → channel_at (insert channels (least_free channels) (cid, channel)) sid ≡ Some c → IsTrue (is_channel site c)
+      new sid c (inl same) is =
+          real c (sym (opened_here channels (least_free channels) (cid, channel)) ∙ ap (channel_at (insert channels (least_free channels) (cid, channel))) (sym same) ∙ is)
+      new sid c (inr apart) is = ok sid c (sym (opened_beside channels (least_free channels) sid (cid, channel) apart) ∙ is)
+
+      by_room : (b : Bool) → AreOf site (cond b channels (insert channels (least_free channels) (cid, channel)))
+      by_room true = ok
+      by_room false = λ sid c is. new sid c (same_or_not sid (least_free channels)) is
+
+  -- what is open stays so
+  stays_open : (o : Option Channel) (sid : ℕ) (c : Channel) → channel_at channels sid ≡ Some c → channel_at (opened channels cid o) sid ≡ Some c
+  stays_open None sid c is = is
+  stays_open (Some channel) sid c is = by_room (is_full channels)
+    where
+      taken : sid ≢ least_free channels
+      taken same =
+          none-some c (sym (ap (option_map (λ x. x.1)) ((is_least channels).absent)) ∙ ap (channel_at channels) (sym same) ∙ is)
+
+      by_room : (b : Bool) → channel_at (cond b channels (insert channels (least_free channels) (cid, channel))) sid ≡ Some c
+      by_room true = is
+      by_room false = opened_beside channels (least_free channels) sid (cid, channel) taken ∙ is
+
+same_ask : (site : SiteData) (old new : Channels) (ask : Asked) → ((sid : ℕ) (c : Channel) → channel_at old sid ≡ Some c → channel_at new sid ≡ Some c) → IsAskOf site old ask → IsAskOf site new ask
+same_ask site old new ask stays p = record { channel = p.channel; open_ = stays ask.sid p.channel p.open_; selects = p.selects }
+
+all_of : (site : SiteData) (channels : Channels) (names : List (ℕ × List ℕ)) → AreOf site channels → AreOf site (all_opened site channels names)
+all_of site channels [] ok = ok
+all_of site channels (x ∷ names) ok =
+    all_of site (opened channels x.0 (channel_named site x.1)) names
+    (one_of site channels x.0 (channel_named site x.1) (λ c is. found_is_channel site x.1 c is) ok)
+
+all_stay : (site : SiteData) (channels : Channels) (names : List (ℕ × List ℕ)) (sid : ℕ) (c : Channel) → channel_at channels sid ≡ Some c → channel_at (all_opened site channels names) sid ≡ Some c
+all_stay site channels [] sid c is = is
+all_stay site channels (x ∷ names) sid c is =
+    all_stay site (opened channels x.0 (channel_named site x.1)) names sid c (stays_open site channels x.0 (channel_named site x.1) sid c is)
+
+-- A request comes, and goes.
+
+more_on : (site : SiteData) (channels : Channels) (requests : Requests) (req : ℕ) (new : Asked) → IsAskOf site channels new → AreOn site channels requests → AreOn site channels (insert requests req new)
+more_on site channels requests req new p ok q ask is = by_id (same_or_not q req)
+  where
+    by_id : (q ≡ req) ⊎ (q ≢ req) → IsAskOf site channels ask
+    by_id (inl same) =
+        let one : new ≡ ask = same_some (sym (got_inserted requests req new) ∙ ap (at (insert requests req new)) (sym same) ∙ is) in
+        subst (IsAskOf site channels) one p
+      where
+        same_some : {x y : Asked} → Some x ≡ Some y → x ≡ y
+        same_some e = cc
+    by_id (inr apart) = ok q ask (sym (got_beside requests req new q apart) ∙ is)
+
+fewer_on : (site : SiteData) (channels : Channels) (requests : Requests) (req : ℕ) → AreOn site channels requests → AreOn site channels (remove requests req)
+fewer_on site channels requests req ok q ask is = by_id (same_or_not q req)
+  where
+    by_id : (q ≡ req) ⊎ (q ≢ req) → IsAskOf site channels ask
+    by_id (inl same) = absurd (none-some ask (sym (got_removed requests req) ∙ ap (at (remove requests req)) (sym same) ∙ is))
+    by_id (inr apart) = ok q ask (sym (got_left requests req q apart) ∙ is)
+
+behind_on : (site : SiteData) (channels : Channels) (requests : Requests) (req sub : ℕ) → AreOn site channels requests → AreOn site channels (behind req sub requests)
+behind_on site channels requests req sub ok = by_bit (ends sub)
+  where
+    by_bit : (b : Bool) → AreOn site channels (cond b (remove requests req) requests)
+    by_bit true = fewer_on site channels requests req ok
+    by_bit false = ok
+
+-- A channel is ended, and its requests with it.
+
+fewer_of : (site : SiteData) (channels : Channels) (sid : ℕ) → AreOf site channels → AreOf site (remove channels sid)
+fewer_of site channels sid ok q c is = by_id (same_or_not q sid)
+  where
+    by_id : (q ≡ sid) ⊎ (q ≢ sid) → IsTrue (is_channel site c)
+    by_id (inl same) = absurd (none-some c (sym (left_none channels sid) ∙ ap (channel_at (remove channels sid)) (sym same) ∙ is))
+    by_id (inr apart) = ok q c (sym (left_beside channels sid q apart) ∙ is)
+
+none_left : (site : SiteData) (channels : Channels) (requests : Requests) (sid : ℕ) → AreOn site channels requests → AreOn site (remove channels sid) (without_channel sid requests)
+none_left site channels requests sid ok req ask is =
+    let kept = stays_elsewhere sid requests req ask is in
+    let p = ok req ask kept.0 in
+    let apart : ask.sid ≢ sid = λ same. let other : (ask.sid == sid) ≡ true = grind (arith, nat_tests) in false≢true (sym kept.1 ∙ other) in
+    record { channel = p.channel; open_ = left_beside channels sid ask.sid apart ∙ p.open_; selects = p.selects }
+
+-- What a task needs for that: a request begins for leaves of its channel, which is open.
+pub record IsBeginning (site : SiteData) (s : State) (sid : ℕ) (channel : Channel) (wanted : Wanted) : Type 0 where
+  pub open_ : channel_at s.channels sid ≡ Some channel
+  pub asked : (v : Valued) × (request_of (type_of site channel) roots.Field v ≡ Ok wanted)
+
+abbrev pub IsTaskOf : SiteData → State → Task → Type 0
+IsTaskOf site s (begin kind req sub sid channel wanted) = IsBeginning site s sid channel wanted
+IsTaskOf site s task = Unit {0}
+
+pub task_on_site : (site : SiteData) (s : State) (task : Task) (marks : List Mark) → IsTaskOf site s task → IsOf site s → IsOf site (after_task site s task marks)
+task_on_site site s pass_over marks p ok = ok
+task_on_site site s (echo_control number) marks p ok = ok
+task_on_site site s (refuse r) marks p ok = ok
+task_on_site site s (validate buffer registry user host) marks p ok = record { channels = ok.channels; requests = ok.requests }
+task_on_site site s (echo payload) marks p ok = ok
+task_on_site site s (create names) marks p ok = record {
+  channels = all_of site s.channels names ok.channels;
+  requests = λ req ask is. same_ask site s.channels (all_opened site s.channels names) ask (λ sid c here. all_stay site s.channels names sid c here) (ok.requests req ask is);
+}
+task_on_site site s (destroy_channel sid cid) marks p ok = record {
+  channels = fewer_of site s.channels sid ok.channels;
+  requests = none_left site s.channels s.requests sid ok.requests;
+}
+task_on_site site s (begin kind req sub sid channel wanted) marks p ok =
+    let sound = request_sound (type_of site channel) roots.Field p.asked.0 wanted p.asked.1 in
+    record {
+      channels = ok.channels;
+      requests =
+          more_on site s.channels s.requests req (ask_of kind sid wanted)
+          (record { channel = channel; open_ = p.open_; selects = record { leaves = sound.holds; some = sound.some } }) ok.requests;
+    }
+task_on_site site s (get kind req sub ask channel) marks p ok = record { channels = ok.channels; requests = behind_on site s.channels s.requests req sub ok.requests }
+task_on_site site s (put req sub ask channel mask value) marks p ok = record { channels = ok.channels; requests = behind_on site s.channels s.requests req sub ok.requests }
+task_on_site site s (destroy_request req) marks p ok = record { channels = ok.channels; requests = fewer_on site s.channels s.requests req ok.requests }
+
+-- Each task that is heard is so.
+
+abbrev IsHeardOf : SiteData → State → Hearing → Type 0
+IsHeardOf site s (asks task types) = IsTaskOf site s task
+IsHeardOf site s not_built = Unit {0}
+IsHeardOf site s (unreadable fault) = Unit {0}
+
+module _ (site : SiteData) (s : State) where
+  as_begun : (kind : AskKind) (req sub sid : ℕ) (channel : Channel) (v : Valued) (r : Result Wanted RequestFault) → channel_at s.channels sid ≡ Some channel
+      → request_of (type_of site channel) roots.Field v ≡ r → IsTaskOf site s (beginning_as kind req sub sid channel r)
+  as_begun kind req sub sid channel v (Ok wanted) here is = record { open_ = here; asked = (v, is) }
+  as_begun kind req sub sid channel v (Err fault) here is = tt
+
+  either : (b : Bool) (x y : Task) → IsTaskOf site s x → IsTaskOf site s y → IsTaskOf site s (cond b x y)
+  either true x y p q = p
+  either false x y p q = q
+
+  begins_so : (kind : AskKind) (req sub sid : ℕ) (v : Valued) (o : Option Channel) → channel_at s.channels sid ≡ o → IsTaskOf site s (beginning site s kind req sub sid v o)
+  begins_so kind req sub sid v None is = tt
+  begins_so kind req sub sid v (Some channel) is =
+      either (contains_key s.requests req) _ _ tt (either (is_full s.requests) _ _ tt (as_begun kind req sub sid channel v (request_of (type_of site channel) roots.Field v) is refl))
+
+  gets_so : (kind : AskKind) (req sub : ℕ) (r : Result (Asked × Channel) (List ℕ)) → IsTaskOf site s (getting kind req sub r)
+  gets_so kind req sub (Ok found) = tt
+  gets_so kind req sub (Err why) = tt
+
+  validates_so : (buffer registry : ℕ) (method : List ℕ) (argument : Valued) → IsTaskOf site s (validated_by buffer registry method argument)
+  validates_so buffer registry method argument = either (bytes_eq method (codes "anonymous")) _ _ tt (either (bytes_eq method (codes "ca")) _ _ tt tt)
+
+  part_so : (whole : Whole) (req sub : ℕ) (found : Asked × Channel) (read : Read Source (FinSet nat_cmp × Data)) → IsHeardOf site s (heard_part whole req sub found read)
+  part_so whole req sub found (Ok x) = tt
+  part_so whole req sub found (Err fault) = tt
+
+  puts_so : (whole : Whole) (types : Types) (req sub : ℕ) (r : Result (Asked × Channel) (List ℕ)) → IsHeardOf site s (heard_putting site whole types req sub r)
+  puts_so whole types req sub (Ok found) = part_so whole req sub found _
+  puts_so whole types req sub (Err why) = tt
+
+  either_heard : (b : Bool) (x y : Hearing) → IsHeardOf site s x → IsHeardOf site s y → IsHeardOf site s (cond b x y)
+  either_heard true x y p q = p
+  either_heard false x y p q = q
+
+  message_so : (whole : Whole) (types : Types) (request : Request) → IsHeardOf site s (heard_message site s whole types request)
+  message_so whole types (said.validation buffer registry qos method argument) = validates_so buffer registry method argument
+  message_so whole types (said.echo payload) = tt
+  message_so whole types (said.create channels) = tt
+  message_so whole types (said.destroy_channel sid cid) = either (is_open s.channels sid cid) _ _ tt tt
+  message_so whole types (said.get sid req sub v) =
+      either (begins sub) _ _ (begins_so kinds.Get req sub sid v (channel_at s.channels sid) refl) (gets_so kinds.Get req sub (found_for s kinds.Get sid req))
+  message_so whole types (said.put sid req sub v part) =
+      either_heard (begins sub) _ _ (begins_so kinds.Put req sub sid v (channel_at s.channels sid) refl)
+      (either_heard (asks_back sub) _ _ (gets_so kinds.Put req sub (found_for s kinds.Put sid req)) (puts_so whole types req sub (found_for s kinds.Put sid req)))
+  message_so whole types (said.destroy_request sid req) = either (is_on sid (at s.requests req)) _ _ tt tt
+  message_so whole types (said.cancel sid req) = tt
+  message_so whole types (said.message req kind words) = tt
+  message_so whole types (said.skipped command) = tt
+  message_so whole types (said.put_get sid req sub v part) = tt
+  message_so whole types (said.monitor sid req sub v count) = tt
+  message_so whole types (said.get_field sid req path) = tt
+  message_so whole types (said.rpc sid req sub v) = tt
+
+  read_so : (whole : Whole) (read : Read Source Request) → IsHeardOf site s (heard_read site s whole read)
+  read_so whole (Ok x) = message_so whole x.1.1 x.0
+  read_so whole (Err fault) = tt
+
+  heard_so : (e : Event) → IsHeardOf site s (heard site s e)
+  heard_so (Message whole) =
+      either_heard (is_heard s whole.command) (heard_read site s whole (request_at whole.order None whole.command (whole.payload, s.types))) (asks pass_over s.types)
+      (read_so whole (request_at whole.order None whole.command (whole.payload, s.types))) tt
+  heard_so (Control command number) = either (command == 3) (echo_control number) pass_over tt tt
+
+-- Knowing other types changes nothing of that.
+
+knows : (site : SiteData) (s : State) (types : Types) (task : Task) → IsTaskOf site s task → IsTaskOf site (knowing s types) task
+knows site s types pass_over p = p
+knows site s types (echo_control number) p = p
+knows site s types (refuse r) p = p
+knows site s types (validate buffer registry user host) p = p
+knows site s types (echo payload) p = p
+knows site s types (create names) p = p
+knows site s types (destroy_channel sid cid) p = p
+knows site s types (begin kind req sub sid channel wanted) p = record { open_ = p.open_; asked = p.asked }
+knows site s types (get kind req sub ask channel) p = p
+knows site s types (put req sub ask channel mask value) p = p
+knows site s types (destroy_request req) p = p
+
+pub knowing_on_site : (site : SiteData) (s : State) (types : Types) → IsOf site s → IsOf site (knowing s types)
+knowing_on_site site s types ok = record { channels = ok.channels; requests = ok.requests }
+
+hearing_on_site : (site : SiteData) (s : State) (hearing : Hearing) (marks : List Mark) → IsHeardOf site s hearing → IsOf site s → IsOf site (after_hearing site s hearing marks)
+hearing_on_site site s (asks task types) marks p ok = task_on_site site (knowing s types) task marks (knows site s types task p) (knowing_on_site site s types ok)
+hearing_on_site site s not_built marks p ok = ok
+hearing_on_site site s (unreadable fault) marks p ok = ok
+
+pub event_on_site : (site : SiteData) (s : State) (e : Event) (marks : List Mark) → IsOf site s → IsOf site (after_event site s e marks)
+event_on_site site s e marks ok = hearing_on_site site s (heard site s e) marks (heard_so site s e) ok
+
+-- At first there are no channels and no requests.
+pub opening_on_site : (site : SiteData) (order : Order) → IsOf site (opening order)
+opening_on_site site order = record {
+  channels = λ sid channel is. absurd (none-some channel (sym (ap (option_map (λ x. x.1)) (get-empty nat_cmp sid)) ∙ is));
+  requests = λ req ask is. absurd (none-some ask (sym (get-empty nat_cmp req) ∙ is));
+}

@@ -1,0 +1,120 @@
+-- What the calls of a session do.
+use Rattle.std.specs.Prelude.{◌≡◌, ◌≢◌, ℕ, Bool, false, List, ◌++◌, Option, None, Some, Result, Ok, Err, IsTrue}
+use Rattle.std.specs.FinMap.{get as at}
+use Rattle.std.specs.FinSet as set
+use Rattle.pva_frames.specs.declared.event.Event.{Event}
+use Rattle.pvd_type.specs.declared.memory.NoMemory.{NoMemory}
+use Rattle.journal_core.specs.Moments.{Moment}
+use Rattle.desk_api.specs.Calls.{Adds, HaveMoment}
+use Rattle.desk_api.specs.Sites.{is_channel}
+use Rattle.desk_api.specs.Types.{type_of, HoldsLeaves}
+use Rattle.desk_api.specs.declared.channel.Channel.{Channel}
+use Rattle.desk_api.specs.declared.history.SiteData.{SiteData}
+use Rattle.desk_api.specs.declared.mark.Mark.{Mark}
+use Rattle.desk_api.specs.declared.mark.Seat.{Seat}
+use Rattle.srv_session.specs.State.{State, Channels, Asked, channel_at}
+use Rattle.srv_session.specs.Replies.{Sent, spelled_all}
+use Rattle.srv_session.specs.Tasks.{Task, Hearing, not_built, unreadable, heard}
+use Rattle.srv_session.specs.Rows.{Row, Part, after_task}
+use Rattle.srv_session.specs.Steps.{IsAnswer, PartOf, AreEndings, after_hearing}
+use Rattle.srv_session.specs.declared.stop.SessionStop.{SessionStop}
+use Rattle.srv_session.specs.declared.stop.SessionStop.TheVariants as stops
+
+-- A session is one of a site where its channels are the site's, and its requests are on open channels, each for at
+-- least one leaf of its channel.
+
+-- it has selected leaves of the channel, at least one
+pub record Selects (site : SiteData) (channel : Channel) (ask : Asked) : Type 0 where
+  pub leaves : HoldsLeaves (type_of site channel) ask.mask
+  pub some : ask.mask ≢ set.empty
+
+pub record IsAskOf (site : SiteData) (channels : Channels) (ask : Asked) : Type 0 where
+  pub channel : Channel
+  pub open_ : channel_at channels ask.sid ≡ Some channel
+  pub selects : Selects site channel ask
+
+pub record IsOf (site : SiteData) (s : State) : Type 0 where
+  pub channels : (sid : ℕ) (channel : Channel) → channel_at s.channels sid ≡ Some channel
+      → IsTrue (is_channel site channel)
+  pub requests : (req : ℕ) (ask : Asked) → at s.requests req ≡ Some ask → IsAskOf site s.channels ask
+
+-- what a session and its desk show
+pub record Shown : Type 0 where
+  pub seat : Seat
+  pub state : State
+  pub output : List ℕ
+
+abbrev pub site_of : Shown → SiteData
+site_of x = x.seat.seen.base.site
+
+-- A task was answered by its row. An entry that it made has the moment of the call.
+pub record Answered (old new : Shown) (moment : Moment) (task : Task) : Type 0 where
+  pub marks : List Mark
+  pub sent : List Sent
+  pub row : Row (site_of old) old.state task marks sent
+  pub adds : Adds old.seat new.seat marks
+  pub moments : HaveMoment (Some moment) marks
+  pub state : new.state ≡ after_task (site_of old) old.state task marks
+  pub output : new.output ≡ old.output ++ spelled_all old.state.order old.state.segment sent
+
+-- Memory ran out in it.
+pub record GaveUp (old new : Shown) (moment : Moment) (part : List Mark → Type 0) : Type 0 where
+  pub marks : List Mark
+  pub part_is : part marks
+  pub adds : Adds old.seat new.seat marks
+  pub moments : HaveMoment (Some moment) marks
+  pub output : new.output ≡ old.output
+
+-- One call of a row's function, by its answer.
+abbrev pub Takes : Shown → Shown → Moment → Task → Result (Unit {0}) NoMemory → Type 0
+Takes old new moment task (Ok u) = Answered old new moment task
+Takes old new moment task (Err e) = GaveUp old new moment (Part (site_of old) old.state task)
+
+-- What was heard was answered.
+pub record Replied (old new : Shown) (moment : Moment) (hearing : Hearing) : Type 0 where
+  pub marks : List Mark
+  pub sent : List Sent
+  pub answers : IsAnswer (site_of old) old.state hearing marks sent
+  pub adds : Adds old.seat new.seat marks
+  pub moments : HaveMoment (Some moment) marks
+  pub state : new.state ≡ after_hearing (site_of old) old.state hearing marks
+  pub output : new.output ≡ old.output ++ spelled_all old.state.order old.state.segment sent
+
+-- It has no answer, and nothing has changed.
+pub record Stopped (old new : Shown) (hearing without : Hearing) : Type 0 where
+  pub heard_is : hearing ≡ without
+  pub seat : new.seat ≡ old.seat
+  pub output : new.output ≡ old.output
+
+abbrev pub Heeds : Shown → Shown → Moment → Hearing → Result (Unit {0}) SessionStop → Type 0
+Heeds old new moment hearing (Ok u) = Replied old new moment hearing
+Heeds old new moment hearing (Err stops.NotBuilt) = Stopped old new hearing not_built
+Heeds old new moment hearing (Err (stops.Message fault)) = Stopped old new hearing (unreadable fault)
+Heeds old new moment hearing (Err stops.NoMemory) = GaveUp old new moment (PartOf (site_of old) old.state hearing)
+
+-- what is heard in an event
+abbrev pub heard_by : Shown → Event → Hearing
+heard_by old e = heard (site_of old) old.state e
+
+-- an event was answered
+abbrev pub Handled : Shown → Shown → Moment → Event → Type 0
+Handled old new moment e = Replied old new moment (heard_by old e)
+
+-- An event that always has an answer was answered, or memory ran out in it.
+abbrev pub Responds : Shown → Shown → Moment → Event → Result (Unit {0}) NoMemory → Type 0
+Responds old new moment e (Ok u) = Handled old new moment e
+Responds old new moment e (Err no_memory) = GaveUp old new moment (PartOf (site_of old) old.state (heard_by old e))
+
+abbrev pub Handles : Shown → Shown → Moment → Event → Result (Unit {0}) SessionStop → Type 0
+Handles old new moment e result = Heeds old new moment (heard_by old e) result
+
+-- A pump popped nothing and says so: no request is a monitor so far.
+pub record Pumped (old new : Shown) (more : Result Bool NoMemory) : Type 0 where
+  pub none : more ≡ Ok false
+  pub same : new ≡ old
+
+-- The session has ended, and its subscriptions with it: the marks are their endings.
+pub record Finished (old : Shown) (seat : Seat) : Type 0 where
+  pub marks : List Mark
+  pub endings : AreEndings old.state marks
+  pub adds : Adds old.seat seat marks

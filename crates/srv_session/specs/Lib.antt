@@ -1,0 +1,7 @@
+pub mod State
+pub mod Replies
+pub mod Tasks
+pub mod Rows
+pub mod Steps
+pub mod Calls
+pub mod Views

@@ -1,0 +1,164 @@
+-- What a session says to what it is asked: one row for each task, which names the marks of its desk and the replies;
+-- and the state that it leaves (pvAccess Protocol Specification, "Application Messages").
+use Rattle.std.specs.Prelude.{◌≡◌, ℕ, true, false, List, [], ◌∷◌, Option, None, Some, Result, Ok, Err, codes, if◌then◌else◌}
+use Rattle.std.specs.FinMap.{insert, remove}
+use Rattle.std.specs.FinSet.{FinSet}
+use Rattle.std.specs.Ordering.{nat_cmp}
+use Rattle.journal_core.specs.Moments.{Moment}
+use Rattle.pva_wire.specs.declared.status.Status.{Status}
+use Rattle.pva_wire.specs.Status.{good}
+use Rattle.pvd_value.specs.Data.{Data}
+use Rattle.pva_messages.specs.Replies as reply
+use Rattle.pva_messages.specs.Replies.{Reply}
+use Rattle.pva_messages.specs.Subcommands.{ends}
+use Rattle.pvd_request.specs.declared.request.Request.{Request as Wanted}
+use Rattle.chan_table.specs.declared.ask.AskKind.{AskKind}
+use Rattle.chan_table.specs.declared.ask.AskKind.TheVariants as kinds
+use Rattle.rec_kinds.specs.declared.put.PutRefusal.{PutRefusal}
+use Rattle.rec_kinds.specs.declared.put.PutRefusal.TheVariants as refusals
+use Rattle.desk_api.specs.Calls as calls
+use Rattle.desk_api.specs.Calls.{IsGet, IsPartOfGet, ArePut}
+use Rattle.desk_api.specs.Sites.{channel_named}
+use Rattle.desk_api.specs.Types.{type_of}
+use Rattle.desk_api.specs.declared.channel.Channel.{Channel}
+use Rattle.desk_api.specs.declared.history.SiteData.{SiteData}
+use Rattle.desk_api.specs.declared.mark.Mark.{Mark}
+use Rattle.desk_api.specs.declared.put.Done.{Done}
+use Rattle.desk_api.specs.declared.put.PutAnswer.{PutAnswer}
+use Rattle.desk_api.specs.declared.put.PutAnswer.TheVariants as answers
+use Rattle.srv_session.specs.State.{State, Channels, Requests, Asked, segment_for, is_full, least_free, without_channel}
+use Rattle.srv_session.specs.Replies.{Sent, said, control, error, answered, begun, got}
+use Rattle.srv_session.specs.Tasks.{Task, pass_over, echo_control, refuse, validate, echo, create, destroy_channel, begin, get, put, destroy_request}
+
+-- Channels that are created.
+
+-- A name of the site opens a channel under the least number that none has, where there is room for one.
+
+abbrev pub created : Channels → ℕ → Option Channel → Reply
+created channels cid None = reply.created cid 0xFFFF_FFFF (error (codes "channel not found"))
+created channels cid (Some channel) =
+    if is_full channels then reply.created cid 0xFFFF_FFFF (error (codes "too many channels"))
+    else reply.created cid (least_free channels) good
+
+abbrev pub opened : Channels → ℕ → Option Channel → Channels
+opened channels cid None = channels
+opened channels cid (Some channel) =
+    if is_full channels then channels else insert channels (least_free channels) (cid, channel)
+
+-- Name by name, each against the channels that the names before it left.
+
+abbrev pub all_created : SiteData → Channels → List (ℕ × List ℕ) → List Sent
+all_created site channels [] = []
+all_created site channels (x ∷ names) =
+    said (created channels x.0 (channel_named site x.1))
+    ∷ all_created site (opened channels x.0 (channel_named site x.1)) names
+
+abbrev pub all_opened : SiteData → Channels → List (ℕ × List ℕ) → Channels
+all_opened site channels [] = channels
+all_opened site channels (x ∷ names) = all_opened site (opened channels x.0 (channel_named site x.1)) names
+
+-- Puts.
+
+-- why a put was refused
+abbrev pub refusal_text : PutRefusal → List ℕ
+refusal_text refusals.IndexOutside = codes "index outside the choices"
+refusal_text refusals.TextTooLong = codes "text too long"
+refusal_text refusals.TooManyElements = codes "too many elements"
+refusal_text refusals.Disabled = codes "puts are disabled"
+refusal_text refusals.NothingWritable = codes "nothing writable"
+
+-- What a put's client is told. Where memory ran out it is told nothing.
+abbrev pub put_status : Result Done PutAnswer → Option Status
+put_status (Ok done) = Some good
+put_status (Err (answers.Refused refusal)) = Some (error (refusal_text refusal))
+put_status (Err (answers.JournalFull kept entry limit done)) = Some (error (codes "journal full"))
+put_status (Err (answers.NoMemory done)) = None
+
+-- what a put asks of the desk, at some moment
+abbrev pub asked : SiteData → Asked → Channel → FinSet nat_cmp → Data → Moment → calls.Asked
+asked site ask channel mask value moment =
+    record { site = site; channel = channel; mask = mask; value = value; moment = moment; atomic = ask.atomic }
+
+-- The rows.
+
+-- the desk isn't asked for anything that makes a mark, and this is sent
+pub record Says (these : List Sent) (marks : List Mark) (sent : List Sent) : Type 0 where
+  pub marks_are : marks ≡ []
+  pub sent_is : sent ≡ these
+
+-- What the channel shows of what the marks found: the leaves that the request selected when it began.
+pub record GetRow (site : SiteData) (kind : AskKind) (req sub : ℕ) (ask : Asked) (channel : Channel) (marks : List Mark)
+    (sent : List Sent) : Type 0 where
+  pub value : Data
+  pub is_get : IsGet site channel ask.atomic value marks
+  pub sent_is : sent ≡ said (got kind req sub (type_of site channel) ask.mask value) ∷ []
+
+-- what became of the put, at some moment
+pub record PutRow (site : SiteData) (req sub : ℕ) (ask : Asked) (channel : Channel) (mask : FinSet nat_cmp)
+    (value : Data) (marks : List Mark) (sent : List Sent) : Type 0 where
+  pub moment : Moment
+  pub answer : Result Done PutAnswer
+  pub status : Status
+  pub is_put : ArePut (asked site ask channel mask value moment) answer marks
+  pub status_is : put_status answer ≡ Some status
+  pub sent_is : sent ≡ said (answered kinds.Put req sub status) ∷ []
+
+-- What the session says to this task.
+abbrev pub Row : SiteData → State → Task → List Mark → List Sent → Type 0
+Row site s pass_over = Says []
+Row site s (echo_control number) = Says (control 4 number ∷ [])
+Row site s (refuse r) = Says (said r ∷ [])
+Row site s (validate buffer registry user host) = Says (said (reply.validated good) ∷ [])
+Row site s (echo payload) = Says (said (reply.echo payload) ∷ [])
+Row site s (create names) = Says (all_created site s.channels names)
+Row site s (destroy_channel sid cid) = Says (said (reply.channel_destroyed sid cid) ∷ [])
+Row site s (begin kind req sub sid channel wanted) = Says (said (begun kind req sub (type_of site channel)) ∷ [])
+Row site s (get kind req sub ask channel) = GetRow site kind req sub ask channel
+Row site s (put req sub ask channel mask value) = PutRow site req sub ask channel mask value
+Row site s (destroy_request req) = Says []
+
+-- The marks that may stand where memory ran out in a row.
+
+abbrev pub NoPart : List Mark → Type 0
+NoPart marks = marks ≡ []
+
+abbrev pub PutPart : SiteData → Asked → Channel → FinSet nat_cmp → Data → List Mark → Type 0
+PutPart site ask channel mask value marks =
+    (moment : Moment) × (answer : Result Done PutAnswer)
+    × ArePut (asked site ask channel mask value moment) answer marks
+
+abbrev pub Part : SiteData → State → Task → List Mark → Type 0
+Part site s (get kind req sub ask channel) = IsPartOfGet site channel ask.atomic
+Part site s (put req sub ask channel mask value) = PutPart site ask channel mask value
+Part site s task = NoPart
+
+-- The state that a task leaves, with the marks that were made.
+
+-- a request that has begun on the channel of this id
+abbrev pub ask_of : AskKind → ℕ → Wanted → Asked
+ask_of kind sid wanted = record {
+  sid = sid;
+  kind = kind;
+  mask = wanted.mask;
+  atomic = wanted.atomic;
+  sub = None;
+  window = None;
+  started = false;
+}
+
+-- the requests behind a message about one of them, which ends it by a bit of its subcommand
+abbrev pub behind : ℕ → ℕ → Requests → Requests
+behind req sub requests = if ends sub then remove requests req else requests
+
+abbrev pub after_task : SiteData → State → Task → List Mark → State
+after_task site s (validate buffer registry user host) marks =
+    record s { validated = true; segment = segment_for buffer; registry = registry; user = user; host = host }
+after_task site s (create names) marks = record s { channels = all_opened site s.channels names }
+after_task site s (destroy_channel sid cid) marks =
+    record s { channels = remove s.channels sid; requests = without_channel sid s.requests }
+after_task site s (begin kind req sub sid channel wanted) marks =
+    record s { requests = insert s.requests req (ask_of kind sid wanted) }
+after_task site s (get kind req sub ask channel) marks = record s { requests = behind req sub s.requests }
+after_task site s (put req sub ask channel mask value) marks = record s { requests = behind req sub s.requests }
+after_task site s (destroy_request req) marks = record s { requests = remove s.requests req }
+after_task site s task marks = s

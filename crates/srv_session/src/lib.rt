@@ -1,0 +1,18 @@
+//! One session of a server: events of a client in, replies out (pvAccess Protocol Specification, "Application Messages").
+#![tactic(auto)]
+
+mod channels;
+mod gets;
+mod handling;
+mod monitors;
+mod puts;
+mod requests;
+mod session;
+mod stop;
+mod subcommand;
+mod validation;
+mod writing;
+
+pub use pvd_type::NoMemory;
+pub use session::Session;
+pub use stop::SessionStop;

@@ -1,0 +1,26 @@
+// The bits of a subcommand (pvAccess Protocol Specification, "Application Messages").
+ghost use Rattle.std.specs.Prelude.{◌≡◌, ◌<◌};
+ghost use Rattle.pvd_type.specs.Sets.{bit};
+ghost use Rattle.pva_messages.specs.Subcommands.{ends, asks_back};
+
+/// Whether a subcommand has the bit of this place.
+fn has(sub: u8, place: u32) -> bool
+    requires { place < 8 }
+    ensures { result ≡ bit sub place }
+{
+    (sub >> place) & 1 == 1
+}
+
+/// Bit 10: the request ends.
+pub(crate) fn ends(sub: u8) -> bool
+    ensures { result ≡ ends sub }
+{
+    has(sub, 4)
+}
+
+/// Bit 40: the present value is asked for.
+pub(crate) fn asks_back(sub: u8) -> bool
+    ensures { result ≡ asks_back sub }
+{
+    has(sub, 6)
+}
