@@ -4,6 +4,8 @@ mod Maps
 mod Numbers
 mod Orderly
 mod Objects
+mod Quoting
+mod Characters
 mod Drafts
 mod Trimming
 mod Joins

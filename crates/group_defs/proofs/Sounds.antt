@@ -20,6 +20,7 @@ use Rattle.group_defs.specs.Told.{Told, ◌>>=◌, each, given}
 use Rattle.group_defs.specs.Names.{name_fits}
 use Rattle.group_defs.specs.Members.{is_setting, is_unknown, text_at, kind_at, order_at, channel_fits, record_of, member_text, settled, member_of}
 use Rattle.group_defs.specs.Keys.{setting_of, said_by}
+use Rattle.group_defs.specs.BareKeys.{with_quoted_keys}
 use Rattle.group_defs.specs.Order.{text_cmp, Place, in_order, json_of, groups_of}
 use Rattle.group_defs.specs.Joined.{Joined, blank}
 use Rattle.group_defs.specs.Joining.{known, with_group, joined_with, join_key, join_keys, join_group, join_groups, join_text, join_info, join_infos, join_record, join_texts}
@@ -272,7 +273,7 @@ module _ (records number : ℕ) (inside : number < records) where
 
   text_sound : (gs hs : Groups) (text : List ℕ) → AreSound records gs → join_text number gs text ≡ Ok hs → AreSound records hs
   unfolding join_text
-  text_sound gs hs text s h = read_sound gs hs (json_of text) s h
+  text_sound gs hs text s h = read_sound gs hs (json_of (with_quoted_keys text)) s h
 
   info_sound : (gs hs : Groups) (i : Info) → AreSound records gs → join_info number gs i ≡ Ok hs → AreSound records hs
   info_sound gs hs i s h = go (bytes_eq i.name (codes "Q:group")) h

@@ -12,6 +12,7 @@ use Rattle.rec_kinds.specs.declared.record_text.Info.{Info}
 use Rattle.rec_kinds.specs.declared.record_text.RecText.{RecText}
 use Rattle.group_defs.specs.Told.{Told, ◌>>=◌, each}
 use Rattle.group_defs.specs.Keys.{said_by}
+use Rattle.group_defs.specs.BareKeys.{with_quoted_keys}
 use Rattle.group_defs.specs.Order.{Place, in_order, json_of, groups_of}
 use Rattle.group_defs.specs.Joined.{Joined, blank}
 use Rattle.group_defs.specs.Statements.{Word, opened, says, Statement, Line, key_line, group_lines, lines_of, text_lines, info_lines, spoken, about, joined_of, with_name, named, Groups, stated, has_member, with_line, fault_in, in_record, with_record, statements}
@@ -207,7 +208,7 @@ module _ (number : ℕ) where
 
   text_follows : (ss : List Statement) → IsOrderly ss → (text : List ℕ) → Follows (join_text number (stated ss) text) (each with_line ss (text_lines number text))
   unfolding join_text
-  text_follows ss o text = go (json_of text)
+  text_follows ss o text = go (json_of (with_quoted_keys text))
     where
       go : (told : Told Json) → Follows (told >>= λ j. groups_of j >>= λ es. join_groups number (stated ss) es) (each with_line ss (lines_of number (told >>= groups_of)))
       go (Ok j) = objects_follow ss o (groups_of j)

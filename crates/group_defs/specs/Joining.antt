@@ -12,6 +12,7 @@ use Rattle.rec_kinds.specs.declared.record_text.Info.{Info}
 use Rattle.rec_kinds.specs.declared.record_text.RecText.{RecText}
 use Rattle.group_defs.specs.Told.{Told, ◌>>=◌, each}
 use Rattle.group_defs.specs.Statements.{Groups, has_member, in_record}
+use Rattle.group_defs.specs.BareKeys.{with_quoted_keys}
 use Rattle.group_defs.specs.Keys.{said_by}
 use Rattle.group_defs.specs.Order.{text_cmp, Place, in_order, json_of, groups_of}
 use Rattle.group_defs.specs.Joined.{Joined, blank}
@@ -50,7 +51,8 @@ abbrev pub join_groups : ℕ → Groups → List (List ℕ × Members) → Told 
 join_groups number = each (join_group number)
 
 unfoldable pub join_text : ℕ → Groups → List ℕ → Told Groups
-join_text number groups text = json_of text >>= λ j. groups_of j >>= λ es. join_groups number groups es
+join_text number groups text =
+    json_of (with_quoted_keys text) >>= λ j. groups_of j >>= λ es. join_groups number groups es
 
 -- of the infos of a record, `Q:group` alone speaks of groups
 abbrev pub join_info : ℕ → Groups → Info → Told Groups

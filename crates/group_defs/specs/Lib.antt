@@ -4,6 +4,7 @@ pub mod Members
 pub mod Keys
 pub mod Order
 pub mod Shown
+pub mod BareKeys
 pub mod Joined
 pub mod Statements
 pub mod Joining

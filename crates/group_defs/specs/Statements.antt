@@ -10,6 +10,7 @@ use Rattle.json.specs.Json.{Json, Members}
 use Rattle.rec_kinds.specs.declared.record_text.Info.{Info}
 use Rattle.rec_kinds.specs.declared.record_text.RecText.{RecText}
 use Rattle.group_defs.specs.Told.{Told, ◌>>=◌, each}
+use Rattle.group_defs.specs.BareKeys.{with_quoted_keys}
 use Rattle.group_defs.specs.Keys.{said_by}
 use Rattle.group_defs.specs.Order.{text_cmp, Place, in_order, json_of, groups_of}
 use Rattle.group_defs.specs.Joined.{Joined, blank}
@@ -46,8 +47,9 @@ abbrev pub lines_of : ℕ → Told (List (List ℕ × Members)) → List Line
 lines_of number (Err stop) = Err stop ∷ []
 lines_of number (Ok es) = flat_map (group_lines number) es
 
+-- a text is read once its bare keys are in quotes
 abbrev pub text_lines : ℕ → List ℕ → List Line
-text_lines number text = lines_of number (json_of text >>= groups_of)
+text_lines number text = lines_of number (json_of (with_quoted_keys text) >>= groups_of)
 
 -- of the infos of a record, `Q:group` alone speaks of groups
 abbrev pub info_lines : ℕ → Info → List Line

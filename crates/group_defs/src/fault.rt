@@ -5,7 +5,7 @@ use std::alloc::{AllocError, AllocFailed};
 /// or the group where they are found while its type is built; the others name the group.
 #[derive(Debug, Drop)]
 pub enum GroupFault {
-    /// A text is no JSON, nests deeper than 128 levels, or is no object of objects.
+    /// A text, once its bare keys are in quotes, is no JSON, nests deeper than 128 levels, or is no object of objects.
     BadJson(Name),
     /// A key that begins with `+` is none that stands there.
     UnknownKey(Name),

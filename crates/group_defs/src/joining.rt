@@ -7,6 +7,7 @@ ghost use Rattle.group_defs.specs.Shown.{shown_places, shown_groups};
 ghost use Rattle.group_defs.specs.Joining.{known, with_group, join_key, join_keys, join_group, join_groups, join_text, join_info, join_infos, join_record, join_texts};
 ghost use Rattle.group_defs.specs.Statements.{fault_in};
 
+use crate::bare_keys::with_quoted_keys;
 use crate::draft::Draft;
 use crate::fault::{GroupFault, Stop};
 use crate::keys::said_by;
@@ -117,13 +118,14 @@ fn join_groups<'a>(
     Ok(())
 }
 
-/// Joins what a text says.
+/// Joins what a text says once its bare keys are in quotes.
 #[tactic(auto, unfolding(crate::specs::Joining::join_text))]
 fn join_text(alloc: Global, number: u32, groups: &mut Drafts, text: &str) -> Result<(), Stop>
     ensures { Gives (λ _. groups_seen groups.new) result (join_text number (groups_seen groups.old) text.now) }
 {
+    let quoted = with_quoted_keys(alloc, text)?;
     let mut scratch = Scratch::new(alloc);
-    let value = json_of(alloc, text, &mut scratch)?;
+    let value = json_of(alloc, quoted.as_str(), &mut scratch)?;
     let objects = groups_of(alloc, &value)?;
     join_groups(alloc, number, groups, &objects)?;
     Ok(())

@@ -2,6 +2,7 @@
 //! definitions").
 #![tactic(auto)]
 
+mod bare_keys;
 mod building;
 mod checking;
 mod def;

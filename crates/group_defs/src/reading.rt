@@ -29,7 +29,8 @@ fn read_in_place(alloc: Global, texts: &[RecText]) -> Result<Vec<GroupDef>, Grou
 }
 
 /// The groups that the records' infos `Q:group` define, in the order in which they are first named (QSRV manual,
-/// "Group PV definitions"). A record's number is its place among the texts.
+/// "Group PV definitions"). A record's number is its place among the texts. Each text is JSON once its bare keys are in
+/// quotes: the bare words outside of quotes, of letters, digits and `_ + - .`, that a colon follows after spaces and tabs.
 ///
 /// Faults are found in two readings. The first goes by the records, then by the groups' names and the keys of each by
 /// their bytes, and finds BadJson at a record, and UnknownKey, BadMember and SameMember in this order at a key. The

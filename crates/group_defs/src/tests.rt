@@ -233,6 +233,58 @@ fn definitions_are_joined_with_their_triggers(rt: HostRuntime) -> Result<(), Fai
     Ok(())
 }
 
+#[test]
+fn bare_keys_are_put_in_quotes(rt: HostRuntime) -> Result<(), Fail> {
+    let alloc = rt.alloc();
+    let rows = [
+        (
+            r#"{ "G0": { "s.r0m": {+type:"meta", +channel:"VAL", +putorder:4} } }"#,
+            "G0 '' atomic: s.r0m=meta@0#4>0;",
+        ),
+        (
+            r#"{ "G0": { +id:"my:id/1.0", "r4p": {+type:"plain", +channel:"VAL", +putorder:1, +trigger:""} } }"#,
+            "G0 'my:id/1.0' atomic: r4p=plain@0#1>;",
+        ),
+        (
+            r#"{ "G0": { +atomic:false, "z9p": {+type:"proc", +channel:"VAL"} } }"#,
+            "G0 '' apart: z9p=proc@0>0;",
+        ),
+        (
+            r#"{ "grp:2": { "s.a4m": {+type:"meta", +channel:"VAL", +ptorder:5} } }"#,
+            "UnknownKey A",
+        ),
+        (
+            r#"{ "G0"{ "a3s": {+type:"scalar", +channel:"VAL"} } }"#,
+            "BadJson A",
+        ),
+        (
+            r#"{ "G0": { "z10p": {+type:"plain"+channel:"VAL"} } }"#,
+            "BadJson A",
+        ),
+        // spaces and tabs alone may stand before the colon
+        (
+            "{G_1 :{-a.b\t : {+channel \t:\"VAL\"}}}",
+            "G_1 '' atomic: -a.b=scalar@0>0;",
+        ),
+        ("{G\n:{}}", "BadJson A"),
+        // what stands in quotes stays
+        (
+            r#"{"a b:\\":{+id:"\" \u00e9é c:", 1:{+channel:"VAL"}}, "+d:":{}}"#,
+            "+d: '' atomic:;a b:\\ '\" éé c:' atomic: 1=scalar@0>0;",
+        ),
+        // a bare word that no colon follows is a value
+        (r#"{"G": {+atomic:true, +id:+id}}"#, "BadJson A"),
+        ("{é:{}}", "BadJson A"),
+        ("{G:{}, G", "BadJson A"),
+        (r#"{G:{}, "G:{}}"#, "BadJson A"),
+        (r#"{G:{}, "G:{}}\"#, "BadJson A"),
+    ];
+    for (json, words) in rows {
+        assert_eq!(rt; defined(alloc, &[("A", json)])?.as_str(), words);
+    }
+    Ok(())
+}
+
 /// A member that has no fault.
 const FINE: &str = r#"{"G": {"m": {"+channel":"VAL"}}}"#;
 
