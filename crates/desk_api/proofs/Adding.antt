@@ -1,5 +1,5 @@
 -- Calls of a desk one after another.
-use Rattle.std.specs.Prelude.{◌≡◌, ℕ, ◌≤◌, List, [], ◌∷◌, ◌++◌, length, Option, Some, slice_get, refl}
+use Rattle.std.specs.Prelude.{◌≡◌, ℕ, ◌+◌, ◌≤◌, List, [], ◌∷◌, ◌++◌, length, Option, Some, slice_get, refl}
 use Rattle.std.proofs.Common.{take, sym, ◌∙◌, ap, subst, arith, append_assoc}
 use Rattle.std.proofs.lemmas.List.{append-nil, take-append-le}
 use Rattle.rec_kinds.specs.declared.state.RecState.{RecState}
@@ -51,9 +51,10 @@ still_holds seat b (Read at channel footprint found) before t = record {
   footprint_is = subst (λ (g : Base). IsLookOf g.site channel footprint) (sym b.base) t.footprint_is;
   found_is = subst (λ (s : List RecState). AreStatesOf s footprint found) (sym (same_state b at t.within)) t.found_is;
 }
-still_holds seat {h} {k} b (Entered at entry) before t = record {
+still_holds seat {h} {k} b (Entered at entry looked found) before t = record {
   there = subst (λ (es : List (ℕ × Entry)). slice_get es at ≡ Some (seat, entry)) (sym (more_by_seat b)) (same_element (entries h) (entries_by_seat b.deeds.rest) at (seat, entry) t.there);
   light = omega (arith, t.light, ap (λ (g : Base). g.limit) b.base, same_kept b at (omega (arith, element_within (entries h) at (seat, entry) t.there)));
+  found_is = subst (λ (s : List RecState). AreStatesOf s looked found) (sym (same_state b (at + 1) (omega (arith, element_within (entries h) at (seat, entry) t.there)))) t.found_is;
 }
 still_holds seat b (Overweight at footprint actions kept added limit) before t = record {
   within = omega (arith, t.within, grown_length b);

@@ -13,13 +13,13 @@ use Rattle.histories.proofs.Prefixes.{element_within}
 use Rattle.std.specs.List.Sorted.{IsStrictlyIncreasing}
 use Rattle.std.proofs.lemmas.List.Folds.{list_any-append}
 use Rattle.group_view.specs.Leaves.{footprint}
-use Rattle.desk_api.proofs.Noting.{here, later, some_place, all_from_each}
+use Rattle.desk_api.proofs.Noting.{here, later, some_place, all_from_each, one_of_all, or_false}
 use Rattle.desk_api.proofs.Reaching.{footprint_below}
 use Rattle.desk_api.proofs.Rising.{filter_rising}
 use Rattle.desk_api.proofs.Showing.{over_at}
 use Rattle.desk_api.specs.Sites.{AreOver}
 use Rattle.desk_api.specs.Grouping.{is_among}
-use Rattle.desk_api.specs.Puts.{footprint_by, is_held, is_held_with}
+use Rattle.desk_api.specs.Puts.{footprint_by, footprint_with, is_held, is_held_with}
 use Rattle.desk_api.specs.declared.history.SiteData.{SiteData}
 
 -- a number that passes a test stands in the filtered range
@@ -68,23 +68,38 @@ configured site states moment action drove write (Some config) (Some state) is d
 configured site states moment action drove write (Some config) None is done = absurd done
 configured site states moment action drove write None state is done = absurd done
 
-inside_each : (site : SiteData) (whole : List (ℕ × Action)) (states : List RecState) (moment : Moment) (actions : List (ℕ × Action)) (drove : List Bool) (writes : List (ℕ × RecState))
+-- among these records are all that are held
+abbrev HasHeld : SiteData → List (ℕ × Action) → List ℕ → Type 0
+HasHeld site whole recs = (n : ℕ) → n < length site.configs → is_held site whole n ≡ true → is_among recs n ≡ true
+
+inside_each : (site : SiteData) (whole : List (ℕ × Action)) (recs : List ℕ) → HasHeld site whole recs → (states : List RecState) (moment : Moment) (actions : List (ℕ × Action)) (drove : List Bool) (writes : List (ℕ × RecState))
     → AreHeld site whole actions → AreProcessed site.configs states moment actions drove writes
-    → list_all (λ (write : ℕ × RecState). is_among (footprint_by site whole) write.0) writes ≡ true
-inside_each site whole states moment [] [] [] held done = refl
-inside_each site whole states moment [] [] (w ∷ writes) held done = absurd done
-inside_each site whole states moment [] (d ∷ drove) writes held done = absurd done
-inside_each site whole states moment (a ∷ actions) [] writes held done = absurd done
-inside_each site whole states moment (a ∷ actions) (d ∷ drove) [] held done = absurd done
-inside_each site whole states moment (a ∷ actions) (d ∷ drove) (w ∷ writes) held done =
+    → list_all (λ (write : ℕ × RecState). is_among recs write.0) writes ≡ true
+inside_each site whole recs has states moment [] [] [] held done = refl
+inside_each site whole recs has states moment [] [] (w ∷ writes) held done = absurd done
+inside_each site whole recs has states moment [] (d ∷ drove) writes held done = absurd done
+inside_each site whole recs has states moment (a ∷ actions) [] writes held done = absurd done
+inside_each site whole recs has states moment (a ∷ actions) (d ∷ drove) [] held done = absurd done
+inside_each site whole recs has states moment (a ∷ actions) (d ∷ drove) (w ∷ writes) held done =
     let at = configured site states moment a d w (slice_get site.configs a.0) (slice_get states a.0) refl done.0 in
-    let first : is_among (footprint_by site whole) w.0 ≡ true =
-    subst (λ (n : ℕ). is_among (footprint_by site whole) n ≡ true) at.1 (in_range (is_held site whole) (length site.configs) 0 a.0 (omega arith) (omega (arith, at.0)) held.0) in
-    rw first (inside_each site whole (set states w.0 w.1) moment actions drove writes held.1 done.1)
+    let first : is_among recs w.0 ≡ true = subst (λ (n : ℕ). is_among recs n ≡ true) at.1 (has a.0 at.0 held.0) in
+    rw first (inside_each site whole recs has (set states w.0 w.1) moment actions drove writes held.1 done.1)
+
+has_held : (site : SiteData) (actions : List (ℕ × Action)) → HasHeld site actions (footprint_by site actions)
+has_held site actions n less held = in_range (is_held site actions) (length site.configs) 0 n (omega arith) (omega (arith, less)) held
+
+has_held_with : (site : SiteData) (actions : List (ℕ × Action)) (looked : List ℕ) → HasHeld site actions (footprint_with site actions looked)
+has_held_with site actions looked n less held =
+    in_range (λ rec. is_held site actions rec || is_among looked rec) (length site.configs) 0 n (omega arith) (omega (arith, less)) (ap (λ (b : Bool). b || is_among looked n) held)
 
 pub writes_inside : (site : SiteData) (states : List RecState) (moment : Moment) (actions : List (ℕ × Action)) (drove : List Bool) (writes : List (ℕ × RecState))
     → AreProcessed site.configs states moment actions drove writes → IsTrue (list_all (λ write. list_any (λ rec. rec == write.0) (footprint_by site actions)) writes)
-writes_inside site states moment actions drove writes done = inside_each site actions states moment actions drove writes (each_held site actions) done
+writes_inside site states moment actions drove writes done = inside_each site actions (footprint_by site actions) (has_held site actions) states moment actions drove writes (each_held site actions) done
+
+pub writes_inside_with : (site : SiteData) (states : List RecState) (moment : Moment) (actions : List (ℕ × Action)) (looked : List ℕ) (drove : List Bool) (writes : List (ℕ × RecState))
+    → AreProcessed site.configs states moment actions drove writes → IsTrue (list_all (λ write. list_any (λ rec. rec == write.0) (footprint_with site actions looked)) writes)
+writes_inside_with site states moment actions looked drove writes done =
+    inside_each site actions (footprint_with site actions looked) (has_held_with site actions looked) states moment actions drove writes (each_held site actions) done
 
 -- ---- what is held is there
 
@@ -105,13 +120,22 @@ held_within site (a ∷ actions) rec over within held = first_or_later (is_held_
   first_or_later true is later e = held_below site rec a.0 over within.0 is
   first_or_later false is later e = later e
 
--- Numbers that rise, and among which the held records are, are the footprint.
-pub is_footprint : (site : SiteData) (actions : List (ℕ × Action)) (recs : List ℕ) → AreOver site → AllByRecursion (λ a. a.0 < length site.configs) actions → IsStrictlyIncreasing recs
-    → ((rec : ℕ) → is_among recs rec ≡ is_held site actions rec) → recs ≡ footprint_by site actions
-is_footprint site actions recs over within rises are =
-    sym (filter_rising (is_held site actions) recs (length site.configs) rises
-    (all_from_each (λ rec. rec < length site.configs) recs (λ rec e. held_within site actions rec over within (sym (are rec) ∙ e)))
+either_within : (site : SiteData) (actions : List (ℕ × Action)) (looked : List ℕ) (rec : ℕ) → AreOver site → AllByRecursion (λ a. a.0 < length site.configs) actions → AllByRecursion (λ r. r < length site.configs) looked
+    → (held : Bool) → is_held site actions rec ≡ held → (held || is_among looked rec) ≡ true → rec < length site.configs
+either_within site actions looked rec over within below true is e = held_within site actions rec over within is
+either_within site actions looked rec over within below false is e = one_of_all (λ r. r < length site.configs) looked rec below e
+
+-- Numbers that rise, and among which are the held records and those that are looked at, are the footprint.
+pub is_footprint : (site : SiteData) (actions : List (ℕ × Action)) (looked recs : List ℕ) → AreOver site → AllByRecursion (λ a. a.0 < length site.configs) actions → AllByRecursion (λ r. r < length site.configs) looked
+    → IsStrictlyIncreasing recs → ((rec : ℕ) → is_among recs rec ≡ (is_held site actions rec || is_among looked rec)) → recs ≡ footprint_with site actions looked
+is_footprint site actions looked recs over within below rises are =
+    sym (filter_rising (λ rec. is_held site actions rec || is_among looked rec) recs (length site.configs) rises
+    (all_from_each (λ rec. rec < length site.configs) recs (λ rec e. either_within site actions looked rec over within below (is_held site actions rec) refl (sym (are rec) ∙ e)))
     (λ rec. sym (are rec)))
+
+-- where nothing is looked at the footprint is that of the actions alone
+pub looks_at_none : (site : SiteData) (actions : List (ℕ × Action)) → footprint_with site actions [] ≡ footprint_by site actions
+looks_at_none site actions = λ i. filter (λ rec. or_false (is_held site actions rec) i) (range_with_len 0 (length site.configs))
 
 held_last_cases : (a b : Bool) → (a || (b || false)) ≡ (a || b)
 held_last_cases true b = refl

@@ -11,3 +11,4 @@ pub mod Building
 pub mod Reading
 pub mod Acting
 pub mod Strict
+pub mod Telling

@@ -17,9 +17,9 @@ use Rattle.std.proofs.lemmas.Slice.Eq.{bytes_eq-Decides}
 use Rattle.db_load.specs.Forms.{is_special}
 use Rattle.desk_api.specs.Records.{channel_at}
 use Rattle.group_view.specs.Groups.{GroupData}
-use Rattle.desk_api.specs.Sites.{is_record_name, channel_of, names_from, group_names_from, first_named, channel_named, is_channel}
+use Rattle.desk_api.specs.Sites.{is_record_name, channel_of, names_from, group_names_from, services, first_named, channel_named, is_channel}
 use Rattle.desk_api.specs.declared.channel.Channel.{Channel}
-use Rattle.desk_api.specs.declared.channel.ChannelKind.TheVariants.{Rec, Desc, Group}
+use Rattle.desk_api.specs.declared.channel.ChannelKind.TheVariants.{Rec, Desc, Group, Service}
 use Rattle.desk_api.specs.declared.history.SiteData.{SiteData}
 
 -- what holds of all channels of these records holds of the one that is found
@@ -50,6 +50,10 @@ module _ (P : Channel → Type 0) where
       later_holds (bytes_eq name g.name) name (channel_of Group n) (group_names_from (n + 1) groups) channel (each n (omega arith))
       (λ e. group_holds (n + 1) groups name channel (λ m less. each m (omega (arith, less))) e) is
 
+  service_holds : (name : List ℕ) (channel : Channel) → P (channel_of Service 0) → first_named name services ≡ Some channel → P channel
+  service_holds name channel holds is =
+      later_holds (bytes_eq name (codes "server")) name (channel_of Service 0) [] channel holds (λ e. absurd (none-some channel e)) is
+
 -- a name is looked up in one list, and then in another
 
 or_by : {A : Type 0} (test : Bool) (x : A) (o p : Option A) → cond test (Some x) (option_or o p) ≡ option_or (cond test (Some x) o) p
@@ -71,10 +75,13 @@ found_is_channel site name channel is =
     let P : Channel → Type 0 = λ c. IsTrue (is_channel site c) in
     let records = names_from 0 site.names in
     let groups = group_names_from 0 site.groups in
-    either_holds P (first_named name records) (first_named name groups) channel
+    either_holds P (first_named name records) (first_named name (groups ++ services)) channel
     (λ e. named_holds P 0 site.names name channel (λ m less. let below : m < length site.names = omega (arith, less) in (lt-ltb m (length site.names) below, lt-ltb m (length site.names) below)) e)
-    (λ e. group_holds P 0 site.groups name channel (λ m less. lt-ltb m (length site.groups) (omega (arith, less))) e)
-    (sym (first_of_both name records groups) ∙ is)
+    (λ e. either_holds P (first_named name groups) (first_named name services) channel
+    (λ f. group_holds P 0 site.groups name channel (λ m less. lt-ltb m (length site.groups) (omega (arith, less))) f)
+    (λ f. service_holds P name channel refl f)
+    (sym (first_of_both name groups services) ∙ e))
+    (sym (first_of_both name records (groups ++ services)) ∙ is)
 
 -- texts that are equal or not
 

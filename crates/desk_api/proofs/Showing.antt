@@ -1,5 +1,5 @@
 -- What channels show.
-use Rattle.std.specs.Prelude.{◌≡◌, ℕ, zero, suc, ◌<◌, Bool, List, [], ◌∷◌, length, map, set, Option, Some, None, MatchOption, slice_get, refl, ⊤}
+use Rattle.std.specs.Prelude.{◌≡◌, ℕ, zero, suc, ◌+◌, ◌<◌, Bool, List, [], ◌∷◌, length, map, set, Option, Some, None, MatchOption, slice_get, refl, ⊤}
 use Rattle.std.specs.List.{AllByRecursion}
 use Rattle.std.proofs.Common.{true, false, sym, ◌∙◌, ap, subst, arith, take, eqb}
 use Rattle.std.proofs.lemmas.Bool.{eqb-true, eqb-false}
@@ -19,6 +19,7 @@ use Rattle.group_view.specs.Slots.{entries_of, in_order, slots_of, structure_of}
 use Rattle.group_view.specs.Types.{group_tree}
 use Rattle.group_view.specs.Views.{group_shown}
 use Rattle.journal_core.specs.Legality.{AreValid}
+use Rattle.journal_core.specs.declared.entry.Entry.{Entry}
 use Rattle.journal_core.proofs.Growing.{replayed_count}
 use Rattle.journal_core.proofs.Keeping.{valid_at}
 use Rattle.histories.proofs.Prefixes.{element_within}
@@ -30,10 +31,10 @@ use Rattle.rec_kinds.specs.Validity.{IsValid}
 use Rattle.desk_api.specs.Sites.{AreOver, footprint_for, footprint_of, is_atomic, records_in}
 use Rattle.desk_api.specs.Types.{type_of, type_for, type_shown, group_type}
 use Rattle.desk_api.specs.Views.{shown_or_blank, described, grouped, value_for, value_of, laid, AreStatesOf}
-use Rattle.desk_api.specs.Marks.{IsTrueRead}
+use Rattle.desk_api.specs.Marks.{IsTrueRead, IsTrueEntry}
 use Rattle.desk_api.specs.declared.channel.Channel.{Channel}
 use Rattle.desk_api.specs.declared.channel.ChannelKind.{ChannelKind}
-use Rattle.desk_api.specs.declared.channel.ChannelKind.TheVariants.{Rec, Desc, Group}
+use Rattle.desk_api.specs.declared.channel.ChannelKind.TheVariants.{Rec, Desc, Group, Service}
 use Rattle.desk_api.specs.declared.history.SiteData.{SiteData}
 use Rattle.desk_api.specs.declared.mark.Mark.{Mark}
 
@@ -93,6 +94,7 @@ fits_for : (kind : ChannelKind) (site : SiteData) (states : List RecState) (n : 
 fits_for Rec site states n over valid = or_blank_fits site.configs states n (slice_get site.configs n) (slice_get states n) valid refl refl
 fits_for Desc site states n over valid = described_fits (slice_get site.configs n)
 fits_for Group site states n over valid = grouped_fits site.configs states site.groups n (slice_get site.groups n) over valid refl
+fits_for Service site states n over valid = blank_fits 16 (group_type None) (omega arith)
 
 pub value_fits : (site : SiteData) (channel : Channel) (states : List RecState) → AreOver site → AreValid site.configs states → fits_of 16 (value_of site channel states) (type_of site channel) ≡ true
 value_fits site channel states over valid = fits_for channel.kind site states channel.number over valid
@@ -217,6 +219,7 @@ module _ (reads : (g : GroupData) → ReadsRecords g) where
   shows_for Rec site n a b agree = ap (shown_or_blank (slice_get site.configs n)) agree.0
   shows_for Desc site n a b agree = refl
   shows_for Group site n a b agree = grouped_same (slice_get site.groups n) a b agree
+  shows_for Service site n a b agree = refl
 
   pub looks_show : (site : SiteData) (channel : Channel) (atomic : Option Bool) (states : List RecState) (marks : List Mark) → length site.opening ≡ length states
       → AreFindings states channel (looks_of site channel atomic) marks → value_of site channel (laid_by site.opening marks) ≡ value_of site channel states
@@ -225,9 +228,17 @@ module _ (reads : (g : GroupData) → ReadsRecords g) where
       (all_looked_at (laid_by site.opening marks) states (is_atomic site channel atomic) (footprint_of site channel)
       (looks_agree site.opening states channel (looks_of site channel atomic) marks long are))
 
-  pub read_shows : (h : History) (at : ℕ) (channel : Channel) (found : List RecState) → IsTrueRead h at channel (footprint_of h.base.site channel) found
+  found_shows : (h : History) (at : ℕ) (channel : Channel) (found : List RecState) → AreStatesOf (state_at h at) (footprint_of h.base.site channel) found
       → value_of h.base.site channel (laid h.base.site.opening (footprint_of h.base.site channel) found) ≡ value_of h.base.site channel (state_at h at)
-  read_shows h at channel found t =
+  found_shows h at channel found are =
       let site = h.base.site in
       shows_for channel.kind site channel.number (laid site.opening (footprint_of site channel) found) (state_at h at)
-      (laid_agrees site.opening (state_at h at) (footprint_of site channel) found (sym (replayed_count site.opening (take at (commits h)))) t.found_is)
+      (laid_agrees site.opening (state_at h at) (footprint_of site channel) found (sym (replayed_count site.opening (take at (commits h)))) are)
+
+  pub read_shows : (h : History) (at : ℕ) (channel : Channel) (found : List RecState) → IsTrueRead h at channel (footprint_of h.base.site channel) found
+      → value_of h.base.site channel (laid h.base.site.opening (footprint_of h.base.site channel) found) ≡ value_of h.base.site channel (state_at h at)
+  read_shows h at channel found t = found_shows h at channel found t.found_is
+
+  pub entry_shows : (h : History) (seat at : ℕ) (channel : Channel) (entry : Entry) (found : List RecState) → IsTrueEntry h seat at entry (footprint_of h.base.site channel) found
+      → value_of h.base.site channel (laid h.base.site.opening (footprint_of h.base.site channel) found) ≡ value_of h.base.site channel (state_at h (at + 1))
+  entry_shows h seat at channel entry found t = found_shows h (at + 1) channel found t.found_is

@@ -1,8 +1,8 @@
 -- Footprints rise strictly.
-use Rattle.std.specs.Prelude.{◌≡◌, ℕ, zero, suc, ◌+◌, ◌<◌, List, [], ◌∷◌, fold, length, Option, None, Some, refl, slice_get, option_map}
+use Rattle.std.specs.Prelude.{◌≡◌, ℕ, zero, suc, ◌+◌, ◌<◌, ◌==◌, ◌||◌, List, [], ◌∷◌, fold, length, Option, None, Some, refl, slice_get, option_map}
 use Rattle.std.specs.BTreeSet.{insert_key}
 use Rattle.std.specs.Cmp.{nat_cmp_is}
-use Rattle.std.specs.List.{AllByRecursion, filter_map, range_with_len}
+use Rattle.std.specs.List.{AllByRecursion, filter_map, list_any, range_with_len}
 use Rattle.std.specs.List.Sorted.{IsStrictlyIncreasing, IsStrictlySortedBy}
 use Rattle.std.specs.Ordering.{nat_cmp, match_ordering, ordering_reverse}
 use Rattle.std.specs.declared.cmp.Ordering.{Ordering}
@@ -15,11 +15,11 @@ use Rattle.group_view.specs.Groups.{GroupData}
 use Rattle.group_view.specs.Leaves.{rising}
 use Rattle.rec_kinds.specs.declared.datum.Action.{Action}
 use Rattle.desk_api.proofs.Noting.{all_inserted}
-use Rattle.desk_api.specs.Puts.{footprint_by, is_held}
+use Rattle.desk_api.specs.Puts.{footprint_by, footprint_with, is_held}
 use Rattle.desk_api.specs.Sites.{footprint_for, footprint_of, records_in}
 use Rattle.desk_api.specs.declared.channel.Channel.{Channel}
 use Rattle.desk_api.specs.declared.channel.ChannelKind.{ChannelKind}
-use Rattle.desk_api.specs.declared.channel.ChannelKind.TheVariants.{Rec, Desc, Group}
+use Rattle.desk_api.specs.declared.channel.ChannelKind.TheVariants.{Rec, Desc, Group, Service}
 use Rattle.desk_api.specs.declared.history.SiteData.{SiteData}
 
 -- ---- numbers that are inserted in their order rise
@@ -54,21 +54,7 @@ one_sorted n = (tt, tt)
 rising_rises : (ns : List ℕ) → IsStrictlyIncreasing (rising ns)
 rising_rises ns = IsStrictlyIncreasing-from_sorted (rising ns) (sorted_folded ns [] none_sorted)
 
--- ---- the footprints of gets
-
-of_group : (group : Option GroupData) → IsStrictlyIncreasing (records_in group)
-of_group None = IsStrictlyIncreasing-from_sorted [] none_sorted
-of_group (Some group) = rising_rises (filter_map (λ m. option_map (λ l. l.rec) m.link) group.members)
-
-of_kind : (kind : ChannelKind) (site : SiteData) (number : ℕ) → IsStrictlyIncreasing (footprint_for kind site number)
-of_kind Rec site number = IsStrictlyIncreasing-from_sorted (number ∷ []) (one_sorted number)
-of_kind Desc site number = IsStrictlyIncreasing-from_sorted [] none_sorted
-of_kind Group site number = of_group (slice_get site.groups number)
-
-pub gets_rise : (site : SiteData) (channel : Channel) → IsStrictlyIncreasing (footprint_of site channel)
-gets_rise site channel = of_kind channel.kind site channel.number
-
--- ---- the footprints of entries
+-- ---- numbers in a row rise
 
 above_range : (a b n : ℕ) → a < b → AllByRecursion (λ y. nat_cmp a y ≡ Less) (range_with_len b n)
 above_range a b zero less = tt
@@ -79,7 +65,29 @@ unfolding IsStrictlySortedBy
 sorted_range a zero = tt
 sorted_range a (suc n) = (above_range a (a + 1) n (omega arith), sorted_range (a + 1) n)
 
+range_rises : (n : ℕ) → IsStrictlyIncreasing (range_with_len 0 n)
+range_rises n = IsStrictlyIncreasing-from_sorted (range_with_len 0 n) (sorted_range 0 n)
+
+-- ---- the footprints of gets
+
+of_group : (group : Option GroupData) → IsStrictlyIncreasing (records_in group)
+of_group None = IsStrictlyIncreasing-from_sorted [] none_sorted
+of_group (Some group) = rising_rises (filter_map (λ m. option_map (λ l. l.rec) m.link) group.members)
+
+of_kind : (kind : ChannelKind) (site : SiteData) (number : ℕ) → IsStrictlyIncreasing (footprint_for kind site number)
+of_kind Rec site number = IsStrictlyIncreasing-from_sorted (number ∷ []) (one_sorted number)
+of_kind Desc site number = IsStrictlyIncreasing-from_sorted [] none_sorted
+of_kind Group site number = of_group (slice_get site.groups number)
+of_kind Service site number = range_rises (length site.names)
+
+pub gets_rise : (site : SiteData) (channel : Channel) → IsStrictlyIncreasing (footprint_of site channel)
+gets_rise site channel = of_kind channel.kind site channel.number
+
+-- ---- the footprints of entries
+
 pub entries_rise : (site : SiteData) (actions : List (ℕ × Action)) → IsStrictlyIncreasing (footprint_by site actions)
-entries_rise site actions =
-    let count = length site.configs in
-    IsStrictlyIncreasing-filter (is_held site actions) (range_with_len 0 count) (IsStrictlyIncreasing-from_sorted (range_with_len 0 count) (sorted_range 0 count))
+entries_rise site actions = IsStrictlyIncreasing-filter (is_held site actions) (range_with_len 0 (length site.configs)) (range_rises (length site.configs))
+
+pub put_gets_rise : (site : SiteData) (actions : List (ℕ × Action)) (looked : List ℕ) → IsStrictlyIncreasing (footprint_with site actions looked)
+put_gets_rise site actions looked =
+    IsStrictlyIncreasing-filter (λ rec. is_held site actions rec || list_any (λ r. r == rec) looked) (range_with_len 0 (length site.configs)) (range_rises (length site.configs))

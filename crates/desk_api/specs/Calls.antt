@@ -3,11 +3,14 @@ use Rattle.std.specs.Prelude.{◌≡◌, ◌⊎◌, ℕ, Bool, true, false, List
 use Rattle.std.specs.Prelude.{Some, Result, Ok, Err, slice_get, ⊤}
 use Rattle.std.specs.FinSet.{FinSet}
 use Rattle.std.specs.Ordering.{nat_cmp}
+use Rattle.std.specs.declared.vec.Vec.{Vec}
 use Rattle.pvd_type.specs.declared.memory.NoMemory.{NoMemory}
 use Rattle.pvd_value.specs.Data.{Data}
 use Rattle.pvd_value.specs.View.{view}
 use Rattle.pvd_value.specs.declared.value.PvValue.{PvValue}
 use Rattle.rec_kinds.specs.declared.datum.Action.{Action}
+use Rattle.rec_kinds.specs.Severities.{severity_number}
+use Rattle.rec_kinds.specs.Texts.{text_of_datum}
 use Rattle.rec_kinds.specs.declared.put.PutRefusal.{PutRefusal}
 use Rattle.rec_kinds.specs.declared.state.RecState.{RecState}
 use Rattle.rec_fields.specs.declared.puts.FieldAnswer.{FieldAnswer}
@@ -17,10 +20,11 @@ use Rattle.journal_core.specs.declared.entry.Entry.{Entry}
 use Rattle.histories.specs.History.{Begins, deeds_by, tagged}
 use Rattle.desk_api.specs.History.{entries, IsLegal}
 use Rattle.desk_api.specs.Marks.{InOrder, AllHold, deed_of, deeds_of, next_place, place}
-use Rattle.desk_api.specs.Puts.{actions_of, entries_by, footprint_by}
-use Rattle.desk_api.specs.Sites.{footprint_of, is_atomic}
+use Rattle.desk_api.specs.Puts.{actions_of, entries_by, footprint_by, footprint_with}
+use Rattle.desk_api.specs.Sites.{all_records, channel_of, footprint_of, is_atomic}
 use Rattle.desk_api.specs.Views.{value_of, laid, AreStatesOf}
 use Rattle.desk_api.specs.declared.channel.Channel.{Channel}
+use Rattle.desk_api.specs.declared.channel.ChannelKind.TheVariants.{Service}
 use Rattle.desk_api.specs.declared.history.Base.{Base}
 use Rattle.desk_api.specs.declared.history.SiteData.{SiteData}
 use Rattle.desk_api.specs.declared.mark.Mark.{Mark}
@@ -29,6 +33,7 @@ use Rattle.desk_api.specs.declared.mark.Seat.{Seat}
 use Rattle.desk_api.specs.declared.put.Done.{Done}
 use Rattle.desk_api.specs.declared.put.PutAnswer.{PutAnswer}
 use Rattle.desk_api.specs.declared.put.PutAnswer.TheVariants as answers
+use Rattle.desk_api.specs.declared.rows.RecRow.{RecRow}
 
 -- Calls of a desk added these marks: each is true, in order; the history is legal and only grew, by the seat's own
 -- deeds and by those of others.
@@ -129,11 +134,11 @@ entries_of_actions atomic (Err answer) = Err answer
 abbrev pub asked_entries : Asked → Result (List (List (ℕ × Action))) FieldAnswer
 asked_entries a = entries_of_actions (is_atomic a.site a.channel a.atomic) (asked_actions a)
 
--- An entry with these actions was added, which holds what such an entry holds, at the put's moment.
+-- An entry with these actions was added, which holds what such an entry holds, at the put's moment. Nothing is looked at.
 pub record IsAdded (a : Asked) (actions : List (ℕ × Action)) (mark : Mark) : Type 0 where
   pub at : ℕ
   pub entry : Entry
-  pub mark_is : mark ≡ Entered at entry
+  pub mark_is : mark ≡ Entered at entry [] []
   pub actions_are : entry.actions ≡ actions
   pub footprint_is : entry.footprint ≡ footprint_by a.site actions
   pub moment_is : entry.moment ≡ a.moment
@@ -189,14 +194,106 @@ ArePut a (Err (answers.Refused refusal)) marks = IsRefused a refusal marks
 ArePut a (Err (answers.JournalFull kept weight limit done)) marks = IsFull a kept weight limit done marks
 ArePut a (Err (answers.NoMemory done)) marks = IsStopped a done marks
 
--- where a put's answer is not that memory ran out
-abbrev pub OnTold : Result Done PutAnswer → Type 0 → Type 0
+-- ---- a put and then a get of the same channel
+
+-- One entry was added with all actions of the put. It holds the records of the get too, and the get's answer is what the
+-- channel shows of them right after it.
+pub record IsDoneAndGot (a : Asked) (done : Done) (value : Data) (marks : List Mark) : Type 0 where
+  pub actions : List (ℕ × Action)
+  pub asked : asked_actions a ≡ Ok actions
+  pub at : ℕ
+  pub entry : Entry
+  pub found : List RecState
+  pub marks_are : marks ≡ Entered at entry (footprint_of a.site a.channel) found ∷ []
+  pub actions_are : entry.actions ≡ actions
+  pub footprint_is : entry.footprint ≡ footprint_with a.site actions (footprint_of a.site a.channel)
+  pub moment_is : entry.moment ≡ a.moment
+  pub done_is : done ≡ record { first = at; count = 1 }
+  pub value_is : value ≡ value_of a.site a.channel (laid a.site.opening (footprint_of a.site a.channel) found)
+
+-- A put was done, and then a get.
+pub record IsDoneThenGot (a : Asked) (done : Done) (value : Data) (marks : List Mark) : Type 0 where
+  pub puts : List Mark
+  pub gets : List Mark
+  pub marks_are : marks ≡ puts ++ gets
+  pub put : IsDone a done puts
+  pub got : IsGet a.site a.channel a.atomic value gets
+
+-- The one entry would have been too heavy.
+pub record IsFullAlone (a : Asked) (kept weight limit done : ℕ) (marks : List Mark) : Type 0 where
+  pub actions : List (ℕ × Action)
+  pub asked : asked_actions a ≡ Ok actions
+  pub at : ℕ
+  pub marks_are :
+      marks ≡ Overweight at (footprint_with a.site actions (footprint_of a.site a.channel)) actions kept weight limit ∷ []
+  pub done_is : done ≡ 0
+
+-- Memory ran out before the one entry was added.
+pub record IsStoppedAlone (a : Asked) (done : ℕ) (marks : List Mark) : Type 0 where
+  pub marks_are : marks ≡ []
+  pub done_is : done ≡ 0
+
+-- Memory ran out in the put, or behind all of it in the get.
+pub record IsStoppedOnTheWay (a : Asked) (done : ℕ) (marks : List Mark) : Type 0 where
+  pub puts : List Mark
+  pub gets : List Mark
+  pub marks_are : marks ≡ puts ++ gets
+  pub put : IsStopped a done puts
+  pub got : IsPartOfGet a.site a.channel a.atomic gets
+  pub behind : (gets ≡ []) ⊎ (done ≡ length (entries_or_none (asked_entries a)))
+
+-- a put-get that is atomic is one entry; another is a put and then a get
+abbrev pub ArePutGetBy : Bool → Asked → Result (Done × PvValue) PutAnswer → List Mark → Type 0
+ArePutGetBy true a (Ok (done, value)) marks = IsDoneAndGot a done (view value) marks
+ArePutGetBy false a (Ok (done, value)) marks = IsDoneThenGot a done (view value) marks
+ArePutGetBy whole a (Err (answers.Refused refusal)) marks = IsRefused a refusal marks
+ArePutGetBy true a (Err (answers.JournalFull kept weight limit done)) marks = IsFullAlone a kept weight limit done marks
+ArePutGetBy false a (Err (answers.JournalFull kept weight limit done)) marks = IsFull a kept weight limit done marks
+ArePutGetBy true a (Err (answers.NoMemory done)) marks = IsStoppedAlone a done marks
+ArePutGetBy false a (Err (answers.NoMemory done)) marks = IsStoppedOnTheWay a done marks
+
+abbrev pub ArePutGet : Asked → Result (Done × PvValue) PutAnswer → List Mark → Type 0
+ArePutGet a answer marks = ArePutGetBy (is_atomic a.site a.channel a.atomic) a answer marks
+
+-- ---- a look at all records
+
+-- what is told of a record, as its name, its configuration and its state have it
+abbrev pub row_shown : List ℕ → RecState → RecRow
+row_shown name state = record {
+  name = name;
+  text = text_of_datum state.datum;
+  severity = severity_number state.severity;
+  moment = state.moment;
+}
+
+-- of each record, in order
+abbrev pub rows_shown : List (List ℕ) → List RecState → List RecRow
+rows_shown (name ∷ names) (state ∷ states) = row_shown name state ∷ rows_shown names states
+rows_shown _ _ = []
+
+-- All records were looked at in one place, and each row tells of one as it was found there.
+pub record IsSnapshot (site : SiteData) (rows : List RecRow) (marks : List Mark) : Type 0 where
+  pub at : ℕ
+  pub found : List RecState
+  pub marks_are : marks ≡ Read at (channel_of Service 0) (all_records site) found ∷ []
+  pub rows_are : rows ≡ rows_shown site.names found
+
+-- Memory ran out before or after the look.
+pub record IsPartOfSnapshot (site : SiteData) (marks : List Mark) : Type 0 where
+  pub looks : AreLooks (channel_of Service 0) (take (length marks) (all_records site ∷ [])) marks
+
+abbrev pub AreSnapshot : {Z : Type 0} → SiteData → Result (Vec RecRow Z) NoMemory → List Mark → Type 0
+AreSnapshot site (Ok rows) marks = IsSnapshot site rows.items marks
+AreSnapshot site (Err e) marks = IsPartOfSnapshot site marks
+
+-- where a put's answer, or a put-get's, is not that memory ran out
+abbrev pub OnTold : {A : Type 0} → Result A PutAnswer → Type 0 → Type 0
 OnTold (Err (answers.NoMemory done)) P = ⊤
 OnTold answer P = P
 
 -- The mark's entry, if it has one, has this moment, where that is told.
 abbrev pub HasMoment : Option Moment → Mark → Type 0
-HasMoment (Some moment) (Entered at entry) = entry.moment ≡ moment
+HasMoment (Some moment) (Entered at entry looked found) = entry.moment ≡ moment
 HasMoment _ _ = ⊤
 
 abbrev pub HaveMoment : Option Moment → List Mark → Type 0

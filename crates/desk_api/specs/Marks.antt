@@ -20,13 +20,13 @@ use Rattle.desk_api.specs.declared.mark.Mark.TheVariants.{Read, Entered, Overwei
 -- how many entries stand before the step
 abbrev pub place : Mark → ℕ
 place (Read at channel footprint found) = at
-place (Entered at entry) = at
+place (Entered at entry looked found) = at
 place (Overweight at footprint actions kept added limit) = at
 
 -- the least place of a later mark
 abbrev pub least_after : Mark → ℕ
 least_after (Read at channel footprint found) = at
-least_after (Entered at entry) = at + 1
+least_after (Entered at entry looked found) = at + 1
 least_after (Overweight at footprint actions kept added limit) = at
 
 -- From one number of entries to another the marks' places don't fall, and rise past an entry.
@@ -42,7 +42,7 @@ next_place low (mark ∷ marks) = next_place (least_after mark) marks
 -- what the mark adds to the history
 abbrev pub deed_of : Mark → List (Deed Entry RollItem)
 deed_of (Read at channel footprint found) = []
-deed_of (Entered at entry) = deeds.Entry entry ∷ []
+deed_of (Entered at entry looked found) = deeds.Entry entry ∷ []
 deed_of (Overweight at footprint actions kept added limit) = []
 
 abbrev pub deeds_of : List Mark → List (Deed Entry RollItem)
@@ -63,11 +63,12 @@ pub record IsTrueRead (h : History) (at : ℕ) (channel : Channel) (footprint : 
   pub footprint_is : IsLookOf h.base.site channel footprint
   pub found_is : AreStatesOf (state_at h at) footprint found
 
--- What makes an entry's mark true: the history has it there, as this seat's, and up to it the entries aren't above the
--- limit.
-pub record IsTrueEntry (h : History) (seat at : ℕ) (entry : Entry) : Type 0 where
+-- What makes an entry's mark true: the history has it there, as this seat's, up to it the entries aren't above the limit,
+-- and the records that were looked at then are found as they are right after it.
+pub record IsTrueEntry (h : History) (seat at : ℕ) (entry : Entry) (looked : List ℕ) (found : List RecState) : Type 0 where
   pub there : slice_get (entries h) at ≡ Some (seat, entry)
   pub light : kept_at h at + weight entry ≤ h.base.limit
+  pub found_is : AreStatesOf (state_at h (at + 1)) looked found
 
 -- What makes a refusal for weight true: the entry would be above the limit there.
 pub record IsTrueOverweight (h : History) (at : ℕ) (footprint : List ℕ) (actions : List (ℕ × Action))
@@ -81,7 +82,7 @@ pub record IsTrueOverweight (h : History) (at : ℕ) (footprint : List ℕ) (act
 -- The mark of this seat is true in this history, after the marks before it.
 abbrev pub IsTrueIn : History → ℕ → Mark → List Mark → Type 0
 IsTrueIn h seat (Read at channel footprint found) before = IsTrueRead h at channel footprint found
-IsTrueIn h seat (Entered at entry) before = IsTrueEntry h seat at entry
+IsTrueIn h seat (Entered at entry looked found) before = IsTrueEntry h seat at entry looked found
 IsTrueIn h seat (Overweight at footprint actions kept added limit) before =
     IsTrueOverweight h at footprint actions kept added limit
 

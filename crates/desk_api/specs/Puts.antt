@@ -16,7 +16,7 @@ use Rattle.group_view.specs.Leaves.{footprint}
 use Rattle.group_view.specs.Puts as group
 use Rattle.desk_api.specs.declared.channel.Channel.{Channel}
 use Rattle.desk_api.specs.declared.channel.ChannelKind.{ChannelKind}
-use Rattle.desk_api.specs.declared.channel.ChannelKind.TheVariants.{Rec, Desc, Group}
+use Rattle.desk_api.specs.declared.channel.ChannelKind.TheVariants.{Rec, Desc, Group, Service}
 use Rattle.desk_api.specs.declared.history.SiteData.{SiteData}
 
 -- an action with the number of its record
@@ -32,11 +32,12 @@ abbrev pub to_group : FinSet nat_cmp → Data → Option GroupData → Result (L
 to_group mask value None = Err (Refused NothingWritable)
 to_group mask value (Some g) = group.actions_for g value mask
 
--- a description can't be written
+-- a description can't be written, nor the service
 abbrev pub actions_for : ChannelKind → SiteData → ℕ → FinSet nat_cmp → Data → Result (List (ℕ × Action)) FieldAnswer
 actions_for Rec site number mask value = to_configured number mask value (slice_get site.configs number)
 actions_for Desc site number mask value = Err (Refused NothingWritable)
 actions_for Group site number mask value = to_group mask value (slice_get site.groups number)
+actions_for Service site number mask value = Err (Refused NothingWritable)
 
 -- The actions of a put to a channel of the site, in order, each with its record; or why it is refused.
 abbrev pub actions_of : SiteData → Channel → FinSet nat_cmp → Data → Result (List (ℕ × Action)) FieldAnswer
@@ -58,10 +59,15 @@ is_held_with site rec written =
 abbrev pub is_held : SiteData → List (ℕ × Action) → ℕ → Bool
 is_held site actions rec = list_any (λ action. is_held_with site rec action.0) actions
 
--- The records that an entry with these actions holds, in rising order: those that it writes, and those that groups
--- post with them.
+-- The records that an entry with these actions holds, in rising order: those that it writes, those that groups post with
+-- them,
 abbrev pub footprint_by : SiteData → List (ℕ × Action) → List ℕ
 footprint_by site actions = filter (is_held site actions) (range_with_len 0 (length site.configs))
+
+-- and, where it is that of a put-get, those that are then looked at.
+abbrev pub footprint_with : SiteData → List (ℕ × Action) → List ℕ → List ℕ
+footprint_with site actions looked =
+    filter (λ rec. is_held site actions rec || list_any (λ r. r == rec) looked) (range_with_len 0 (length site.configs))
 
 -- The entries of a put with these actions: one of all, or one for each.
 abbrev pub entries_by : Bool → List (ℕ × Action) → List (List (ℕ × Action))

@@ -12,7 +12,7 @@ use Rattle.group_view.specs.Views.{group_shown}
 use Rattle.desk_api.specs.Types.{type_shown, group_type}
 use Rattle.desk_api.specs.declared.channel.Channel.{Channel}
 use Rattle.desk_api.specs.declared.channel.ChannelKind.{ChannelKind}
-use Rattle.desk_api.specs.declared.channel.ChannelKind.TheVariants.{Rec, Desc, Group}
+use Rattle.desk_api.specs.declared.channel.ChannelKind.TheVariants.{Rec, Desc, Group, Service}
 use Rattle.desk_api.specs.declared.history.SiteData.{SiteData}
 
 -- what a record shows, and a blank value where there is no such record or state
@@ -34,6 +34,7 @@ abbrev pub value_for : ChannelKind → SiteData → ℕ → List RecState → Da
 value_for Rec site number states = shown_or_blank (slice_get site.configs number) (slice_get states number)
 value_for Desc site number states = described (slice_get site.configs number)
 value_for Group site number states = grouped (slice_get site.groups number) states
+value_for Service site number states = blank_of (group_type None)
 
 -- What the channel shows where the records have these states.
 abbrev pub value_of : SiteData → Channel → List RecState → Data

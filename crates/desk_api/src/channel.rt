@@ -9,6 +9,8 @@ pub enum ChannelKind {
     Desc,
     /// A group of records (QSRV manual, "Group PV definitions").
     Group,
+    /// The service of the server, which the channel `server` asks. It has no values, and reads all records.
+    Service,
 }
 
 /// A channel of a site.
@@ -16,6 +18,6 @@ pub enum ChannelKind {
 pub struct Channel {
     /// What it shows.
     pub kind: ChannelKind,
-    /// The number of its record, or of its group, from 0.
+    /// The number of its record, or of its group, from 0; 0 of the service.
     pub number: u32,
 }

@@ -1,16 +1,17 @@
 // What a session asks of its desk.
-ghost use Rattle.std.specs.Prelude.{◌≡◌, true, IfOk, IsTrue, OnOk, option_map, Some};
+ghost use Rattle.std.specs.Prelude.{◌≡◌, true, IfOk, IsTrue, OnOk, option_map, Some, ◌≤◌, length};
 ghost use Rattle.desk_api.specs.declared.mark.Seat.{Seat};
 ghost use Rattle.desk_api.specs.Sites as sites;
 ghost use Rattle.desk_api.specs.Types as types;
 ghost use Rattle.desk_api.specs.History.{IsLegal};
-ghost use Rattle.desk_api.specs.Calls.{Calls, AreGet, ArePut, OnTold, EndsAtItsMarks};
+ghost use Rattle.desk_api.specs.Calls.{Calls, AreGet, ArePut, ArePutGet, AreSnapshot, OnTold, EndsAtItsMarks};
 ghost use Rattle.pvd_value.specs.Fits.{fits_of};
 ghost use Rattle.pvd_value.specs.View.{view};
 
 use crate::channel::Channel;
 use crate::put::{Done, PutAnswer};
-use pvd_type::{BitSet, NoMemory, PvType};
+use crate::rows::RecRow;
+use pvd_type::{BitSet, Name, NoMemory, PvType};
 use pvd_value::PvValue;
 use rec_kinds::Moment;
 use std::alloc::Global;
@@ -30,10 +31,25 @@ pub trait Desk {
     fn find(&self, name: &str) -> Option<Channel>
         ensures { result ≡ sites.channel_named (seat self.now).seen.base.site name.now };
 
-    /// The type of a channel's values. It makes no mark.
+    /// The type of a channel's values. None exactly for the service. It makes no mark.
     fn type_of(&self, channel: Channel) -> Option<&PvType>
         requires { IsTrue (sites.is_channel (seat self.now).seen.base.site channel) }
-        ensures { option_map (λ t. t.now) result ≡ Some (types.type_of (seat self.now).seen.base.site channel) };
+        ensures { option_map (λ t. t.now) result ≡ types.type_if_valued (seat self.now).seen.base.site channel };
+
+    /// How many records the site has: at most 4,000.
+    fn records(&self) -> usize
+        ensures records { result ≡ length (seat self.now).seen.base.site.names }
+        ensures few { result ≤ 4000 };
+
+    /// How many groups the site has: at most 1,024.
+    fn groups(&self) -> usize
+        ensures groups { result ≡ length (seat self.now).seen.base.site.groups }
+        ensures few { result ≤ 1024 };
+
+    /// The names of the records, in the order of their text, and then those of the groups, in the order in which the text first
+    /// names them. It makes no mark.
+    fn names(&self, alloc: Global) -> Result<Vec<Name>, NoMemory>
+        ensures { IfOk result (λ names. names.items ≡ sites.names_of (seat self.now).seen.base.site) };
 
     /// What the channel shows of its records. A get that is atomic looks at all of them at one place, which is the end of the
     /// history that the seat has then seen: one mark. One of a group that isn't looks at one record after another: a mark for
@@ -69,5 +85,34 @@ pub trait Desk {
         requires leaves { types.HoldsLeaves (types.type_of (seat self.old).seen.base.site channel) mask.now }
         ensures calls { Calls (seat self.old) (seat self.new) (ArePut (record { site = (seat self.old).seen.base.site; channel = channel; mask = mask.now; value = view value.now; moment = moment; atomic = atomic }) result) }
         ensures ends { OnTold result (EndsAtItsMarks (seat self.old) (seat self.new)) }
+        ensures base { (seat self.new).seen.base ≡ (seat self.old).seen.base };
+
+    /// Puts the marked leaves of the value at this moment, and then gets the channel. Where that is atomic, the put is one entry
+    /// with all its actions, which holds the records of the get too, and the value is what the channel shows right after it: one
+    /// mark. Else it is a put and then a get, with the marks of both; `NoMemory` tells the entries that were added, also where
+    /// it is the get that stops. The channel decides before anything is done whether it refuses the put (pvAccess Protocol
+    /// Specification, "Channel put-get").
+    fn put_get(
+        &mut self,
+        alloc: Global,
+        channel: Channel,
+        mask: &BitSet,
+        value: &PvValue,
+        moment: Moment,
+        atomic: Option<bool>,
+    ) -> Result<(Done, PvValue), PutAnswer>
+        requires channel { IsTrue (sites.is_channel (seat self.old).seen.base.site channel) }
+        requires fits { fits_of 16 (view value.now) (types.type_of (seat self.old).seen.base.site channel) ≡ true }
+        requires leaves { types.HoldsLeaves (types.type_of (seat self.old).seen.base.site channel) mask.now }
+        ensures calls { Calls (seat self.old) (seat self.new) (ArePutGet (record { site = (seat self.old).seen.base.site; channel = channel; mask = mask.now; value = view value.now; moment = moment; atomic = atomic }) result) }
+        ensures ends { OnTold result (EndsAtItsMarks (seat self.old) (seat self.new)) }
+        ensures fits { IfOk result (λ r. fits_of 16 (view r.1) (types.type_of (seat self.old).seen.base.site channel) ≡ true) }
+        ensures base { (seat self.new).seen.base ≡ (seat self.old).seen.base };
+
+    /// A row for each record, in the order of their text: all are looked at in one place, which is the end of the history that the
+    /// seat has then seen. One mark.
+    fn snapshot(&mut self, alloc: Global) -> Result<Vec<RecRow>, NoMemory>
+        ensures calls { Calls (seat self.old) (seat self.new) (AreSnapshot (seat self.old).seen.base.site result) }
+        ensures ends { OnOk result (EndsAtItsMarks (seat self.old) (seat self.new)) }
         ensures base { (seat self.new).seen.base ≡ (seat self.old).seen.base };
 }

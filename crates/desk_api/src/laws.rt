@@ -1,18 +1,20 @@
 // Laws of the definitions. Each is the contract of a function that does nothing.
-ghost use Rattle.std.specs.Prelude.{◌≡◌, ℕ, ◌≤◌, ◌==◌, Bool, true, List, [], ◌++◌, length, Option, Some, IsTrue};
+ghost use Rattle.std.specs.Prelude.{◌≡◌, ℕ, ◌+◌, ◌≤◌, ◌==◌, Bool, true, List, [], ◌++◌, length, Option, Some, IsTrue};
 ghost use Rattle.std.specs.List.{list_all, list_any};
 ghost use Rattle.std.specs.List.Sorted.{IsStrictlyIncreasing};
 ghost use Rattle.histories.specs.History.{Begins};
 ghost use Rattle.journal_core.specs.Legality.{AreProcessed, AreValid};
+ghost use Rattle.journal_core.specs.declared.entry.Entry.{Entry};
 ghost use Rattle.desk_api.specs.History.{History, entries, state_at, kept_at, IsLegal};
-ghost use Rattle.desk_api.specs.Marks.{AllHold, IsTrueRead};
+ghost use Rattle.desk_api.specs.Marks.{AllHold, IsTrueEntry, IsTrueRead};
 ghost use Rattle.journal_core.specs.Moments.{Moment};
 ghost use Rattle.desk_api.specs.Calls.{Adds, AreFindings, laid_by, looks_of};
-ghost use Rattle.desk_api.specs.Puts.{footprint_by};
-ghost use Rattle.desk_api.specs.Sites.{AreOver, channel_named, footprint_of, is_channel};
+ghost use Rattle.desk_api.specs.Puts.{footprint_by, footprint_with};
+ghost use Rattle.desk_api.specs.Sites.{AreOver, all_records, channel_named, channel_of, footprint_of, is_channel};
 ghost use Rattle.desk_api.specs.Types.{type_of};
 ghost use Rattle.desk_api.specs.Views.{value_of, laid};
 ghost use Rattle.desk_api.specs.declared.channel.Channel.{Channel};
+ghost use Rattle.desk_api.specs.declared.channel.ChannelKind.TheVariants.{Service};
 ghost use Rattle.desk_api.specs.declared.history.SiteData.{SiteData};
 ghost use Rattle.desk_api.specs.declared.mark.Mark.{Mark};
 ghost use Rattle.desk_api.specs.declared.mark.Seat.{Seat};
@@ -40,6 +42,14 @@ pub fn gets_show_their_place()
     value_reads_records();
 }
 
+/// What a put-get's true entry found of all of a channel's records, laid over the opening states, shows what the channel shows
+/// of all records right after the entry.
+pub fn put_gets_show_their_entry()
+    ensures { (h : History) (seat at : ℕ) (channel : Channel) (entry : Entry) (found : List RecState) → IsTrueEntry h seat at entry (footprint_of h.base.site channel) found → value_of h.base.site channel (laid h.base.site.opening (footprint_of h.base.site channel) found) ≡ value_of h.base.site channel (state_at h (at + 1)) }
+{
+    value_reads_records();
+}
+
 /// What a get's looks found of the channel's records, laid over the opening states, shows what the channel shows of any states
 /// in which all of them found these records.
 pub fn looks_show_states()
@@ -48,15 +58,22 @@ pub fn looks_show_states()
     value_reads_records();
 }
 
-/// An entry writes only records that it holds.
+/// What a true look at all records found are the states of all records at its place, in order.
+pub fn snapshots_show_their_place()
+    ensures { (h : History) (at : ℕ) (found : List RecState) → length h.base.site.names ≡ length h.base.site.opening → IsTrueRead h at (channel_of Service 0) (all_records h.base.site) found → found ≡ state_at h at }
+{}
+
+/// An entry writes only records that it holds, be it that of a put or that of a put-get.
 pub fn entries_write_inside()
-    ensures { (site : SiteData) (states : List RecState) (moment : Moment) (actions : List (ℕ × Action)) (drove : List Bool) (writes : List (ℕ × RecState)) → AreProcessed site.configs states moment actions drove writes → IsTrue (list_all (λ write. list_any (λ rec. rec == write.0) (footprint_by site actions)) writes) }
+    ensures puts { (site : SiteData) (states : List RecState) (moment : Moment) (actions : List (ℕ × Action)) (drove : List Bool) (writes : List (ℕ × RecState)) → AreProcessed site.configs states moment actions drove writes → IsTrue (list_all (λ write. list_any (λ rec. rec == write.0) (footprint_by site actions)) writes) }
+    ensures put_gets { (site : SiteData) (states : List RecState) (moment : Moment) (actions : List (ℕ × Action)) (looked : List ℕ) (drove : List Bool) (writes : List (ℕ × RecState)) → AreProcessed site.configs states moment actions drove writes → IsTrue (list_all (λ write. list_any (λ rec. rec == write.0) (footprint_with site actions looked)) writes) }
 {}
 
 /// The records that a get reads and those that an entry holds stand in rising order, each once.
 pub fn footprints_rise()
     ensures gets { (site : SiteData) (channel : Channel) → IsStrictlyIncreasing (footprint_of site channel) }
     ensures entries { (site : SiteData) (actions : List (ℕ × Action)) → IsStrictlyIncreasing (footprint_by site actions) }
+    ensures put_gets { (site : SiteData) (actions : List (ℕ × Action)) (looked : List ℕ) → IsStrictlyIncreasing (footprint_with site actions looked) }
 {}
 
 /// A desk that isn't called adds no mark, and calls one after another add their marks one after another.

@@ -9,7 +9,10 @@ mod history;
 mod laws;
 mod mark;
 mod put;
+#[cfg(test)]
+mod put_get_tests;
 mod records;
+mod rows;
 mod serving;
 mod site;
 #[cfg(test)]
@@ -24,7 +27,8 @@ pub use history::{Base, RollItem, SiteData};
 pub use journal_core::Entry;
 pub use laws::{
     calls_in_turn, entries_write_inside, footprints_rise, found_channels, gets_show_their_place,
-    looks_show_states, truth_lasts, values_fit,
+    looks_show_states, put_gets_show_their_entry, snapshots_show_their_place, truth_lasts,
+    values_fit,
 };
 pub use mark::{Mark, Seat};
 pub use put::{Done, PutAnswer};
@@ -32,4 +36,5 @@ pub use pvd_type::{NoMemory, PvType};
 pub use pvd_value::PvValue;
 pub use rec_fields::FieldAnswer;
 pub use rec_kinds::{Action, Moment, PutRefusal, RecState};
+pub use rows::RecRow;
 pub use site::{Site, is_record_name};

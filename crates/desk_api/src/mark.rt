@@ -15,10 +15,12 @@ pub enum Mark {
         footprint: LinkedList<u32>,
         found: LinkedList<RecState>,
     },
-    /// A put added this entry.
+    /// A put added this entry, and an atomic put-get then found these records in these states. A put alone looks at none.
     Entered {
         place: u64,
         entry: Entry,
+        looked: LinkedList<u32>,
+        found: LinkedList<RecState>,
     },
     /// An entry with this footprint and these actions would have been too heavy.
     Overweight {

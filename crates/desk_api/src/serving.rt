@@ -3,14 +3,15 @@ ghost use Rattle.std.specs.Prelude.{◌≡◌, ◌<◌, ◌≤◌, ◌||◌, ◌
 ghost use Rattle.std.specs.List.{AllByRecursion};
 ghost use Rattle.std.specs.List.Sorted.{IsStrictlyIncreasing};
 ghost use Rattle.desk_api.specs.Grouping.{is_among};
-ghost use Rattle.desk_api.specs.Puts.{IsRefusal, IsRefusedBy, actions_of, footprint_by, is_held_with, to_configured};
+ghost use Rattle.desk_api.specs.Puts.{IsRefusal, IsRefusedBy, actions_of, footprint_by, footprint_with, is_held_with, to_configured};
 ghost use Rattle.desk_api.specs.Sites as sites;
 ghost use Rattle.desk_api.specs.Sites.{AreOver, footprint_of, is_channel};
-ghost use Rattle.desk_api.specs.Types.{type_of, type_shown};
+ghost use Rattle.desk_api.specs.Types.{group_type, type_of, type_shown};
 ghost use Rattle.desk_api.specs.Views.{shown_or_blank, value_of};
 ghost use Rattle.group_view.specs.Puts.{MayBeDoneBy};
 ghost use Rattle.journal_core.specs.Legality.{AreValid};
 ghost use Rattle.pvd_value.specs.Fits.{fits_of};
+ghost use Rattle.pvd_value.specs.Blank.{blank_of};
 ghost use Rattle.pvd_value.specs.View.{view};
 
 use crate::channel::{Channel, ChannelKind};
@@ -30,7 +31,7 @@ fn one_of(numbers: &[u32], at: usize) -> &[u32]
 }
 
 /// The state of a record, by its number.
-fn state_of(states: &[RecState], rec: usize) -> &RecState
+pub(crate) fn state_of(states: &[RecState], rec: usize) -> &RecState
     requires { rec < length states.now }
     ensures { slice_get states.now rec ≡ Some result.now }
 {
@@ -60,6 +61,13 @@ fn one_action(alloc: Global, rec: u32, action: Action) -> Result<Vec<(u32, Actio
     Ok(vec![in alloc; (rec, action)]?)
 }
 
+/// A structure without members.
+fn no_members(alloc: Global) -> PvValue
+    ensures { view result ≡ blank_of (group_type None) }
+{
+    PvValue::Struct(Vec::new(alloc))
+}
+
 impl Site {
     /// What the channel shows where the records have these states, one for each record. It reads those of
     /// [`Site::footprint_of`] alone.
@@ -79,6 +87,7 @@ impl Site {
             ChannelKind::Rec => self.record_view(alloc, number, states),
             ChannelKind::Desc => desc_view(alloc, self.config(number)),
             ChannelKind::Group => self.group(number).view(alloc, states),
+            ChannelKind::Service => Ok(no_members(alloc)),
         }
     }
 
@@ -118,7 +127,9 @@ impl Site {
     {
         match channel.kind {
             ChannelKind::Rec => self.record_actions(alloc, channel.number, value, mask),
-            ChannelKind::Desc => Err(FieldAnswer::Refused(PutRefusal::NothingWritable)),
+            ChannelKind::Desc | ChannelKind::Service => {
+                Err(FieldAnswer::Refused(PutRefusal::NothingWritable))
+            }
             ChannelKind::Group => {
                 let number = channel.number as usize;
                 self.group(number).actions(alloc, value, mask)
@@ -146,7 +157,8 @@ impl Site {
         Ok(one_action(alloc, rec, action)?)
     }
 
-    /// The records that a get of the channel reads, in rising order: one, none for a description, or those of a group.
+    /// The records that a get of the channel reads, in rising order: one, none for a description, or those of a group; and all
+    /// for the service, which tells of all.
     pub fn footprint_of(&self, channel: Channel) -> &[u32]
         requires { IsTrue (is_channel self.now channel) }
         ensures { result.now ≡ footprint_of self.now channel }
@@ -156,11 +168,13 @@ impl Site {
             ChannelKind::Rec => one_of(self.numbers.as_slice(), number),
             ChannelKind::Desc => &self.numbers[..0],
             ChannelKind::Group => self.group(number).members(),
+            ChannelKind::Service => self.numbers.as_slice(),
         }
     }
 
-    /// The records that an entry with these actions holds, in rising order, each once: those that it writes, and those that groups
-    /// read for the leaves that they post then. Its time grows with these records and with the groups of the written ones alone.
+    /// The records that an entry of a put with these actions holds, in rising order, each once: those that it writes, and those that
+    /// groups read for the leaves that they post then. Its time grows with these records and with the groups of the written ones
+    /// alone.
     pub fn footprint_by(
         &self,
         alloc: Global,
@@ -169,11 +183,27 @@ impl Site {
         requires { AllByRecursion (λ a. a.0 < length self.now.configs) actions.now }
         ensures { IfOk result (λ recs. recs.items ≡ footprint_by self.now actions.now) }
     {
+        self.footprint_with(alloc, actions, &[])
+    }
+
+    /// The records that the entry of a put-get holds, in rising order, each once: those of a put with these actions, and those that
+    /// the get looks at. Its time grows with these records and with the groups of the written ones alone.
+    pub fn footprint_with(
+        &self,
+        alloc: Global,
+        actions: &[(u32, Action)],
+        looked: &[u32],
+    ) -> Result<Vec<u32>, NoMemory>
+        requires within { AllByRecursion (λ a. a.0 < length self.now.configs) actions.now }
+        requires below { AllByRecursion (λ rec. rec < length self.now.configs) looked.now }
+        ensures { IfOk result (λ recs. recs.items ≡ footprint_with self.now actions.now looked.now) }
+    {
         are_over(self);
         let mut found = Vec::with_capacity(alloc, actions.len())?;
         for (rec, _) in actions {
             self.add_held(*rec, &mut found)?;
         }
+        found.extend_from_slice(looked)?;
         in_rising_order(&mut found);
         Ok(found)
     }
@@ -193,7 +223,7 @@ impl Site {
         ensures { result ≡ sites.is_atomic self.now channel wanted }
     {
         match channel.kind {
-            ChannelKind::Rec | ChannelKind::Desc => true,
+            ChannelKind::Rec | ChannelKind::Desc | ChannelKind::Service => true,
             ChannelKind::Group => match wanted {
                 Some(wanted) => wanted,
                 None => self.group(channel.number as usize).is_atomic(),

@@ -1,5 +1,5 @@
 // The records that are served, as they are configured.
-ghost use Rattle.std.specs.Prelude.{◌≡◌, ◌<◌, ◌≤◌, [], IfErr, IfOk, IsTrue, Ok, Some, length, option_map, option_copied, slice_get};
+ghost use Rattle.std.specs.Prelude.{◌≡◌, ◌<◌, ◌≤◌, ◌++◌, [], IfErr, IfOk, IsTrue, Ok, Some, length, option_map, option_copied, slice_get};
 ghost use Rattle.std.specs.List.{AllByRecursion, range_with_len};
 ghost use Rattle.group_view.specs.Groups.{IsOver};
 ghost use Rattle.desk_api.specs.Grouping.{IsFaultOfGroups};
@@ -88,6 +88,19 @@ fn numbers(alloc: Global, count: usize) -> Result<Vec<u32>, NoMemory>
     Ok(numbers)
 }
 
+/// The service, if this is its name.
+fn service_named(name: &str) -> Option<Channel>
+    ensures { result ≡ sites.first_named name.now sites.services }
+{
+    if name == "server" {
+        return Some(Channel {
+            kind: ChannelKind::Service,
+            number: 0,
+        });
+    }
+    None
+}
+
 /// The records of a server, numbered from 0 in the order of their text, and the groups of these records, numbered from 0 in the
 /// order in which the text first names them.
 #[derive(Drop)]
@@ -173,27 +186,38 @@ impl Site {
     }
 
     /// The channel of this name: a record, a record's name with `.VAL`, which is the same, or with `.DESC`, which is its
-    /// description; or else the group of this whole name. None exactly for every other name. It takes no memory, and a time that
-    /// doesn't grow with the records and groups.
+    /// description; or else the group of this whole name; or else, for `server`, the service. None exactly for every other name.
+    /// It takes no memory, and a time that doesn't grow with the records and groups.
     pub fn find(&self, name: &str) -> Option<Channel>
         ensures { result ≡ sites.channel_named self.now name.now }
     {
         match self.records.find(name) {
             Some(channel) => Some(channel),
-            None => self.groups.find(name),
+            None => self.find_other(name),
         }
     }
 
-    /// The type of a channel's values.
+    /// The group of this name, or else the service.
+    fn find_other(&self, name: &str) -> Option<Channel>
+        ensures { result ≡ sites.first_named name.now (sites.group_names_from 0 self.now.groups ++ sites.services) }
+    {
+        match self.groups.find(name) {
+            Some(channel) => Some(channel),
+            None => service_named(name),
+        }
+    }
+
+    /// The type of a channel's values. None exactly for the service.
     pub fn type_of(&self, channel: Channel) -> Option<&PvType>
         requires { IsTrue (sites.is_channel self.now channel) }
-        ensures { option_map (λ t. t.now) result ≡ Some (types.type_of self.now channel) }
+        ensures { option_map (λ t. t.now) result ≡ types.type_if_valued self.now channel }
     {
         let number = channel.number as usize;
         match channel.kind {
             ChannelKind::Rec => Some(self.records.type_at(number)),
             ChannelKind::Desc => Some(&self.text),
             ChannelKind::Group => Some(self.group(number).type_of()),
+            ChannelKind::Service => None,
         }
     }
 

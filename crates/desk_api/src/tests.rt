@@ -17,10 +17,10 @@ const RECORD: Channel = Channel {
 };
 
 /// Drops what it is given.
-fn discard<T: Drop>(_value: T) {}
+pub(crate) fn discard<T: Drop>(_value: T) {}
 
 /// The site of a text without macros.
-fn site_of(alloc: Global, text: &str) -> Result<Site, NoMemory> {
+pub(crate) fn site_of(alloc: Global, text: &str) -> Result<Site, NoMemory> {
     match Site::build(alloc, text, &[]) {
         Ok(site) => Ok(site),
         Err(fault) => {
@@ -233,7 +233,7 @@ record(longout, \"C\") {
 ";
 
 /// The channel of this name.
-fn channel_named(site: &Site, name: &str) -> Option<Channel>
+pub(crate) fn channel_named(site: &Site, name: &str) -> Option<Channel>
     ensures { IfSome result (λ channel. IsTrue (is_channel site.now channel)) }
 {
     found_channels();

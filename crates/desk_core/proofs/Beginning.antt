@@ -1,5 +1,5 @@
 -- The entries of a put, one after another.
-use Rattle.std.proofs.Common.{◌≡◌, ℕ, ◌+◌, ◌<◌, suc, Bool, true, false, List, [], ◌∷◌, ◌++◌, length, take, drop, map, option_map, Some, Result, Ok, Err, inl, inr, refl, sym, ◌∙◌, ap, subst, arith, length-append, append_assoc}
+use Rattle.std.proofs.Common.{◌≡◌, ℕ, ◌+◌, ◌<◌, suc, Bool, true, false, List, [], ◌∷◌, ◌++◌, length, take, drop, map, option_map, Some, Result, Ok, Err, inl, inr, refl, sym, ◌∙◌, ap, subst, arith, length-append, append_assoc, IfOk}
 use Rattle.std.specs.List.{slice_get}
 use Rattle.std.proofs.Math.Seq.{take-length}
 use Rattle.std.proofs.lemmas.List.{append-nil, length-map, map-append, take-map}
@@ -13,9 +13,10 @@ use Rattle.journal_core.specs.declared.entry.Entry.{Entry}
 use Rattle.desk_api.specs.History.{History, entries, state_at, IsLegal}
 use Rattle.desk_api.specs.Marks.{place}
 use Rattle.desk_api.specs.Puts.{entries_by, footprint_by, IsRefusedBy}
-use Rattle.desk_api.specs.Calls.{Calls, Asked, asked_actions, asked_entries, entries_of_actions, entries_or_none, AreAdded, ArePut, EndsAtItsMarks, OnTold, first_place, now}
+use Rattle.desk_api.specs.Calls.{Adds, Calls, Asked, asked_actions, asked_entries, entries_of_actions, entries_or_none, AreAdded, ArePut, EndsAtItsMarks, OnTold, first_place, now}
 use Rattle.desk_api.specs.Sites.{is_atomic}
 use Rattle.desk_api.proofs.Adding.{adds_nothing, adds_more}
+use Rattle.desk_api.proofs.Holding.{looks_at_none}
 use Rattle.desk_api.specs.declared.history.SiteData.{SiteData}
 use Rattle.desk_api.specs.declared.mark.Mark.{Mark}
 use Rattle.desk_api.specs.declared.mark.Mark.TheVariants.{Entered, Overweight}
@@ -37,8 +38,8 @@ turn_append old mid new (e ∷ added) entry turn more = (turn.0, turn.1, turn_ap
 
 module _ (site : SiteData) (moment : Moment) where
   held_append : (at : ℕ) (asked : List (List (ℕ × Action))) (added : List Entry) (marks : List Mark) (actions : List (ℕ × Action)) (entry : Entry)
-      → AreHeld site moment at asked added marks → IsHeld site moment actions entry → AreHeld site moment at (asked ++ actions ∷ []) (added ++ entry ∷ []) (marks ++ Entered (at + length added) entry ∷ [])
-  held_append at [] [] [] actions entry held more = (more, ap (λ (n : ℕ). Entered n entry) (plus_none at), tt) where
+      → AreHeld site moment at asked added marks → IsHeld site moment actions [] entry → AreHeld site moment at (asked ++ actions ∷ []) (added ++ entry ∷ []) (marks ++ Entered (at + length added) entry [] [] ∷ [])
+  held_append at [] [] [] actions entry held more = (more, ap (λ (n : ℕ). Entered n entry [] []) (plus_none at), tt) where
     plus_none : (n : ℕ) → n + 0 ≡ n
     plus_none n = omega arith
   held_append at [] [] (m ∷ marks) actions entry held more = absurd held
@@ -48,7 +49,7 @@ module _ (site : SiteData) (moment : Moment) where
   held_append at (a ∷ asked) (e ∷ added) (m ∷ marks) actions entry held more = (
     held.0,
     held.1,
-    subst (λ (n : ℕ). AreHeld site moment (at + 1) (asked ++ actions ∷ []) (added ++ entry ∷ []) (marks ++ Entered n entry ∷ [])) (further at (length added))
+    subst (λ (n : ℕ). AreHeld site moment (at + 1) (asked ++ actions ∷ []) (added ++ entry ∷ []) (marks ++ Entered n entry [] [] ∷ [])) (further at (length added))
         (held_append (at + 1) asked added marks actions entry held.2 more),
   ) where
     further : (n m : ℕ) → n + 1 + m ≡ n + suc m
@@ -66,15 +67,15 @@ module _ (site : SiteData) (moment : Moment) where
     driven = refl;
   }
 
-  pub more_begun : (asked : List (List (ℕ × Action))) (actions : List (ℕ × Action)) (s m t : Seat) (old mid new : Ports) (at : ℕ) → AreBegun site moment asked s m old mid → IsAddedNow site moment actions m t mid new at
+  pub more_begun : (asked : List (List (ℕ × Action))) (actions : List (ℕ × Action)) (s m t : Seat) (old mid new : Ports) (at : ℕ) → AreBegun site moment asked s m old mid → IsAddedNow site moment actions [] [] m t mid new at
       → AreBegun site moment (asked ++ actions ∷ []) s t old new
   more_begun asked actions s m t old mid new at b i =
       let tag : Entry → ℕ × Entry = λ e. (s.number, e) in
       let place_is : now m ≡ now s + length b.added = ap length b.entries_are ∙ length-append (entries s.seen) (map tag b.added) ∙ ap (λ (n : ℕ). now s + n) (length-map b.added tag) in record {
         added = b.added ++ i.entry ∷ [];
-        marks = b.marks ++ Entered (now m) i.entry ∷ [];
+        marks = b.marks ++ Entered (now m) i.entry [] [] ∷ [];
         adds = adds_more b.adds i.adds;
-        held = subst (λ (n : ℕ). AreHeld site moment (now s) (asked ++ actions ∷ []) (b.added ++ i.entry ∷ []) (b.marks ++ Entered n i.entry ∷ [])) (sym place_is) (held_append (now s) asked b.added b.marks actions i.entry b.held i.held);
+        held = subst (λ (n : ℕ). AreHeld site moment (now s) (asked ++ actions ∷ []) (b.added ++ i.entry ∷ []) (b.marks ++ Entered n i.entry [] [] ∷ [])) (sym place_is) (held_append (now s) asked b.added b.marks actions i.entry b.held i.held);
         entries_are = i.entries_are ∙ (λ j. b.entries_are j ++ (b.adds.number j, i.entry) ∷ []) ∙ append_assoc (entries s.seen) (map tag b.added) ((s.number, i.entry) ∷ [])
             ∙ ap (λ (l : List (ℕ × Entry)). entries s.seen ++ l) (sym (map-append tag b.added (i.entry ∷ [])));
         ends = inr i.ends;
@@ -84,7 +85,7 @@ module _ (site : SiteData) (moment : Moment) where
   -- ---- where a put ends
 
   pub ends_after : (asked : List (List (ℕ × Action))) (done : ℕ) (actions : List (ℕ × Action)) (s m t : Seat) (old mid new : Ports) → AreBegun site moment (take done asked) s m old mid → length (take done asked) ≡ done → slice_get asked done ≡ Some actions
-      → (answer : PutAnswer) → IsPutNow site moment actions done m t mid new (Err answer) → ArePutInTurn site moment asked s t old new (Err answer)
+      → (answer : PutAnswer) → IsPutNow site moment actions [] [] done m t mid new (Err answer) → ArePutInTurn site moment asked s t old new (Err answer)
   ends_after asked done actions s m t old mid new b many next (answers.Refused refusal) e = absurd e
   ends_after asked done actions s m t old mid new b many next (answers.JournalFull kept weight limit done_) e =
       subst (λ (n : ℕ). AreFullAfter site moment asked s t old new kept weight limit n) (sym e.1) (record {
@@ -118,7 +119,7 @@ module _ (site : SiteData) (moment : Moment) where
   }
 
   -- a put of one entry
-  pub whole_put : (actions : List (ℕ × Action)) (s t : Seat) (old new : Ports) (at : ℕ) → IsLegal s.seen → IsPutNow site moment actions 0 s t old new (Ok at) → (done : Done) → done ≡ record { first = at; count = 1 }
+  pub whole_put : (actions : List (ℕ × Action)) (s t : Seat) (old new : Ports) (at : ℕ) → IsLegal s.seen → IsPutNow site moment actions [] [] 0 s t old new (Ok at) → (done : Done) → done ≡ record { first = at; count = 1 }
       → ArePutInTurn site moment (actions ∷ []) s t old new (Ok done)
   whole_put actions s t old new at legal i done is = record {
     begun = more_begun [] actions s s t old old new at (none_begun s old legal) i;
@@ -126,7 +127,7 @@ module _ (site : SiteData) (moment : Moment) where
     count_is = ap (λ (d : Done). d.count) is;
   }
 
-  pub whole_ends : (actions : List (ℕ × Action)) (s t : Seat) (old new : Ports) → IsLegal s.seen → (answer : PutAnswer) → IsPutNow site moment actions 0 s t old new (Err answer) → ArePutInTurn site moment (actions ∷ []) s t old new (Err answer)
+  pub whole_ends : (actions : List (ℕ × Action)) (s t : Seat) (old new : Ports) → IsLegal s.seen → (answer : PutAnswer) → IsPutNow site moment actions [] [] 0 s t old new (Err answer) → ArePutInTurn site moment (actions ∷ []) s t old new (Err answer)
   whole_ends actions s t old new legal answer i = ends_after (actions ∷ []) 0 actions s s t old old new (none_begun s old legal) refl refl answer i
 
 -- an entry for each action, of which some were put
@@ -152,7 +153,7 @@ added_by a at [] (e ∷ added) marks held = absurd held
 added_by a at (x ∷ asked) [] marks held = absurd held
 added_by a at (x ∷ asked) (e ∷ added) [] held = absurd held
 added_by a at (x ∷ asked) (e ∷ added) (m ∷ marks) held = (
-  record { at = at; entry = e; mark_is = held.1; actions_are = held.0.actions_are; footprint_is = held.0.footprint_is; moment_is = held.0.moment_is },
+  record { at = at; entry = e; mark_is = held.1; actions_are = held.0.actions_are; footprint_is = held.0.footprint_is ∙ looks_at_none a.site x; moment_is = held.0.moment_is },
   added_by a (at + 1) asked added marks held.2,
 )
 
@@ -216,7 +217,7 @@ module _ (a : Asked) (asked : List (List (ℕ × Action))) (is : asked_entries a
   in_turn_calls some (Err (answers.JournalFull kept weight limit done)) p =
       let b = p.begun in record {
         marks = b.marks ++ Overweight (now p.middle) (footprint_by a.site p.actions) p.actions kept weight limit ∷ [];
-        adds = adds_more b.adds p.full.adds;
+        adds = subst (λ (f : List ℕ). Adds s t (b.marks ++ Overweight (now p.middle) f p.actions kept weight limit ∷ [])) (looks_at_none a.site p.actions) (adds_more b.adds p.full.adds);
         named = record {
           entries = asked;
           asked = is;
@@ -244,6 +245,10 @@ module _ (a : Asked) (asked : List (List (ℕ × Action))) (is : asked_entries a
   in_turn_ends (Err (answers.Refused refusal)) p = absurd p
   in_turn_ends (Err (answers.JournalFull kept weight limit done)) p = inr p.full.ends
   in_turn_ends (Err (answers.NoMemory done)) p = tt
+
+  pub in_turn_first : (result : Result Done PutAnswer) → ArePutInTurn a.site a.moment asked s t old new result → IfOk result (λ done. done.first ≡ now s)
+  in_turn_first (Ok done) p = p.first_is
+  in_turn_first (Err answer) p = tt
 
   first_actions : (done : ℕ) (actions : List (ℕ × Action)) → slice_get asked done ≡ Some actions → next_actions a done ≡ actions
   first_actions done actions next = ap (λ (l : List (List (ℕ × Action))). actions_or_none (slice_get l done)) asked_are ∙ ap actions_or_none next
@@ -305,6 +310,6 @@ stopped_drives s ports a NoMemory = record {
   first = tt;
 }
 
-pub stopped_ends : (s : Seat) (answer : FieldAnswer) → OnTold (Err (answer_of answer)) (EndsAtItsMarks s s)
-stopped_ends s (Refused refusal) = inl refl
-stopped_ends s NoMemory = tt
+pub stopped_ends : (A : Type 0) (s : Seat) (answer : FieldAnswer) → OnTold {A = A} (Err (answer_of answer)) (EndsAtItsMarks s s)
+stopped_ends A s (Refused refusal) = inl refl
+stopped_ends A s NoMemory = tt

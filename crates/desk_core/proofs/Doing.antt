@@ -1,6 +1,6 @@
 -- Actions that were done, one after another.
-use Rattle.std.proofs.Common.{◌≡◌, ℕ, ◌+◌, ◌*◌, ◌≤◌, ◌<◌, zero, suc, Bool, List, [], ◌∷◌, ◌++◌, length, take, drop, set, Option, None, Some, MatchOption, Result, Ok, Err, OnErr, OnOk, inl, inr, refl, sym, ◌∙◌, ap, subst, arith, length-append}
-use Rattle.std.specs.List.{slice_get, AllByRecursion, filter, range_with_len, sum_by}
+use Rattle.std.proofs.Common.{◌≡◌, ◌==◌, ℕ, ◌+◌, ◌*◌, ◌≤◌, ◌<◌, zero, suc, Bool, List, [], ◌∷◌, ◌++◌, length, take, drop, set, Option, None, Some, MatchOption, Result, Ok, Err, OnErr, OnOk, inl, inr, refl, sym, ◌∙◌, ap, subst, arith, length-append}
+use Rattle.std.specs.List.{slice_get, AllByRecursion, All, filter, list_any, range_with_len, sum_by}
 use Rattle.std.specs.Prelude.{◌^◌, ◌||◌, true, false, if◌then◌else◌, is_some}
 use Rattle.std.proofs.Math.Seq.{take-length}
 use Rattle.std.proofs.lemmas.List.{length-set}
@@ -20,7 +20,7 @@ use Rattle.journal_core.specs.Legality.{AreProcessed, AreValid, IsDone}
 use Rattle.journal_core.specs.Moments.{Moment}
 use Rattle.journal_core.specs.Weights.{action_weight, weight}
 use Rattle.journal_core.specs.declared.entry.Entry.{Entry}
-use Rattle.desk_api.specs.Puts.{footprint_by, is_held}
+use Rattle.desk_api.specs.Puts.{footprint_with, is_held}
 use Rattle.desk_api.specs.declared.history.SiteData.{SiteData}
 use Rattle.journal_core.proofs.Keeping.{valid_at, valid_set}
 use Rattle.desk_core.specs.Effects.{restored, IsNextOf, AreDone, IsBroken}
@@ -118,6 +118,16 @@ pub valid_next : (configs : List Config) (was : List RecState) (moment : Moment)
 valid_next configs was moment action drove write valid p = valid_by configs was moment action drove write (slice_get configs action.0) (slice_get was action.0) refl refl valid p
 
 -- ports stay where they are
+-- what actions leave is valid
+pub valid_done : (configs : List Config) (was : List RecState) (moment : Moment) (actions : List (ℕ × Action)) (drives : List Bool) (writes : List (ℕ × RecState)) → AreValid configs was → AreProcessed configs was moment actions drives writes → AreValid configs (written was writes)
+valid_done configs was moment [] [] [] valid p = valid
+valid_done configs was moment [] [] (w ∷ writes) valid p = absurd p
+valid_done configs was moment [] (d ∷ drives) writes valid p = absurd p
+valid_done configs was moment (a ∷ actions) [] writes valid p = absurd p
+valid_done configs was moment (a ∷ actions) (d ∷ drives) [] valid p = absurd p
+valid_done configs was moment (a ∷ actions) (d ∷ drives) (w ∷ writes) valid p =
+    valid_done configs (set was w.0 w.1) moment actions drives writes (valid_next configs was moment a d w valid p.0) p.1
+
 pub stay_driven : (old new : Ports) (drives : List Bool) (writes : List (ℕ × RecState)) → AreDriven old new drives writes → ports_there new ≡ ports_there old
 stay_driven old new [] [] d = ap ports_there d
 stay_driven old new [] (w ∷ writes) d = absurd d
@@ -280,7 +290,7 @@ kept_by p (n ∷ ns) = kept_if (p n) (filter p ns) (length ns) (kept_by p ns) wh
   kept_if true more count le = omega (arith, le)
   kept_if false more count le = omega (arith, le)
 
-pub entry_light : (site : SiteData) (actions : List (ℕ × Action)) (entry : Entry) → entry.footprint ≡ footprint_by site actions → entry.actions ≡ actions → length site.configs < 4001 → length actions ≤ 256
+pub entry_light : (site : SiteData) (actions : List (ℕ × Action)) (looked : List ℕ) (entry : Entry) → entry.footprint ≡ footprint_with site actions looked → entry.actions ≡ actions → length site.configs < 4001 → length actions ≤ 256
     → sum_by action_weight actions ≤ length actions * 2 ^ 39 → weight entry < 2 ^ 64
-entry_light site actions entry footprint_is actions_are few_configs few light =
-    omega (arith, few_configs, few, light, ap length footprint_is, kept_by (is_held site actions) (range_with_len 0 (length site.configs)), length-range_with_len 0 (length site.configs), ap (sum_by action_weight) actions_are)
+entry_light site actions looked entry footprint_is actions_are few_configs few light =
+    omega (arith, few_configs, few, light, ap length footprint_is, kept_by (λ (rec : ℕ). is_held site actions rec || list_any (λ (r : ℕ). r == rec) looked) (range_with_len 0 (length site.configs)), length-range_with_len 0 (length site.configs), ap (sum_by action_weight) actions_are)

@@ -5,3 +5,4 @@ pub mod Doing
 pub mod Soloing
 pub mod Beginning
 pub mod Reading
+pub mod Combining

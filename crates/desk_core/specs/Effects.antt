@@ -9,7 +9,7 @@ use Rattle.journal_core.specs.Histories.{written}
 use Rattle.journal_core.specs.Legality.{AreProcessed, IsDone}
 use Rattle.journal_core.specs.Moments.{Moment}
 use Rattle.journal_core.specs.declared.entry.Entry.{Entry}
-use Rattle.desk_api.specs.Puts.{footprint_by}
+use Rattle.desk_api.specs.Puts.{footprint_with}
 use Rattle.desk_api.specs.declared.history.SiteData.{SiteData}
 use Rattle.desk_core.specs.Ports.{Ports, AreDriven, IsDrivenAt}
 
@@ -57,10 +57,11 @@ pub record IsBroken (configs : List Config) (was : List RecState) (old new : Por
   pub processed : AreProcessed configs was moment (take (length writes) actions) drives writes
   pub driven : AreDriven old new drives writes
 
--- An entry of these actions was drafted on records that were in the states `was`.
+-- An entry of these actions was drafted on records that were in the states `was`. It holds these records too, which are
+-- to be looked at behind it.
 pub record IsDraft (site : SiteData) (was cells : List RecState) (old new : Ports) (actions : List (ℕ × Action))
-    (moment : Moment) (entry : Entry) (before : List (ℕ × RecState)) : Type 0 where
-  pub footprint_is : entry.footprint ≡ footprint_by site actions
+    (looked : List ℕ) (moment : Moment) (entry : Entry) (before : List (ℕ × RecState)) : Type 0 where
+  pub footprint_is : entry.footprint ≡ footprint_with site actions looked
   pub actions_are : entry.actions ≡ actions
   pub moment_is : entry.moment ≡ moment
   pub done : AreDone site.configs moment was cells old new actions entry.drove entry.writes before

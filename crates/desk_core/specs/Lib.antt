@@ -3,4 +3,5 @@ pub mod Standing
 pub mod Ports
 pub mod Effects
 pub mod Begun
+pub mod PutGets
 pub mod Desks

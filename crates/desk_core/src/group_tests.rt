@@ -10,7 +10,7 @@ use std::test::Fail;
 
 /// Three records, each a member of one group, of which the first triggers all. They are put in another order than that of their
 /// names: b, c, a. The first two records have ports.
-const GROUPED: &str = "\
+pub(crate) const GROUPED: &str = "\
 record(longout, \"A\") {
   field(VAL, \"1\")
   field(DTYP, \"File\")
@@ -30,7 +30,7 @@ record(longout, \"C\") {
 ";
 
 /// A group of the same type, whose members are 10, 20 and 30.
-const PUT: &str = "\
+pub(crate) const PUT: &str = "\
 record(longout, \"A\") {
   field(VAL, \"10\")
   info(Q:group, {\"G\": {\"a\": {+channel:\"VAL\", +type:\"scalar\"}}})
@@ -64,7 +64,7 @@ fn opening_in(alloc: Global, site: &Site) -> Result<PvValue, NoMemory> {
 }
 
 /// What the group of these records opens with.
-fn opening_of(alloc: Global, text: &str) -> Result<PvValue, NoMemory> {
+pub(crate) fn opening_of(alloc: Global, text: &str) -> Result<PvValue, NoMemory> {
     let site = site_of(alloc, text)?;
     let value = opening_in(alloc, &site);
     discard(site);
@@ -72,10 +72,10 @@ fn opening_of(alloc: Global, text: &str) -> Result<PvValue, NoMemory> {
 }
 
 /// What the three members show.
-type Shown = [Row; 3];
+pub(crate) type Shown = [Row; 3];
 
 /// The rows of the three members.
-fn rows(group: &PvValue) -> Option<Shown> {
+pub(crate) fn rows(group: &PvValue) -> Option<Shown> {
     let members = group.members();
     Some([
         row(members.get(0))?,
@@ -85,7 +85,7 @@ fn rows(group: &PvValue) -> Option<Shown> {
 }
 
 /// What the group shows.
-fn shown<D: Desk>(alloc: Global, desk: &mut D, atomic: Option<bool>) -> Option<Shown> {
+pub(crate) fn shown<D: Desk>(alloc: Global, desk: &mut D, atomic: Option<bool>) -> Option<Shown> {
     let Some(value) = got(alloc, desk, "G", atomic) else {
         return None;
     };
@@ -129,10 +129,10 @@ fn run(
 }
 
 /// The leaves of the values of members a, b and c.
-const VALUES: [u16; 3] = [2, 12, 22];
+pub(crate) const VALUES: [u16; 3] = [2, 12, 22];
 
 /// Three members with these numbers, of which the second has an alarm with this severity and status.
-const fn members(numbers: [i32; 3], alarm: [i32; 2]) -> Option<Shown> {
+pub(crate) const fn members(numbers: [i32; 3], alarm: [i32; 2]) -> Option<Shown> {
     Some([
         [numbers[0], 0, 0],
         [numbers[1], alarm[0], alarm[1]],
@@ -141,9 +141,9 @@ const fn members(numbers: [i32; 3], alarm: [i32; 2]) -> Option<Shown> {
 }
 
 /// No alarm, and that of a port that failed.
-const QUIET: [i32; 2] = [0, 0];
+pub(crate) const QUIET: [i32; 2] = [0, 0];
 
-const WRITE: [i32; 2] = [3, 2];
+pub(crate) const WRITE: [i32; 2] = [3, 2];
 
 #[test]
 fn an_atomic_put_is_one_entry_of_all_members_and_one_of_a_member_alone_weighs_its_record(

@@ -9,6 +9,8 @@ mod entering;
 mod group_tests;
 mod log;
 mod looks;
+#[cfg(test)]
+mod put_get_tests;
 mod solo;
 #[cfg(test)]
 mod tests;

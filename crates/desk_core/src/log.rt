@@ -1,6 +1,7 @@
 // A log that takes no bytes: the view of the only seat of a table with one word. Each mark is one load of that word.
 ghost use Rattle.std.specs.Prelude.{◌≡◌, IfOk};
 ghost use Rattle.desk_api.specs.Calls.{first_seat, with_mark};
+ghost use Rattle.desk_api.specs.Views.{found_in};
 ghost use Rattle.desk_api.specs.declared.mark.Mark.TheVariants as marks;
 ghost use Rattle.desk_core.specs.Looking.{look_of, looked};
 ghost use Rattle.desk_core.specs.Standing.{base_of};
@@ -113,10 +114,15 @@ pub(crate) fn note_read<B: Picks>(
     log.add::<B>();
 }
 
-/// Notes that a put added this entry.
-pub(crate) fn note_entered<B: Picks>(log: &mut Log, _entry: &Entry)
-    requires { B.mark ≡ (λ at. marks.Entered at _entry.now) }
-    ensures { log.new ≡ with_mark log.old (λ at. marks.Entered at _entry.now) }
+/// Notes that a put added this entry, and that these records were then found as they are now.
+pub(crate) fn note_entered<B: Picks>(
+    log: &mut Log,
+    _entry: &Entry,
+    _looked: &[u32],
+    _cells: &[RecState],
+)
+    requires { B.mark ≡ (λ at. marks.Entered at _entry.now _looked.now (found_in _cells.now _looked.now)) }
+    ensures { log.new ≡ with_mark log.old (λ at. marks.Entered at _entry.now _looked.now (found_in _cells.now _looked.now)) }
 {
     log.add::<B>();
 }

@@ -12,16 +12,17 @@ ghost use Rattle.pvd_value.specs.Fits.{fits_of};
 ghost use Rattle.pvd_value.specs.View.{view};
 
 use crate::cells::{Cells, groups_over_records, names_and_configs, opening_of};
+use crate::driving::discard;
 use crate::entering::enter;
 use crate::log::{Log, Terms};
 use crate::looks::note_looks;
 use desk_api::{
-    Action, Channel, Desk, Done, FieldAnswer, Moment, NoMemory, PutAnswer, PvType, PvValue, Site,
-    entries_write_inside, looks_show_states,
+    Action, Channel, ChannelKind, Desk, Done, FieldAnswer, Moment, NoMemory, PutAnswer, PvType,
+    PvValue, RecRow, Site, entries_write_inside, looks_show_states,
 };
 use journal_core::History;
 use pva_outside::Port;
-use pvd_type::BitSet;
+use pvd_type::{BitSet, Name};
 use std::alloc::Global;
 
 /// The desk of a site that nobody else reads or writes, with the ports of its records. No call of it waits.
@@ -123,15 +124,26 @@ impl<P: Port> SoloDesk<P> {
         requires within { AllByRecursion (λ a. a.0 < length self.old.terms.site.configs) actions.items }
         requires may { AllByRecursion (MayBeDoneBy self.old.terms.site.configs) actions.items }
         requires few { length actions.items ≤ 256 }
-        ensures put { IsPutNow self.old.terms.site moment actions.items done self.old.log self.new.log (ports_of P.port self.old) (ports_of P.port self.new) result }
+        ensures put { IsPutNow self.old.terms.site moment actions.items [] [] done self.old.log self.new.log (ports_of P.port self.old) (ports_of P.port self.new) result }
         ensures terms { self.new.terms ≡ self.old.terms }
     {
         entries_write_inside();
-        let Ok(entry) = self.cells.draft(alloc, &self.terms.site, actions, moment) else {
+        let Ok(entry) = self
+            .cells
+            .draft(alloc, &self.terms.site, actions, &[], moment)
+        else {
             return Err(PutAnswer::NoMemory { done });
         };
         let limit = self.terms.limit;
-        match enter(&mut self.history, &mut self.log, limit, entry, done) {
+        match enter(
+            &mut self.history,
+            &mut self.log,
+            limit,
+            entry,
+            &[],
+            &[],
+            done,
+        ) {
             Ok(place) => Ok(place),
             Err(answer) => {
                 self.cells.restore();
@@ -191,12 +203,107 @@ impl<P: Port> SoloDesk<P> {
     }
 }
 
-impl<P: Port> Desk for SoloDesk<P> {
-    ghost use Rattle.desk_api.specs.Calls.{AreGet, ArePut};
+/// The service of the server.
+const SERVICE: Channel = Channel {
+    kind: ChannelKind::Service,
+    number: 0,
+};
+
+impl<P: Port> SoloDesk<P> {
+    ghost use Rattle.desk_api.specs.Calls.{ArePutGet};
     ghost use Rattle.desk_api.specs.Sites as sites;
     ghost use Rattle.desk_api.specs.Types as types;
     ghost use Rattle.desk_core.specs.Desks.{ports_of};
     ghost use Rattle.desk_core.specs.Ports.{DrivesPorts};
+    ghost use Rattle.desk_core.specs.PutGets.{IsPutGotNow, done_of};
+
+    /// Adds the entry of these actions, which holds the channel's records too, and tells what the channel shows right after it. All
+    /// memory is taken before.
+    fn put_and_show(
+        &mut self,
+        alloc: Global,
+        channel: Channel,
+        actions: Vec<(u32, Action)>,
+        moment: Moment,
+    ) -> Result<(Done, PvValue), PutAnswer>
+        requires channel { IsTrue (sites.is_channel self.old.terms.site channel) }
+        requires within { AllByRecursion (λ a. a.0 < length self.old.terms.site.configs) actions.items }
+        requires may { AllByRecursion (MayBeDoneBy self.old.terms.site.configs) actions.items }
+        requires few { length actions.items ≤ 256 }
+        ensures put { IsPutGotNow self.old.terms.site channel moment actions.items self.old.log self.new.log (ports_of P.port self.old) (ports_of P.port self.new) result }
+        ensures terms { self.new.terms ≡ self.old.terms }
+    {
+        entries_write_inside();
+        looks_show_states();
+        let site = &self.terms.site;
+        names_and_configs(site);
+        groups_over_records(site);
+        let Ok(drafted) = self
+            .cells
+            .draft_shown(alloc, site, channel, actions, moment)
+        else {
+            return Err(PutAnswer::NoMemory { done: 0 });
+        };
+        let limit = self.terms.limit;
+        let looked = site.footprint_of(channel);
+        let cells = self.cells.states.as_slice();
+        let (entry, value) = drafted;
+        match enter(
+            &mut self.history,
+            &mut self.log,
+            limit,
+            entry,
+            looked,
+            cells,
+            0,
+        ) {
+            Ok(first) => Ok((Done { first, count: 1 }, value)),
+            Err(answer) => {
+                discard(value);
+                self.cells.restore();
+                Err(answer)
+            }
+        }
+    }
+
+    /// Puts the marked leaves, and then gets the channel.
+    fn put_then_get(
+        &mut self,
+        alloc: Global,
+        channel: Channel,
+        mask: &BitSet,
+        value: &PvValue,
+        moment: Moment,
+        atomic: Option<bool>,
+    ) -> Result<(Done, PvValue), PutAnswer>
+        requires channel { IsTrue (sites.is_channel self.old.log.seen.base.site channel) }
+        requires fits { fits_of 16 (view value.now) (types.type_of self.old.log.seen.base.site channel) ≡ true }
+        requires leaves { types.HoldsLeaves (types.type_of self.old.log.seen.base.site channel) mask.now }
+        requires apart { sites.is_atomic self.old.log.seen.base.site channel atomic ≡ false }
+        ensures calls { Calls self.old.log self.new.log (ArePutGet (record { site = self.old.log.seen.base.site; channel = channel; mask = mask.now; value = view value.now; moment = moment; atomic = atomic }) result) }
+        ensures ends { OnTold result (EndsAtItsMarks self.old.log self.new.log) }
+        ensures fits { IfOk result (λ r. fits_of 16 (view r.1) (types.type_of self.old.log.seen.base.site channel) ≡ true) }
+        ensures base { self.new.log.seen.base ≡ self.old.log.seen.base }
+        ensures ports { DrivesPorts self.old.log self.new.log (ports_of P.port self.old) (ports_of P.port self.new) (record { site = self.old.log.seen.base.site; channel = channel; mask = mask.now; value = view value.now; moment = moment; atomic = atomic }) (done_of result) }
+    {
+        let done = match self.put(alloc, channel, mask, value, moment, atomic) {
+            Ok(done) => done,
+            Err(answer) => return Err(answer),
+        };
+        match self.get(alloc, channel, atomic) {
+            Ok(value) => Ok((done, value)),
+            Err(_) => Err(PutAnswer::NoMemory { done: done.count }),
+        }
+    }
+}
+
+impl<P: Port> Desk for SoloDesk<P> {
+    ghost use Rattle.desk_api.specs.Calls.{AreGet, ArePut, ArePutGet, AreSnapshot, now};
+    ghost use Rattle.desk_api.specs.Sites as sites;
+    ghost use Rattle.desk_api.specs.Types as types;
+    ghost use Rattle.desk_core.specs.Desks.{ports_of};
+    ghost use Rattle.desk_core.specs.Ports.{DrivesPorts};
+    ghost use Rattle.desk_core.specs.PutGets.{done_of};
     ghost use Rattle.histories.specs.History.{deeds_by, tagged};
 
     ghost seat = { λ desk. desk.log };
@@ -215,7 +322,19 @@ impl<P: Port> Desk for SoloDesk<P> {
         self.terms.site.type_of(channel)
     }
 
-    /// What the channel shows, as every desk does it. It drives no port.
+    fn records(&self) -> usize {
+        self.terms.site.records()
+    }
+
+    fn groups(&self) -> usize {
+        self.terms.site.groups()
+    }
+
+    fn names(&self, alloc: Global) -> Result<Vec<Name>, NoMemory> {
+        self.terms.site.names(alloc)
+    }
+
+    /// What the channel shows, as every desk does it. It drives no port, and nothing is added to the history.
     fn get(
         &mut self,
         alloc: Global,
@@ -227,6 +346,7 @@ impl<P: Port> Desk for SoloDesk<P> {
         ensures ends { OnOk result (EndsAtItsMarks self.old.log self.new.log) }
         ensures fits { IfOk result (λ v. fits_of 16 (view v) (types.type_of self.old.log.seen.base.site channel) ≡ true) }
         ensures base { self.new.log.seen.base ≡ self.old.log.seen.base }
+        ensures seen { self.new.log.seen ≡ self.old.log.seen }
         ensures ports { ports_of P.port self.new ≡ ports_of P.port self.old }
     {
         let site = &self.terms.site;
@@ -259,6 +379,7 @@ impl<P: Port> Desk for SoloDesk<P> {
         ensures calls { Calls self.old.log self.new.log (ArePut (record { site = self.old.log.seen.base.site; channel = channel; mask = mask.now; value = view value.now; moment = moment; atomic = atomic }) result) }
         ensures ends { OnTold result (EndsAtItsMarks self.old.log self.new.log) }
         ensures base { self.new.log.seen.base ≡ self.old.log.seen.base }
+        ensures first { IfOk result (λ done. done.first ≡ now self.old.log) }
         ensures ports { DrivesPorts self.old.log self.new.log (ports_of P.port self.old) (ports_of P.port self.new) (record { site = self.old.log.seen.base.site; channel = channel; mask = mask.now; value = view value.now; moment = moment; atomic = atomic }) result }
     {
         let actions = match self.terms.site.actions(alloc, channel, value, mask) {
@@ -267,5 +388,50 @@ impl<P: Port> Desk for SoloDesk<P> {
         };
         let whole = self.terms.site.is_atomic(channel, atomic);
         self.put_entries(alloc, whole, actions, moment)
+    }
+    /// Puts the marked leaves and gets the channel, as every desk does it. The ports are driven as by the put alone.
+    fn put_get(
+        &mut self,
+        alloc: Global,
+        channel: Channel,
+        mask: &BitSet,
+        value: &PvValue,
+        moment: Moment,
+        atomic: Option<bool>,
+    ) -> Result<(Done, PvValue), PutAnswer>
+        requires channel { IsTrue (sites.is_channel self.old.log.seen.base.site channel) }
+        requires fits { fits_of 16 (view value.now) (types.type_of self.old.log.seen.base.site channel) ≡ true }
+        requires leaves { types.HoldsLeaves (types.type_of self.old.log.seen.base.site channel) mask.now }
+        ensures calls { Calls self.old.log self.new.log (ArePutGet (record { site = self.old.log.seen.base.site; channel = channel; mask = mask.now; value = view value.now; moment = moment; atomic = atomic }) result) }
+        ensures ends { OnTold result (EndsAtItsMarks self.old.log self.new.log) }
+        ensures fits { IfOk result (λ r. fits_of 16 (view r.1) (types.type_of self.old.log.seen.base.site channel) ≡ true) }
+        ensures base { self.new.log.seen.base ≡ self.old.log.seen.base }
+        ensures ports { DrivesPorts self.old.log self.new.log (ports_of P.port self.old) (ports_of P.port self.new) (record { site = self.old.log.seen.base.site; channel = channel; mask = mask.now; value = view value.now; moment = moment; atomic = atomic }) (done_of result) }
+    {
+        let at_once = self.terms.site.is_atomic(channel, atomic);
+        if !at_once {
+            return self.put_then_get(alloc, channel, mask, value, moment, atomic);
+        }
+        match self.terms.site.actions(alloc, channel, value, mask) {
+            Ok(actions) => self.put_and_show(alloc, channel, actions, moment),
+            Err(answer) => Err(not_done(answer)),
+        }
+    }
+
+    /// A row for each record, as every desk gives them. It drives no port.
+    fn snapshot(&mut self, alloc: Global) -> Result<Vec<RecRow>, NoMemory>
+        ensures calls { Calls self.old.log self.new.log (AreSnapshot self.old.log.seen.base.site result) }
+        ensures ends { OnOk result (EndsAtItsMarks self.old.log self.new.log) }
+        ensures base { self.new.log.seen.base ≡ self.old.log.seen.base }
+        ensures ports { ports_of P.port self.new ≡ ports_of P.port self.old }
+    {
+        let site = &self.terms.site;
+        names_and_configs(site);
+        let cells = self.cells.states.as_slice();
+        let Ok(rows) = site.rows(alloc, cells) else {
+            return Err(NoMemory);
+        };
+        note_looks(&mut self.log, site, SERVICE, None, cells);
+        Ok(rows)
     }
 }

@@ -77,7 +77,7 @@ fn leaves_of(alloc: Global, ty: &PvType, numbers: &[u16]) -> Result<BitSet, NoMe
 }
 
 /// Those of these numbers that are leaves of the channel, where the value is one of it.
-fn mask_for<D: Desk>(
+pub(crate) fn mask_for<D: Desk>(
     alloc: Global,
     desk: &D,
     channel: Channel,
@@ -186,7 +186,7 @@ fn port_of<'a>(desk: &'a SoloDesk<MemoryPort>, name: &str) -> Option<&'a MemoryP
     };
     match channel.kind {
         ChannelKind::Rec => desk.port(channel.number as usize),
-        ChannelKind::Desc | ChannelKind::Group => None,
+        ChannelKind::Desc | ChannelKind::Group | ChannelKind::Service => None,
     }
 }
 

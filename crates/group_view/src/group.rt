@@ -14,7 +14,7 @@ ghost use Rattle.rec_kinds.specs.Configs.{Config};
 ghost use Rattle.group_view.specs.Puts.{writers, IsWritten};
 ghost use Rattle.group_view.specs.Seen.{configs_seen};
 ghost use Rattle.group_view.specs.Types.{group_tree};
-ghost use Rattle.group_view.specs.Views.{group_shown, part_shown, IsReadyFor};
+ghost use Rattle.group_view.specs.Views.{group_shown, IsReadyFor};
 
 use crate::building::{checked, reaches_of};
 use crate::entry::entries_of;
@@ -28,7 +28,7 @@ use crate::views::values_of;
 use crate::writer::{Writer, writers_of};
 use group_defs::{GroupDef, GroupFault};
 use pvd_type::{BitSet, Name, NoMemory, PvType};
-use pvd_value::{PvValue, blank};
+use pvd_value::PvValue;
 use rec_kinds::{Items, RecConfig, RecState};
 use std::alloc::Global;
 use std::collections::BTreeMap;
@@ -174,23 +174,6 @@ impl Group {
         ensures fits { IfOk result (λ v. fits_of 16 (view v) (group_tree self.now) ≡ true) }
     {
         Ok(PvValue::Struct(values_of(&self.slots, states, alloc)?))
-    }
-
-    /// The same with the leaves of a mask alone, and blank leaves elsewhere. Only the records are read that are shown under a
-    /// number of the mask.
-    pub fn view_part(
-        &self,
-        alloc: Global,
-        states: &[RecState],
-        mask: &BitSet,
-    ) -> Result<PvValue, NoMemory>
-        requires { IsReadyFor mask.now states.now self.now }
-        ensures shown { IfOk result (λ v. view v ≡ part_shown self.now mask.now states.now) }
-        ensures fits { IfOk result (λ v. fits_of 16 (view v) (group_tree self.now) ≡ true) }
-    {
-        let mut value = blank(alloc, &self.ty)?;
-        self.view_into(alloc, states, mask, &mut value)?;
-        Ok(value)
     }
 
     /// Writes the leaves of a mask, as the group shows them where the records have these states, into a value that the caller

@@ -6,6 +6,7 @@ ghost use Rattle.group_view.specs.Seen.{configs_seen};
 ghost use Rattle.group_view.specs.Types.{group_tree};
 
 use super::*;
+use crate::part_tests::over_blank;
 use group_defs::read_groups;
 use pvd_type::{BitSet, Member, Name, NoMemory, PvType, Scalar, Shape, TypeFault};
 use pvd_value::{Items as Elements, PvValue, fits};
@@ -398,7 +399,7 @@ fn part_of(
 {
     valid_states_are_ready();
     ready_groups_are_ready_for_parts();
-    group.view_part(alloc, states, mask)
+    over_blank(alloc, group, states, mask)
 }
 
 const A: &str = r#"{"G":{"a":{"+type":"scalar","+channel":"VAL","+putorder":2,"+trigger":"*"}}}"#;

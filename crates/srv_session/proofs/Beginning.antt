@@ -1,7 +1,8 @@
 -- Requests that begin.
-use Rattle.std.proofs.Common.{◌≡◌, ◌==◌, ℕ, ◌<◌, Bool, true, false, cond, List, [], ◌∷◌, ◌++◌, Option, None, Some, Result, Ok, Err, refl, sym, ◌∙◌, ap, subst, arith}
-use Rattle.std.specs.Prelude.{is_some, IsSome, IfSome, codes, nat_le}
-use Rattle.std.specs.FinMap.{get, contains_key, len}
+use Rattle.std.proofs.Common.{◌≡◌, ℕ, ◌<◌, Bool, true, false, cond, List, [], ◌∷◌, ◌++◌, Option, None, Some, Result, Ok, Err, refl, sym, ◌∙◌, ap, subst, arith}
+use Rattle.std.proofs.lemmas.Option.{none-some}
+use Rattle.std.specs.Prelude.{IsTrue, option_map, is_some, IsSome, IfSome, codes}
+use Rattle.std.specs.FinMap.{get, len}
 use Rattle.std.proofs.lemmas.Bool.{false≢true}
 use Rattle.std.proofs.lemmas.Bool.Decides.{nat_tests}
 use Rattle.pvd_type.specs.Tree.{Tree}
@@ -23,19 +24,18 @@ use Rattle.pvd_request.specs.Requests.{shown as given_shown, request_of, Gives}
 use Rattle.pvd_request.specs.declared.request.Request.{Request as Wanted}
 use Rattle.pvd_request.specs.declared.request.RequestFault.{RequestFault}
 use Rattle.pvd_request.specs.declared.request.RequestFault.TheVariants as faults
-use Rattle.pvd_request.specs.declared.request.Root.TheVariants as roots
+use Rattle.pvd_request.specs.declared.request.Root.{Root}
 use Rattle.chan_table.specs.Tables.{Tables, limit, Refuses}
 use Rattle.chan_table.specs.declared.answer.TableAnswer.{TableAnswer}
 use Rattle.chan_table.specs.declared.answer.TableAnswer.TheVariants as places
 use Rattle.chan_table.specs.declared.ask.AskKind.{AskKind}
 use Rattle.desk_api.specs.History.{IsLegal}
-use Rattle.desk_api.specs.Types.{type_of}
 use Rattle.desk_api.specs.declared.channel.Channel.{Channel}
 use Rattle.desk_api.specs.declared.history.SiteData.{SiteData}
 use Rattle.desk_api.specs.declared.mark.Seat.{Seat}
 use Rattle.srv_session.specs.State.{State, Requests, is_full}
-use Rattle.srv_session.specs.Replies.{refused}
-use Rattle.srv_session.specs.Tasks.{Task, refuse, fault_text, beginning, beginning_as}
+use Rattle.srv_session.specs.Replies.{is_call, refused}
+use Rattle.srv_session.specs.Tasks.{Task, refuse, nothing_wanted, root_for, wanted_for, unfit_for, unfit, beginning, beginning_as, beginning_on}
 use Rattle.srv_session.specs.Calls.{Takes}
 use Rattle.srv_session.specs.Views.{state_of, output_of, show, RefusesFault, RefusesPlace}
 use Rattle.srv_session.specs.declared.session.Session.{Session}
@@ -46,11 +46,13 @@ given_is : (o : Option (Tree × PvValue)) → given_shown o ≡ valued_view o
 given_is None = refl
 given_is (Some x) = refl
 
-pub asked_as : (ty channel_ty : Tree) (given other : Option (Tree × PvValue)) → ty ≡ channel_ty → other ≡ given
-    → request_of channel_ty roots.Field (valued_view given) ≡ request_of ty roots.Field (given_shown other)
-asked_as ty channel_ty given other ty_is same =
-    ap (λ (t : Tree). request_of t roots.Field (valued_view given)) (sym ty_is)
-    ∙ ap (request_of ty roots.Field) (sym (given_is given) ∙ ap given_shown (sym same))
+pub asked_as : (kind : AskKind) (ty channel_ty : Tree) (which : Root) (given other : Option (Tree × PvValue)) → is_call kind ≡ false → which ≡ root_for kind → ty ≡ channel_ty → other ≡ given
+    → wanted_for kind channel_ty (valued_view given) ≡ request_of ty which (given_shown other)
+asked_as kind ty channel_ty which given other call root_is ty_is same =
+    ap (λ (b : Bool). cond b (Ok nothing_wanted) (request_of channel_ty (root_for kind) (valued_view given))) call
+    ∙ ap (λ (t : Tree). request_of t (root_for kind) (valued_view given)) (sym ty_is)
+    ∙ ap (λ (r : Root). request_of ty r (valued_view given)) (sym root_is)
+    ∙ ap (request_of ty which) (sym (given_is given) ∙ ap given_shown (sym same))
 
 -- a request structure is refused
 pub fault_refused : (old new : Session) (seat : Seat) → IsLegal seat.seen → (moment : Moment) (kind : AskKind) (req sub sid : ℕ) (channel : Channel) (fault : RequestFault) (told : Result Wanted RequestFault)
@@ -77,7 +79,7 @@ module _ (site : SiteData) (s : State) (kind : AskKind) (req sub sid : ℕ) (v :
     too_many = refuse (refused kind req sub (codes "too many requests"))
 
     abbrev others : Task
-    others = beginning_as kind req sub sid channel (request_of (type_of site channel) roots.Field v)
+    others = beginning_on site kind req sub sid v channel (unfit kind channel)
 
     pub id_in_use : IsSome (get s.requests req) → beginning site s kind req sub sid v o ≡ in_use
     id_in_use some = ap (beginning site s kind req sub sid v) is ∙ ap (λ (b : Bool). cond b in_use (cond (is_full s.requests) too_many others)) some
@@ -126,3 +128,25 @@ get_fits sid req sub v f is = first_fits (begins sub) v is f.1.1.1
 pub put_fits : (sid req sub : ℕ) (v : Option (Tree × PvValue)) (part : put_parts.PutPart) → CanEach FitsField (request_fields (said.put sid req sub (valued_view v) (put_part_view part))) → begins sub ≡ true
     → IfSome v (λ r. fits_of 16 (view r.1) r.0 ≡ true)
 put_fits sid req sub v part f is = front_fits (begins sub) v _ is f.1.1.1
+
+pub put_get_fits : (sid req sub : ℕ) (v : Option (Tree × PvValue)) (part : put_parts.PutPart) → CanEach FitsField (request_fields (said.put_get sid req sub (valued_view v) (put_part_view part))) → begins sub ≡ true
+    → IfSome v (λ r. fits_of 16 (view r.1) r.0 ≡ true)
+put_get_fits sid req sub v part f is = front_fits (begins sub) v _ is f.1.1.1
+
+pub call_fits : (sid req sub : ℕ) (v : Option (Tree × PvValue)) → CanEach FitsField (request_fields (said.rpc sid req sub (valued_view v))) → IfSome v (λ r. fits_of 16 (view r.1) r.0 ≡ true)
+call_fits sid req sub None f = tt
+call_fits sid req sub (Some r) f = f.1.1.1.0
+
+-- What fits on a channel.
+
+pub no_text : {A : Type 0} (f : A → List ℕ) (o : Option A) → o ≡ None → option_map f o ≡ None
+no_text f o is = ap (option_map f) is
+
+pub fit_valued : (call valued : Bool) → unfit_for call valued ≡ None → call ≡ false → IsTrue valued
+fit_valued true valued fit is = absurd (false≢true (sym is))
+fit_valued false true fit is = refl
+fit_valued false false fit is = absurd (none-some _ (sym fit))
+
+-- a call wants nothing
+pub call_wanted : (kind : AskKind) (ty : Tree) (v : Valued) → is_call kind ≡ true → wanted_for kind ty v ≡ Ok nothing_wanted
+call_wanted kind ty v is = ap (λ (b : Bool). cond b (Ok nothing_wanted) (request_of ty (root_for kind) v)) is

@@ -1,14 +1,16 @@
 -- What is said to an event is determined by its marks.
-use Rattle.std.proofs.Common.{◌≡◌, ℕ, suc, ◌+◌, ◌<◌, ◌≤◌, Bool, true, false, List, [], ◌∷◌, ◌++◌, length, take, Option, None, Some, Result, Ok, Err, refl, sym, ◌∙◌, ap, subst, arith, length-append, append_assoc}
-use Rattle.std.specs.Prelude.{codes, slice_get, nat_lt}
+use Rattle.std.proofs.Common.{◌≡◌, ℕ, suc, ◌<◌, Bool, true, false, List, [], ◌∷◌, ◌++◌, length, take, Option, None, Some, Result, Ok, Err, refl, sym, ◌∙◌, ap, subst, arith, length-append, append_assoc}
+use Rattle.std.specs.Prelude.{codes, nat_lt}
 use Rattle.std.specs.FinSet.{FinSet}
 use Rattle.std.specs.Ordering.{nat_cmp}
 use Rattle.std.proofs.lemmas.Bool.{false≢true}
 use Rattle.std.proofs.lemmas.Bool.Decides.{nat_tests}
 use Rattle.std.proofs.lemmas.Option.{none-some}
 use Rattle.pva_wire.specs.declared.status.Status.{Status}
+use Rattle.pva_wire.specs.declared.status.StatusKind.TheVariants.{Good, Error}
 use Rattle.pva_wire.specs.Status.{good}
 use Rattle.pvd_value.specs.Data.{Data}
+use Rattle.journal_core.specs.Moments.{Moment}
 use Rattle.pva_frames.specs.declared.event.Event.{Event}
 use Rattle.rec_kinds.specs.declared.datum.Action.{Action}
 use Rattle.rec_kinds.specs.declared.put.PutRefusal.{PutRefusal}
@@ -18,10 +20,15 @@ use Rattle.rec_fields.specs.declared.puts.FieldAnswer.TheVariants.{Refused}
 use Rattle.chan_table.specs.declared.ask.AskKind.{AskKind}
 use Rattle.chan_table.specs.declared.ask.AskKind.TheVariants as kinds
 use Rattle.desk_api.specs.Calls as calls
-use Rattle.desk_api.specs.Calls.{AreLooks, AreAdded, ArePut, asked_actions, asked_entries, entries_of_actions, laid_by, looks_of}
-use Rattle.desk_api.specs.Sites.{is_atomic}
+use Rattle.desk_api.specs.Calls.{AreLooks, AreAdded, ArePut, ArePutGetBy, asked_actions, asked_entries, entries_of_actions, laid_by, looks_of, rows_shown}
+use Rattle.pvd_value.specs.View.{view}
+use Rattle.pvd_value.specs.declared.value.PvValue.{PvValue}
+use Rattle.rec_kinds.specs.declared.state.RecState.{RecState}
+use Rattle.desk_api.specs.declared.rows.RecRow.{RecRow}
+use Rattle.desk_api.specs.Puts.{actions_of}
+use Rattle.desk_api.specs.Sites.{is_atomic, footprint_of}
 use Rattle.desk_api.specs.Types.{type_of}
-use Rattle.desk_api.specs.Views.{value_of}
+use Rattle.desk_api.specs.Views.{value_of, laid}
 use Rattle.desk_api.specs.declared.channel.Channel.{Channel}
 use Rattle.desk_api.specs.declared.history.SiteData.{SiteData}
 use Rattle.desk_api.specs.declared.mark.Mark.{Mark}
@@ -30,9 +37,11 @@ use Rattle.desk_api.specs.declared.put.Done.{Done}
 use Rattle.desk_api.specs.declared.put.PutAnswer.{PutAnswer}
 use Rattle.desk_api.specs.declared.put.PutAnswer.TheVariants as answers
 use Rattle.srv_session.specs.State.{State, Asked}
-use Rattle.srv_session.specs.Tasks.{Task, pass_over, echo_control, refuse, validate, echo, create, destroy_channel, begin, get, put, destroy_request, Hearing, asks, not_built, unreadable, heard}
-use Rattle.srv_session.specs.Replies.{Sent, said, error, got, answered}
-use Rattle.srv_session.specs.Rows.{Says, GetRow, asked, refusal_text, put_status, PutRow, Row}
+use Rattle.srv_session.specs.Tasks.{Task, pass_over, echo_control, refuse, tell, validate, echo, create, destroy_channel, begin, get, put, put_get, respond, snapshot, destroy_request, Hearing, asks, not_built, unreadable, heard}
+use Rattle.pva_messages.specs.Replies.{Reply}
+use Rattle.rpc_services.specs.Answers.{snapshot_tree}
+use Rattle.srv_session.specs.Replies.{Sent, said, error, got, answered, called}
+use Rattle.srv_session.specs.Rows.{Says, GetRow, asked, refusal_text, put_status, PutRow, put_get_reply, PutGetRow, rows_data, SnapshotRow, Row}
 use Rattle.srv_session.specs.Steps.{Step, knowing, IsAnswer, bytes_of, after_step, AreSteps, events_of, marks_of, out_of}
 
 -- two ways to split a list of marks, and what was sent by the first parts
@@ -91,7 +100,7 @@ same_get site kind req sub ask channel m n k l x y p q e =
 
 abbrev is_entry : Mark → Bool
 is_entry (Read at channel footprint found) = false
-is_entry (Entered at entry) = true
+is_entry (Entered at entry looked found) = true
 is_entry (Overweight at footprint actions kept weight limit) = false
 
 abbrev AllEntries : List Mark → Type 0
@@ -197,10 +206,158 @@ same_put site req sub ask channel mask value m n k l x y p q e =
       sent = p.sent_is ∙ ap (λ (s : Status). said (answered kinds.Put req sub s) ∷ []) same.1 ∙ sym q.sent_is;
     }
 
+-- Put-gets.
+
+-- what a mark found
+abbrev found_in : Mark → List RecState
+found_in (Read at channel footprint found) = found
+found_in (Entered at entry looked found) = found
+found_in (Overweight at footprint actions kept weight limit) = []
+
+-- what an option has, or else this
+abbrev reply_in : Reply → Option Reply → Reply
+reply_in d None = d
+reply_in d (Some r) = r
+
+apart_kinds : Good ≡ Error → ⊥
+apart_kinds e = cc
+
+apart_results : {A : Type 0} {r : Result A FieldAnswer} {x : A} {y : FieldAnswer} → r ≡ Ok x → r ≡ Err y → ⊥
+apart_results p q = let e = sym p ∙ q in cc
+
+module _ (site : SiteData) (req sub : ℕ) (ask : Asked) (channel : Channel) (mask : FinSet nat_cmp) (value : Data) where
+  abbrev acts : Result (List (ℕ × Action)) FieldAnswer
+  acts = actions_of site channel mask value
+
+  abbrev at_moment : Moment → calls.Asked
+  at_moment moment = asked site ask channel mask value moment
+
+  abbrev gives : Data → Reply
+  gives v = got kinds.PutGet req sub (type_of site channel) ask.mask v
+
+  abbrev right_after : Mark → Data
+  right_after mark = value_of site channel (laid site.opening (footprint_of site channel) (found_in mark))
+
+  -- One that is atomic: its entry was added, it would have been too heavy, or it was refused.
+  data Alone (marks : List Mark) (told : Reply) : Type 0 where
+    entered : (actions : List (ℕ × Action)) → (mark : Mark) → acts ≡ Ok actions → is_entry mark ≡ true → marks ≡ mark ∷ [] → told ≡ gives (right_after mark) → Alone marks told
+    heavy : (actions : List (ℕ × Action)) → (mark : Mark) → acts ≡ Ok actions → is_entry mark ≡ false → marks ≡ mark ∷ [] → told ≡ answered kinds.PutGet req sub (error (codes "journal full")) → Alone marks told
+    unasked : (refusal : PutRefusal) → acts ≡ Err (Refused refusal) → marks ≡ [] → told ≡ answered kinds.PutGet req sub (error (refusal_text refusal)) → Alone marks told
+
+  alone : (moment : Moment) (r : Result (Done × PvValue) PutAnswer) (marks : List Mark) (told : Reply) → ArePutGetBy true (at_moment moment) r marks → put_get_reply site req sub ask channel r ≡ Some told → Alone marks told
+  alone moment (Ok (d, v)) marks told p s =
+      entered p.actions (Entered p.at p.entry (footprint_of site channel) p.found) p.asked refl p.marks_are (sym (ap (reply_in told) s) ∙ ap gives p.value_is)
+  alone moment (Err (answers.Refused refusal)) marks told p s = unasked refusal p.refusal_is p.marks_are (sym (ap (reply_in told) s))
+  alone moment (Err (answers.JournalFull kept weight limit d)) marks told p s = heavy p.actions _ p.asked refl p.marks_are (sym (ap (reply_in told) s))
+  alone moment (Err (answers.NoMemory d)) marks told p s = absurd (none-some told s)
+
+  -- the first marks are the same
+  heads : (a b : Mark) (m n k l : List Mark) → m ≡ a ∷ [] → n ≡ b ∷ [] → m ++ k ≡ n ++ l → a ≡ b
+  heads a b m n k l p q e = ap (head_or a) (sym (ap (λ (z : List Mark). z ++ k) p) ∙ e ∙ ap (λ (z : List Mark). z ++ l) q)
+
+  one_each : (a b : Mark) (m n k l : List Mark) → m ≡ a ∷ [] → n ≡ b ∷ [] → m ++ k ≡ n ++ l → (m ≡ n) × (k ≡ l)
+  one_each a b m n k l p q e = split m n k l (ap length p ∙ sym (ap length q)) e
+
+  same_alone : (m n k l : List Mark) (t u : Reply) → Alone m t → Alone n u → m ++ k ≡ n ++ l → ((m ≡ n) × (k ≡ l)) × (t ≡ u)
+  same_alone m n k l t u (entered es a ok is p told) (entered fs b ok2 is2 q told2) e =
+      (one_each a b m n k l p q e, told ∙ ap (λ (z : Mark). gives (right_after z)) (heads a b m n k l p q e) ∙ sym told2)
+  same_alone m n k l t u (entered es a ok is p told) (heavy fs b ok2 is2 q told2) e = absurd (false≢true (sym is2 ∙ sym (ap is_entry (heads a b m n k l p q e)) ∙ is))
+  same_alone m n k l t u (entered es a ok is p told) (unasked r err q told2) e = absurd (apart_results ok err)
+  same_alone m n k l t u (heavy es a ok is p told) (entered fs b ok2 is2 q told2) e = absurd (false≢true (sym is ∙ ap is_entry (heads a b m n k l p q e) ∙ is2))
+  same_alone m n k l t u (heavy es a ok is p told) (heavy fs b ok2 is2 q told2) e = (one_each a b m n k l p q e, told ∙ sym told2)
+  same_alone m n k l t u (heavy es a ok is p told) (unasked r err q told2) e = absurd (apart_results ok err)
+  same_alone m n k l t u (unasked r err p told) (entered fs b ok2 is2 q told2) e = absurd (apart_results ok2 err)
+  same_alone m n k l t u (unasked r err p told) (heavy fs b ok2 is2 q told2) e = absurd (apart_results ok2 err)
+  same_alone m n k l t u (unasked r err p told) (unasked r2 err2 q told2) e =
+      (refused_marks m n k l p q e, told ∙ ap (λ (z : PutRefusal). answered kinds.PutGet req sub (error (refusal_text z))) (same_refusal err err2) ∙ sym told2)
+
+  -- One that isn't atomic is a put and then a get, or a put that wasn't done.
+  put_alone : (moment : Moment) (answer : PutAnswer) (marks : List Mark) (status : Status) → put_status (Err answer) ≡ Some status → ArePutGetBy false (at_moment moment) (Err answer) marks
+      → ArePut (at_moment moment) (Err answer) marks
+  put_alone moment (answers.Refused refusal) marks status s p = p
+  put_alone moment (answers.JournalFull kept weight limit d) marks status s p = p
+  put_alone moment (answers.NoMemory d) marks status s p = absurd (none-some status s)
+
+  record Problem (answer : PutAnswer) (told : Reply) : Type 0 where
+    status : Status
+    status_is : put_status (Err answer) ≡ Some status
+    told_is : told ≡ answered kinds.PutGet req sub status
+    kind_is : status.kind ≡ Error
+
+  problem : (answer : PutAnswer) (told : Reply) → put_get_reply site req sub ask channel (Err answer) ≡ Some told → Problem answer told
+  problem (answers.Refused refusal) told s = record { status = error (refusal_text refusal); status_is = refl; told_is = sym (ap (reply_in told) s); kind_is = refl }
+  problem (answers.JournalFull kept weight limit d) told s = record { status = error (codes "journal full"); status_is = refl; told_is = sym (ap (reply_in told) s); kind_is = refl }
+  problem (answers.NoMemory d) told s = absurd (none-some told s)
+
+  -- where one did its put and the other didn't
+  not_one : (a b : Moment) (d : Done) (answer : PutAnswer) (puts gets n k l : List Mark) (told : Reply) → ArePut (at_moment a) (Ok d) puts → ArePutGetBy false (at_moment b) (Err answer) n
+      → put_get_reply site req sub ask channel (Err answer) ≡ Some told → (puts ++ gets) ++ k ≡ n ++ l → ⊥
+  not_one a b d answer puts gets n k l told p q s e =
+      let why = problem answer told s in
+      let same =
+      same_outcome (at_moment a) (at_moment b) puts n (gets ++ k) l good why.status refl refl (outcome (at_moment a) (Ok d) puts good p refl)
+      (outcome (at_moment b) (Err answer) n why.status (put_alone b answer n why.status why.status_is q) why.status_is) (sym (append_assoc puts gets k) ∙ e) in
+      apart_kinds (ap (λ (z : Status). z.kind) same.1 ∙ why.kind_is)
+
+  same_in_turn : (a b : Moment) (r r2 : Result (Done × PvValue) PutAnswer) (m n k l : List Mark) (t u : Reply) → ArePutGetBy false (at_moment a) r m → ArePutGetBy false (at_moment b) r2 n
+      → put_get_reply site req sub ask channel r ≡ Some t → put_get_reply site req sub ask channel r2 ≡ Some u → m ++ k ≡ n ++ l → ((m ≡ n) × (k ≡ l)) × (t ≡ u)
+  same_in_turn a b (Ok (d, v)) (Ok (d2, v2)) m n k l t u p q s s2 e =
+      let looks = looks_of site channel ask.atomic in
+      let parts : p.puts ++ (p.gets ++ k) ≡ q.puts ++ (q.gets ++ l) =
+      sym (append_assoc p.puts p.gets k) ∙ ap (λ (z : List Mark). z ++ k) (sym p.marks_are) ∙ e ∙ ap (λ (z : List Mark). z ++ l) q.marks_are ∙ append_assoc q.puts q.gets l in
+      let first =
+      same_outcome (at_moment a) (at_moment b) p.puts q.puts (p.gets ++ k) (q.gets ++ l) good good refl refl (outcome (at_moment a) (Ok d) p.puts good p.put refl) (outcome (at_moment b) (Ok d2) q.puts good q.put refl) parts in
+      let second = split p.gets q.gets k l (as_many_looks channel looks p.gets p.got.looks ∙ sym (as_many_looks channel looks q.gets q.got.looks)) first.0.1 in
+      let marks : m ≡ n = p.marks_are ∙ (λ i. first.0.0 i ++ second.0 i) ∙ sym q.marks_are in
+      let one : view v ≡ view v2 = p.got.value_is ∙ ap (λ (z : List Mark). value_of site channel (laid_by site.opening z)) second.0 ∙ sym q.got.value_is in
+      ((marks, second.1), sym (ap (reply_in t) s) ∙ ap gives one ∙ ap (reply_in u) s2)
+  same_in_turn a b (Ok (d, v)) (Err answer) m n k l t u p q s s2 e =
+      absurd (not_one a b d answer p.puts p.gets n k l u p.put q s2 (ap (λ (z : List Mark). z ++ k) (sym p.marks_are) ∙ e))
+  same_in_turn a b (Err answer) (Ok (d, v)) m n k l t u p q s s2 e =
+      absurd (not_one b a d answer q.puts q.gets m l k t q.put p s (ap (λ (z : List Mark). z ++ l) (sym q.marks_are) ∙ sym e))
+  same_in_turn a b (Err answer) (Err answer2) m n k l t u p q s s2 e =
+      let why = problem answer t s in
+      let why2 = problem answer2 u s2 in
+      let same =
+      same_outcome (at_moment a) (at_moment b) m n k l why.status why2.status refl refl
+      (outcome (at_moment a) (Err answer) m why.status (put_alone a answer m why.status why.status_is p) why.status_is)
+      (outcome (at_moment b) (Err answer2) n why2.status (put_alone b answer2 n why2.status why2.status_is q) why2.status_is) e in
+      (same.0, why.told_is ∙ ap (answered kinds.PutGet req sub) same.1 ∙ sym why2.told_is)
+
+  by_wholeness : (whole : Bool) (a b : Moment) (r r2 : Result (Done × PvValue) PutAnswer) (m n k l : List Mark) (t u : Reply) → ArePutGetBy whole (at_moment a) r m → ArePutGetBy whole (at_moment b) r2 n
+      → put_get_reply site req sub ask channel r ≡ Some t → put_get_reply site req sub ask channel r2 ≡ Some u → m ++ k ≡ n ++ l → ((m ≡ n) × (k ≡ l)) × (t ≡ u)
+  by_wholeness true a b r r2 m n k l t u p q s s2 e = same_alone m n k l t u (alone a r m t p s) (alone b r2 n u q s2) e
+  by_wholeness false a b r r2 m n k l t u p q s s2 e = same_in_turn a b r r2 m n k l t u p q s s2 e
+
+  same_put_get : (m n k l : List Mark) (x y : List Sent) → PutGetRow site req sub ask channel mask value m x → PutGetRow site req sub ask channel mask value n y → m ++ k ≡ n ++ l → Same m n k l x y
+  same_put_get m n k l x y p q e =
+      let same = by_wholeness (is_atomic site channel ask.atomic) p.moment q.moment p.answer q.answer m n k l p.told q.told p.is_put_get q.is_put_get p.told_is q.told_is e in
+      record {
+        marks = same.0.0;
+        later = same.0.1;
+        sent = p.sent_is ∙ ap (λ (r : Reply). said r ∷ []) same.1 ∙ sym q.sent_is;
+      }
+
+same_snapshot : (site : SiteData) (req sub : ℕ) (m n k l : List Mark) (x y : List Sent) → SnapshotRow site req sub m x → SnapshotRow site req sub n y → m ++ k ≡ n ++ l → Same m n k l x y
+same_snapshot site req sub m n k l x y p q e =
+    let both = split m n k l (ap length p.is_snapshot.marks_are ∙ sym (ap length q.is_snapshot.marks_are)) e in
+    let one = sym p.is_snapshot.marks_are ∙ both.0 ∙ q.is_snapshot.marks_are in
+    let found : p.is_snapshot.found ≡ q.is_snapshot.found = ap (λ (z : List Mark). found_in (head_or (Overweight 0 [] [] 0 0 0) z)) one in
+    let rows : p.rows ≡ q.rows = p.is_snapshot.rows_are ∙ ap (rows_shown site.names) found ∙ sym q.is_snapshot.rows_are in
+    record {
+      marks = both.0;
+      later = both.1;
+      sent = p.sent_is ∙ ap (λ (z : List RecRow). said (called req sub snapshot_tree (rows_data z)) ∷ []) rows ∙ sym q.sent_is;
+    }
+
 same_row : (site : SiteData) (s : State) (task : Task) (m n k l : List Mark) (x y : List Sent) → Row site s task m x → Row site s task n y → m ++ k ≡ n ++ l → Same m n k l x y
 same_row site s pass_over m n k l x y p q e = same_says _ m n k l x y p q e
 same_row site s (echo_control number) m n k l x y p q e = same_says _ m n k l x y p q e
 same_row site s (refuse r) m n k l x y p q e = same_says _ m n k l x y p q e
+same_row site s (tell r) m n k l x y p q e = same_says _ m n k l x y p q e
+same_row site s (respond req sub r) m n k l x y p q e = same_says _ m n k l x y p q e
+same_row site s (put_get req sub ask channel mask value) m n k l x y p q e = same_put_get site req sub ask channel mask value m n k l x y p q e
+same_row site s (snapshot req sub) m n k l x y p q e = same_snapshot site req sub m n k l x y p q e
 same_row site s (validate buffer registry user host) m n k l x y p q e = same_says _ m n k l x y p q e
 same_row site s (echo payload) m n k l x y p q e = same_says _ m n k l x y p q e
 same_row site s (create names) m n k l x y p q e = same_says _ m n k l x y p q e

@@ -7,13 +7,15 @@ use Rattle.std.proofs.lemmas.Bool.Decides.{nat_tests}
 use Rattle.std.proofs.lemmas.Option.{none-some}
 use Rattle.pvd_type.specs.Tree.{Tree}
 use Rattle.chan_table.specs.declared.ask.AskKind.{AskKind}
-use Rattle.desk_api.specs.Sites.{is_channel}
+use Rattle.chan_table.specs.declared.ask.AskKind.TheVariants as kinds
+use Rattle.desk_api.specs.Sites.{is_channel, has_values}
 use Rattle.desk_api.specs.Types.{type_of, HoldsLeaves}
 use Rattle.desk_api.specs.declared.channel.Channel.{Channel}
 use Rattle.desk_api.specs.declared.history.SiteData.{SiteData}
 use Rattle.srv_session.specs.State.{State, Asked, channel_at, on_channel, request_on}
+use Rattle.srv_session.specs.Replies.{is_call}
 use Rattle.srv_session.specs.Tasks.{is_kind, in_phase, found_for}
-use Rattle.srv_session.specs.Calls.{Selects, IsAskOf, IsOf}
+use Rattle.srv_session.specs.Calls.{Selects, IsOf}
 use Rattle.srv_session.specs.Views.{IsFound, IsThere, HasSelected}
 use Rattle.srv_session.specs.declared.requests.Found.{Found}
 use denote.Ref.{Bor}
@@ -80,21 +82,24 @@ module _ (site : SiteData) (s : State) (ok : IsOf site s) (sid req : ℕ) (ask :
   pub real_there : IsTrue (is_channel site channel)
   real_there = ok.channels sid channel (is_on_it s sid req ask channel is).open_
 
-  pub selects_there : Selects site channel ask
-  selects_there =
+  pub selects_there : is_call ask.kind ≡ false → Selects site channel ask
+  selects_there call =
       let on = is_on_it s sid req ask channel is in
       let p = ok.requests req ask on.there in
       let one : p.channel ≡ channel = same_some (sym p.open_ ∙ ap (channel_at s.channels) on.same ∙ on.open_) in
-      subst (λ (c : Channel). Selects site c ask) one p.selects
+      subst (λ (c : Channel). Selects site c ask) one (p.selects call)
     where
       same_some : {x y : Channel} → Some x ≡ Some y → x ≡ y
       same_some e = cc
 
-  pub selected_there : (ty : Tree) → ty ≡ type_of site channel → HasSelected s req ty
-  selected_there ty ty_is = record {
+  pub valued_there : is_call ask.kind ≡ false → IsTrue (has_values channel)
+  valued_there call = (selects_there call).valued
+
+  pub selected_there : is_call ask.kind ≡ false → (ty : Tree) → ty ≡ type_of site channel → HasSelected s req ty
+  selected_there call ty ty_is = record {
     ask = ask;
     here = (is_on_it s sid req ask channel is).there;
-    leaves = subst (λ (t : Tree). HoldsLeaves t ask.mask) (sym ty_is) selects_there.leaves;
+    leaves = subst (λ (t : Tree). HoldsLeaves t ask.mask) (sym ty_is) (selects_there call).leaves;
   }
 
 -- What was found is there.
@@ -103,6 +108,7 @@ pub record IsHere (s : State) (kind : AskKind) (sid req : ℕ) (found : Found) :
   pub here : request_on s sid req ≡ Some (ask, found.channel)
   pub atomic : found.atomic ≡ ask.atomic
   pub phase : found_for s kind sid req ≡ Ok (ask, found.channel)
+  pub kind_is : is_kind kind ask.kind ≡ true
 
 pub is_here : (s : State) (kind : AskKind) (sid req : ℕ) (found : Found) → IsFound (Ok found) (found_for s kind sid req) → IsHere s kind sid req found
 is_here s kind sid req found is = by_place (request_on s sid req) refl is
@@ -119,12 +125,25 @@ is_here s kind sid req found is = by_place (request_on s sid req) refl is
               here = at_ ∙ ap Some same;
               atomic = g.1;
               phase = ap (in_phase kind) at_ ∙ ap (λ (b : Bool). cond b (Ok x) (Err (codes "wrong phase"))) k ∙ ap Ok same;
+              kind_is = k;
             }
         by_kind false k g = absurd g
 
-pub there : (s : State) (kind : AskKind) (sid req : ℕ) (found : Found) → IsFound (Ok found) (found_for s kind sid req) → IsThere s sid req found
-there s kind sid req found is =
-    let h = is_here s kind sid req found is in record { ask = h.ask; here = h.here; atomic = h.atomic }
+-- no request of another kind is a call
+no_call : (a b : AskKind) → is_kind a b ≡ true → is_call a ≡ false → is_call b ≡ false
+no_call a kinds.Get same call = refl
+no_call a kinds.Put same call = refl
+no_call a kinds.PutGet same call = refl
+no_call a kinds.Monitor same call = refl
+no_call kinds.Get kinds.Rpc same call = absurd (false≢true same)
+no_call kinds.Put kinds.Rpc same call = absurd (false≢true same)
+no_call kinds.PutGet kinds.Rpc same call = absurd (false≢true same)
+no_call kinds.Rpc kinds.Rpc same call = call
+no_call kinds.Monitor kinds.Rpc same call = absurd (false≢true same)
+
+pub there : (s : State) (kind : AskKind) (sid req : ℕ) (found : Found) → is_call kind ≡ false → IsFound (Ok found) (found_for s kind sid req) → IsThere s sid req found
+there s kind sid req found call is =
+    let h = is_here s kind sid req found is in record { ask = h.ask; here = h.here; atomic = h.atomic; selects = no_call kind h.ask.kind h.kind_is call }
 
 pub not_here : (s : State) (kind : AskKind) (sid req : ℕ) (text : Bor (List ℕ)) → IsFound (Err text) (found_for s kind sid req) → found_for s kind sid req ≡ Err text.now
 not_here s kind sid req text is = by_result (found_for s kind sid req) is

@@ -1,15 +1,10 @@
 -- From the row of a task to the event in which it was heard.
-use Rattle.std.proofs.Common.{◌≡◌, ◌==◌, ℕ, ◌-◌, Bool, true, false, cond, List, [], length, drop, None, Result, Ok, Err, refl, sym, ◌∙◌, ap, subst}
+use Rattle.std.proofs.Common.{◌≡◌, ◌==◌, ℕ, ◌-◌, Bool, true, false, cond, List, [], length, None, Result, Ok, Err, refl, sym, ◌∙◌, ap, subst}
 use Rattle.std.proofs.Math.Bool.{or-true}
-use Rattle.std.specs.Prelude.{OnOk, IsErr, IsErrAnd}
-use Rattle.std.specs.FinSet.{FinSet}
-use Rattle.std.specs.Ordering.{nat_cmp}
-use Rattle.std.proofs.lemmas.Bool.{false≢true}
-use Rattle.pvd_type.specs.Tree.{Tree}
-use Rattle.pvd_value.specs.Data.{Data}
+use Rattle.std.specs.Prelude.{OnOk, IsErrAnd}
 use Rattle.pva_wire.specs.declared.order.Order.{Order}
 use Rattle.pva_frames.specs.declared.event.Event.{Event}
-use Rattle.pva_frames.specs.declared.event.Event.TheVariants.{Message, Control}
+use Rattle.pva_frames.specs.declared.event.Event.TheVariants.{Control}
 use Rattle.pva_frames.specs.declared.event.Whole.{Whole}
 use Rattle.pvd_desc.specs.Types.{Types}
 use Rattle.pvd_type.specs.declared.memory.NoMemory.{NoMemory}

@@ -11,3 +11,4 @@ pub mod Beginning
 pub mod Places
 pub mod Parts
 pub mod Validating
+pub mod Typed

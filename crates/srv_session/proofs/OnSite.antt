@@ -1,5 +1,5 @@
 -- A session stays one of its site.
-use Rattle.std.proofs.Common.{◌≡◌, ◌≢◌, ◌==◌, ℕ, Bool, true, false, cond, List, [], ◌∷◌, Option, None, Some, Result, Ok, Err, inl, inr, refl, sym, ◌∙◌, ap, subst, arith}
+use Rattle.std.proofs.Common.{◌≡◌, ◌≢◌, ◌==◌, ℕ, Bool, true, false, ◌||◌, cond, List, [], ◌∷◌, Option, None, Some, Result, Ok, Err, inl, inr, refl, sym, ◌∙◌, ap, subst, arith}
 use Rattle.std.specs.Prelude.{◌⊎◌, IsTrue, option_map, bytes_eq, codes}
 use Rattle.std.specs.FinMap.{get as at, insert, remove, contains_key, get-empty}
 use Rattle.std.specs.FinSet.{FinSet}
@@ -7,9 +7,10 @@ use Rattle.std.specs.Ordering.{nat_cmp}
 use Rattle.std.proofs.lemmas.Bool.{false≢true}
 use Rattle.std.proofs.lemmas.Bool.Decides.{nat_tests}
 use Rattle.std.proofs.lemmas.Option.{none-some}
+use Rattle.pvd_type.specs.Tree.{Tree}
 use Rattle.pvd_value.specs.Data.{Data}
 use Rattle.pvd_desc.specs.Types.{Types}
-use Rattle.pvd_codec.specs.Reading.{Read, State as Source, part_at}
+use Rattle.pvd_codec.specs.Reading.{Read, State as Source}
 use Rattle.pva_wire.specs.declared.order.Order.{Order}
 use Rattle.pva_frames.specs.declared.event.Whole.{Whole}
 use Rattle.pva_frames.specs.declared.event.Event.{Event}
@@ -18,23 +19,28 @@ use Rattle.pva_messages.specs.Fields.{Valued}
 use Rattle.pva_messages.specs.Reading.{request_at}
 use Rattle.pva_messages.specs.Requests as said
 use Rattle.pva_messages.specs.Requests.{Request}
-use Rattle.pva_messages.specs.Subcommands.{begins, asks_back, ends}
+use Rattle.pva_messages.specs.Subcommands.{begins, asks_back, counts, ends}
 use Rattle.pvd_request.specs.Requests.{request_of}
 use Rattle.pvd_request.specs.declared.request.Request.{Request as Wanted}
 use Rattle.pvd_request.specs.declared.request.RequestFault.{RequestFault}
-use Rattle.pvd_request.specs.declared.request.Root.TheVariants as roots
+use Rattle.pvd_request.specs.declared.request.Root.{Root}
 use Rattle.pvd_request.proofs.Sound.{request_sound}
 use Rattle.chan_table.specs.declared.ask.AskKind.{AskKind}
 use Rattle.chan_table.specs.declared.ask.AskKind.TheVariants as kinds
 use Rattle.desk_api.proofs.Naming.{found_is_channel}
-use Rattle.desk_api.specs.Sites.{channel_named, is_channel}
+use Rattle.desk_api.specs.Sites.{channel_named, is_channel, has_values}
 use Rattle.desk_api.specs.Types.{type_of}
 use Rattle.desk_api.specs.declared.channel.Channel.{Channel}
 use Rattle.desk_api.specs.declared.history.SiteData.{SiteData}
 use Rattle.desk_api.specs.declared.mark.Mark.{Mark}
 use Rattle.srv_session.specs.State.{State, Channels, Requests, Asked, channel_at, is_full, is_on, is_open, least_free, without_channel, opening}
-use Rattle.srv_session.specs.Tasks.{Task, pass_over, echo_control, refuse, validate, echo, create, destroy_channel, begin, get, put, destroy_request, Hearing, asks, not_built, unreadable}
-use Rattle.srv_session.specs.Tasks.{heard, heard_control, validated_by, beginning, beginning_as, found_for, in_phase, getting, asked_get, heard_part, heard_putting, heard_put, asked_end, asked_request_end, heard_message, heard_read, heard_whole, is_heard}
+use Rattle.srv_session.specs.Tasks.{Task, pass_over, echo_control, refuse, tell, validate, echo, create, destroy_channel, begin, get, put, put_get, respond, snapshot, destroy_request, Hearing, asks, not_built, unreadable}
+use Rattle.srv_session.specs.Tasks.{nothing_wanted, root_for, wanted_for, unfit_for, unfit, beginning_on, heard_getting, told_field, asked_field, operation_in, called_for, calling}
+use Rattle.srv_session.specs.Tasks.{heard, validated_by, beginning, beginning_as, found_for, getting, heard_part, heard_putting, heard_message, heard_read, is_heard}
+use Rattle.rpc_services.specs.declared.asking.RpcOp.{RpcOp}
+use Rattle.rpc_services.specs.declared.asking.RpcOp.TheVariants as operations
+use Rattle.rpc_services.specs.declared.asking.RpcRefusal.{RpcRefusal}
+use Rattle.srv_session.specs.Replies.{is_call}
 use Rattle.srv_session.specs.Rows.{opened, all_opened, ask_of, behind, after_task}
 use Rattle.srv_session.specs.Steps.{knowing, after_hearing, after_event}
 use Rattle.srv_session.specs.Calls.{Selects, IsAskOf, IsOf}
@@ -135,19 +141,25 @@ none_left site channels requests sid ok req ask is =
     let apart : ask.sid ≢ sid = λ same. let other : (ask.sid == sid) ≡ true = grind (arith, nat_tests) in false≢true (sym kept.1 ∙ other) in
     record { channel = p.channel; open_ = left_beside channels sid ask.sid apart ∙ p.open_; selects = p.selects }
 
--- What a task needs for that: a request begins for leaves of its channel, which is open.
-pub record IsBeginning (site : SiteData) (s : State) (sid : ℕ) (channel : Channel) (wanted : Wanted) : Type 0 where
+-- What a task needs for that: a request begins on an open channel, and for leaves of it where it is no call.
+pub record IsBeginning (site : SiteData) (s : State) (kind : AskKind) (sid : ℕ) (channel : Channel) (wanted : Wanted) : Type 0 where
   pub open_ : channel_at s.channels sid ≡ Some channel
-  pub asked : (v : Valued) × (request_of (type_of site channel) roots.Field v ≡ Ok wanted)
+  pub asked : is_call kind ≡ false → IsTrue (has_values channel) × ((which : Root) × ((v : Valued) × (request_of (type_of site channel) which v ≡ Ok wanted)))
 
 abbrev pub IsTaskOf : SiteData → State → Task → Type 0
-IsTaskOf site s (begin kind req sub sid channel wanted) = IsBeginning site s sid channel wanted
+IsTaskOf site s (begin kind req sub sid channel wanted) = IsBeginning site s kind sid channel wanted
 IsTaskOf site s task = Unit {0}
+
+selects_some : (site : SiteData) (kind : AskKind) (sid : ℕ) (channel : Channel) (wanted : Wanted)
+    → IsTrue (has_values channel) × ((which : Root) × ((v : Valued) × (request_of (type_of site channel) which v ≡ Ok wanted))) → Selects site channel (ask_of kind sid wanted)
+selects_some site kind sid channel wanted (valued, (which, (v, is))) =
+    let sound = request_sound (type_of site channel) which v wanted is in record { valued = valued; leaves = sound.holds; some = sound.some }
 
 pub task_on_site : (site : SiteData) (s : State) (task : Task) (marks : List Mark) → IsTaskOf site s task → IsOf site s → IsOf site (after_task site s task marks)
 task_on_site site s pass_over marks p ok = ok
 task_on_site site s (echo_control number) marks p ok = ok
 task_on_site site s (refuse r) marks p ok = ok
+task_on_site site s (tell r) marks p ok = ok
 task_on_site site s (validate buffer registry user host) marks p ok = record { channels = ok.channels; requests = ok.requests }
 task_on_site site s (echo payload) marks p ok = ok
 task_on_site site s (create names) marks p ok = record {
@@ -159,15 +171,17 @@ task_on_site site s (destroy_channel sid cid) marks p ok = record {
   requests = none_left site s.channels s.requests sid ok.requests;
 }
 task_on_site site s (begin kind req sub sid channel wanted) marks p ok =
-    let sound = request_sound (type_of site channel) roots.Field p.asked.0 wanted p.asked.1 in
     record {
       channels = ok.channels;
       requests =
           more_on site s.channels s.requests req (ask_of kind sid wanted)
-          (record { channel = channel; open_ = p.open_; selects = record { leaves = sound.holds; some = sound.some } }) ok.requests;
+          (record { channel = channel; open_ = p.open_; selects = λ call. selects_some site kind sid channel wanted (p.asked call) }) ok.requests;
     }
 task_on_site site s (get kind req sub ask channel) marks p ok = record { channels = ok.channels; requests = behind_on site s.channels s.requests req sub ok.requests }
 task_on_site site s (put req sub ask channel mask value) marks p ok = record { channels = ok.channels; requests = behind_on site s.channels s.requests req sub ok.requests }
+task_on_site site s (put_get req sub ask channel mask value) marks p ok = record { channels = ok.channels; requests = behind_on site s.channels s.requests req sub ok.requests }
+task_on_site site s (respond req sub r) marks p ok = record { channels = ok.channels; requests = behind_on site s.channels s.requests req sub ok.requests }
+task_on_site site s (snapshot req sub) marks p ok = record { channels = ok.channels; requests = behind_on site s.channels s.requests req sub ok.requests }
 task_on_site site s (destroy_request req) marks p ok = record { channels = ok.channels; requests = fewer_on site s.channels s.requests req ok.requests }
 
 -- Each task that is heard is so.
@@ -179,9 +193,23 @@ IsHeardOf site s (unreadable fault) = Unit {0}
 
 module _ (site : SiteData) (s : State) where
   as_begun : (kind : AskKind) (req sub sid : ℕ) (channel : Channel) (v : Valued) (r : Result Wanted RequestFault) → channel_at s.channels sid ≡ Some channel
-      → request_of (type_of site channel) roots.Field v ≡ r → IsTaskOf site s (beginning_as kind req sub sid channel r)
-  as_begun kind req sub sid channel v (Ok wanted) here is = record { open_ = here; asked = (v, is) }
-  as_begun kind req sub sid channel v (Err fault) here is = tt
+      → (is_call kind ≡ false → IsTrue (has_values channel)) → wanted_for kind (type_of site channel) v ≡ r → IsTaskOf site s (beginning_as kind req sub sid channel r)
+  as_begun kind req sub sid channel v (Ok wanted) here valued is = record {
+    open_ = here;
+    asked = λ call. (valued call, (root_for kind, (v, sym (ap (λ (b : Bool). cond b (Ok nothing_wanted) (request_of (type_of site channel) (root_for kind) v)) call) ∙ is)));
+  }
+  as_begun kind req sub sid channel v (Err fault) here valued is = tt
+
+  -- a request for values begins on a channel that has some
+  fit_valued : (call valued : Bool) → unfit_for call valued ≡ None → call ≡ false → IsTrue valued
+  fit_valued true valued fit is = absurd (false≢true (sym is))
+  fit_valued false true fit is = refl
+  fit_valued false false fit is = absurd (none-some _ (sym fit))
+
+  begins_on : (kind : AskKind) (req sub sid : ℕ) (v : Valued) (channel : Channel) (o : Option (List ℕ)) → channel_at s.channels sid ≡ Some channel → unfit kind channel ≡ o
+      → IsTaskOf site s (beginning_on site kind req sub sid v channel o)
+  begins_on kind req sub sid v channel (Some why) is fit = tt
+  begins_on kind req sub sid v channel None is fit = as_begun kind req sub sid channel v (wanted_for kind (type_of site channel) v) is (fit_valued (is_call kind) (has_values channel) fit) refl
 
   either : (b : Bool) (x y : Task) → IsTaskOf site s x → IsTaskOf site s y → IsTaskOf site s (cond b x y)
   either true x y p q = p
@@ -190,7 +218,7 @@ module _ (site : SiteData) (s : State) where
   begins_so : (kind : AskKind) (req sub sid : ℕ) (v : Valued) (o : Option Channel) → channel_at s.channels sid ≡ o → IsTaskOf site s (beginning site s kind req sub sid v o)
   begins_so kind req sub sid v None is = tt
   begins_so kind req sub sid v (Some channel) is =
-      either (contains_key s.requests req) _ _ tt (either (is_full s.requests) _ _ tt (as_begun kind req sub sid channel v (request_of (type_of site channel) roots.Field v) is refl))
+      either (contains_key s.requests req) _ _ tt (either (is_full s.requests) _ _ tt (begins_on kind req sub sid v channel (unfit kind channel) is refl))
 
   gets_so : (kind : AskKind) (req sub : ℕ) (r : Result (Asked × Channel) (List ℕ)) → IsTaskOf site s (getting kind req sub r)
   gets_so kind req sub (Ok found) = tt
@@ -199,17 +227,40 @@ module _ (site : SiteData) (s : State) where
   validates_so : (buffer registry : ℕ) (method : List ℕ) (argument : Valued) → IsTaskOf site s (validated_by buffer registry method argument)
   validates_so buffer registry method argument = either (bytes_eq method (codes "anonymous")) _ _ tt (either (bytes_eq method (codes "ca")) _ _ tt tt)
 
-  part_so : (whole : Whole) (req sub : ℕ) (found : Asked × Channel) (read : Read Source (FinSet nat_cmp × Data)) → IsHeardOf site s (heard_part whole req sub found read)
-  part_so whole req sub found (Ok x) = tt
-  part_so whole req sub found (Err fault) = tt
+  part_so : (gets : Bool) (whole : Whole) (req sub : ℕ) (found : Asked × Channel) (read : Read Source (FinSet nat_cmp × Data)) → IsHeardOf site s (heard_part gets whole req sub found read)
+  part_so true whole req sub found (Ok x) = tt
+  part_so false whole req sub found (Ok x) = tt
+  part_so gets whole req sub found (Err fault) = tt
 
   puts_so : (whole : Whole) (types : Types) (req sub : ℕ) (r : Result (Asked × Channel) (List ℕ)) → IsHeardOf site s (heard_putting site whole types req sub r)
-  puts_so whole types req sub (Ok found) = part_so whole req sub found _
+  puts_so whole types req sub (Ok found) = part_so false whole req sub found _
   puts_so whole types req sub (Err why) = tt
 
   either_heard : (b : Bool) (x y : Hearing) → IsHeardOf site s x → IsHeardOf site s y → IsHeardOf site s (cond b x y)
   either_heard true x y p q = p
   either_heard false x y p q = q
+
+  put_gets_so : (whole : Whole) (types : Types) (req sub : ℕ) (r : Result (Asked × Channel) (List ℕ)) → IsHeardOf site s (heard_getting site whole types req sub r)
+  put_gets_so whole types req sub (Ok found) = either_heard (asks_back sub || counts sub) _ _ tt (part_so true whole req sub found _)
+  put_gets_so whole types req sub (Err why) = tt
+
+  field_so : (req : ℕ) (o : Option Tree) → IsTaskOf site s (told_field req o)
+  field_so req None = tt
+  field_so req (Some ty) = tt
+
+  fields_so : (req : ℕ) (path : List ℕ) (o : Option Channel) → IsTaskOf site s (asked_field site req path o)
+  fields_so req path None = tt
+  fields_so req path (Some channel) = either (has_values channel) _ _ (field_so req _) tt
+
+  operation_so : (req sub : ℕ) (r : Result RpcOp RpcRefusal) → IsTaskOf site s (called_for site req sub r)
+  operation_so req sub (Ok operations.Channels) = tt
+  operation_so req sub (Ok operations.Info) = tt
+  operation_so req sub (Ok operations.Snapshot) = tt
+  operation_so req sub (Err refusal) = tt
+
+  calls_so : (req sub : ℕ) (v : Valued) (r : Result (Asked × Channel) (List ℕ)) → IsTaskOf site s (calling site req sub v r)
+  calls_so req sub v (Ok found) = operation_so req sub (operation_in v)
+  calls_so req sub v (Err why) = tt
 
   message_so : (whole : Whole) (types : Types) (request : Request) → IsHeardOf site s (heard_message site s whole types request)
   message_so whole types (said.validation buffer registry qos method argument) = validates_so buffer registry method argument
@@ -225,10 +276,12 @@ module _ (site : SiteData) (s : State) where
   message_so whole types (said.cancel sid req) = tt
   message_so whole types (said.message req kind words) = tt
   message_so whole types (said.skipped command) = tt
-  message_so whole types (said.put_get sid req sub v part) = tt
+  message_so whole types (said.put_get sid req sub v part) =
+      either_heard (begins sub) _ _ (begins_so kinds.PutGet req sub sid v (channel_at s.channels sid) refl) (put_gets_so whole types req sub (found_for s kinds.PutGet sid req))
   message_so whole types (said.monitor sid req sub v count) = tt
-  message_so whole types (said.get_field sid req path) = tt
-  message_so whole types (said.rpc sid req sub v) = tt
+  message_so whole types (said.get_field sid req path) = fields_so req path (channel_at s.channels sid)
+  message_so whole types (said.rpc sid req sub v) =
+      either (begins sub) _ _ (begins_so kinds.Rpc req sub sid v (channel_at s.channels sid) refl) (calls_so req sub v (found_for s kinds.Rpc sid req))
 
   read_so : (whole : Whole) (read : Read Source Request) → IsHeardOf site s (heard_read site s whole read)
   read_so whole (Ok x) = message_so whole x.1.1 x.0
@@ -246,6 +299,10 @@ knows : (site : SiteData) (s : State) (types : Types) (task : Task) → IsTaskOf
 knows site s types pass_over p = p
 knows site s types (echo_control number) p = p
 knows site s types (refuse r) p = p
+knows site s types (tell r) p = p
+knows site s types (put_get req sub ask channel mask value) p = p
+knows site s types (respond req sub r) p = p
+knows site s types (snapshot req sub) p = p
 knows site s types (validate buffer registry user host) p = p
 knows site s types (echo payload) p = p
 knows site s types (create names) p = p

@@ -1,21 +1,20 @@
 -- Channels that are opened and ended.
-use Rattle.std.proofs.Common.{◌≡◌, ◌==◌, ℕ, ◌<◌, Bool, true, false, cond, List, [], ◌∷◌, ◌++◌, drop, length, ◌+◌, Option, None, Some, Result, Ok, Err, refl, sym, ◌∙◌, ap, subst, arith, append_assoc}
-use Rattle.std.specs.Prelude.{OnSome, is_some, get_or, nat_le, codes}
-use Rattle.std.specs.FinMap.{get, insert, remove, len}
+use Rattle.std.proofs.Common.{◌≡◌, ◌==◌, ℕ, ◌<◌, Bool, true, false, cond, List, ◌∷◌, ◌++◌, drop, length, ◌+◌, Option, None, Some, refl, sym, ◌∙◌, ap, arith, append_assoc}
+use Rattle.std.specs.Prelude.{OnSome, is_some, get_or, codes}
+use Rattle.std.specs.FinMap.{get, insert, len}
 use Rattle.std.proofs.lemmas.Bool.{false≢true}
 use Rattle.std.proofs.lemmas.List.{at_drop_more}
 use Rattle.std.proofs.lemmas.Bool.Decides.{nat_tests}
-use Rattle.std.proofs.lemmas.Option.{none-some}
 use Rattle.pva_messages.specs.Replies as reply
 use Rattle.chan_table.specs.Numbers.{IsLeastAbsent}
-use Rattle.chan_table.specs.Tables.{Tables, limit, of_cid, channel_of, with_channel, without_channel as less_channel}
+use Rattle.chan_table.specs.Tables.{Tables, limit, of_cid, channel_of, without_channel as less_channel}
 use Rattle.desk_api.specs.declared.channel.Channel.{Channel}
-use Rattle.srv_session.specs.State.{State, Channels, Requests, is_full, is_open, has_cid, least_free, without_channel}
+use Rattle.srv_session.specs.State.{State, Channels, is_full, is_open, has_cid, least_free}
 use Rattle.desk_api.specs.Sites.{channel_named}
 use Rattle.desk_api.specs.declared.history.SiteData.{SiteData}
 use Rattle.srv_session.specs.Replies.{Sent, said, spelled, spelled_all, outcome}
 use Rattle.srv_session.specs.Rows.{created, opened, all_created, all_opened}
-use Rattle.srv_session.specs.Tasks.{Task, destroy_channel, pass_over, asked_end}
+use Rattle.srv_session.specs.Tasks.{destroy_channel, pass_over, asked_end}
 use Rattle.srv_session.specs.Views.{Keeps}
 use Rattle.srv_session.specs.declared.session.Session.{Session}
 use Rattle.srv_session.proofs.Tables.{is_least, one_least}

@@ -1,5 +1,5 @@
 -- The part of a put, which is read where nothing else decides.
-use Rattle.std.proofs.Common.{◌≡◌, ℕ, List, drop, length, Result, Ok, Err, refl, sym, ◌∙◌, ap, subst}
+use Rattle.std.proofs.Common.{◌≡◌, ℕ, Bool, List, drop, length, Result, Ok, refl, sym, ◌∙◌, ap, subst}
 use Rattle.std.specs.FinSet.{FinSet}
 use Rattle.std.specs.Ordering.{nat_cmp}
 use Rattle.pvd_type.specs.Tree.{Tree}
@@ -19,7 +19,7 @@ use Rattle.desk_api.specs.declared.channel.Channel.{Channel}
 use Rattle.desk_api.specs.declared.history.SiteData.{SiteData}
 use Rattle.desk_api.specs.declared.mark.Seat.{Seat}
 use Rattle.srv_session.specs.State.{State, Asked}
-use Rattle.srv_session.specs.Tasks.{Task, Hearing, asks, put, heard_part, heard_putting}
+use Rattle.srv_session.specs.Tasks.{Task, Hearing, asks, putting_as, heard_part, reading_part}
 use Rattle.srv_session.specs.Steps.{knowing}
 use Rattle.srv_session.specs.Calls.{Shown, Takes, Heeds}
 use Rattle.srv_session.specs.Views.{stop_by, stopping}
@@ -27,22 +27,22 @@ use Rattle.srv_session.specs.declared.stop.SessionStop.{SessionStop}
 use Rattle.srv_session.proofs.Rows.{shown}
 use Rattle.srv_session.proofs.Heeding.{StopsAt, stops_at_fault, heeds_as, known_heeds}
 
-module _ (site : SiteData) (whole : Whole) (before : Types) (req sub : ℕ) (found : Asked × Channel) (ty : Tree) (ty_is : ty ≡ type_of site found.1) where
+module _ (gets : Bool) (site : SiteData) (whole : Whole) (before : Types) (req sub : ℕ) (found : Asked × Channel) (ty : Tree) (ty_is : ty ≡ type_of site found.1) where
   abbrev read : Read Source (FinSet nat_cmp × Data)
   read = part_at whole.order ty (drop part_place whole.payload, before)
 
-  reads : heard_putting site whole before req sub (Ok found) ≡ heard_part whole req sub found read
-  reads = ap (λ (t : Tree). heard_part whole req sub found (part_at whole.order t (drop part_place whole.payload, before))) (sym ty_is)
+  reads : reading_part gets site whole before req sub found ≡ heard_part gets whole req sub found read
+  reads = ap (λ (t : Tree). heard_part gets whole req sub found (part_at whole.order t (drop part_place whole.payload, before))) (sym ty_is)
 
   pub part_read : (mask : FinSet nat_cmp) (value : Data) (rest : List ℕ) (after : Types) → read ≡ Ok ((mask, value), (rest, after))
-      → heard_putting site whole before req sub (Ok found) ≡ asks (put req sub found.0 found.1 mask value) after
-  part_read mask value rest after read_is = reads ∙ ap (heard_part whole req sub found) read_is
+      → reading_part gets site whole before req sub found ≡ asks (putting_as gets req sub found.0 found.1 mask value) after
+  part_read mask value rest after read_is = reads ∙ ap (heard_part gets whole req sub found) read_is
 
   pub part_stops : (fault : MessageFault) → fault.command ≡ whole.command → IsFaultOf (length whole.payload) fault.cause read
-      → StopsAt (stop_by fault) (heard_putting site whole before req sub (Ok found))
+      → StopsAt (stop_by fault) (reading_part gets site whole before req sub found)
   part_stops fault is f =
       subst (λ (h : Hearing). StopsAt (stop_by fault) h) (sym reads)
-      (stops_at_fault whole (heard_part whole req sub found) (λ x. refl) fault read is f)
+      (stops_at_fault whole (heard_part gets whole req sub found) (λ x. refl) fault read is f)
 
 -- the part marks leaves of the type alone
 pub holds_leaves : (ty channel_ty : Tree) (mask : FinSet nat_cmp) (bits : FinSet nat_cmp) → ty ≡ channel_ty → mask ≡ marked_leaves ty bits → HoldsLeaves channel_ty mask

@@ -39,7 +39,7 @@ fields_long o command.CreateChannel (channels cs ∷ fields) before front after 
 fields_long o command.DestroyChannel (word sid ∷ word cid ∷ fields) before front after follow h = tt
 fields_long o command.Get (word sid ∷ word req ∷ byte sub ∷ fields) before front after follow h = tt
 fields_long o command.Put (word sid ∷ word req ∷ byte sub ∷ fields) before front after follow h = head_long o sid req sub fields before front after follow h
-fields_long o command.PutGet (word sid ∷ word req ∷ byte sub ∷ fields) before front after follow h = tt
+fields_long o command.PutGet (word sid ∷ word req ∷ byte sub ∷ fields) before front after follow h = head_long o sid req sub fields before front after follow h
 fields_long o command.Monitor (word sid ∷ word req ∷ byte sub ∷ fields) before front after follow h = tt
 fields_long o command.DestroyRequest (word sid ∷ word req ∷ fields) before front after follow h = tt
 fields_long o command.Cancel (word sid ∷ word req ∷ fields) before front after follow h = tt

@@ -1,5 +1,5 @@
 -- What is written behind the output, and what the rows' functions did.
-use Rattle.std.proofs.Common.{◌≡◌, ℕ, ◌≤◌, drop, length, Bool, true, false, not, ◌&&◌, List, [], ◌∷◌, ◌++◌, Option, None, Some, Result, Ok, Err, refl, sym, ◌∙◌, ap, subst, append_assoc}
+use Rattle.std.proofs.Common.{◌≡◌, ℕ, ◌≤◌, drop, length, Bool, true, false, not, ◌&&◌, List, [], ◌∷◌, ◌++◌, Option, None, Some, Result, Ok, Err, refl, sym, ◌∙◌, ap, append_assoc}
 use Rattle.std.specs.Prelude.{OnOk, OnErr, IsErr, IfNone, option_map}
 use Rattle.std.specs.FinSet.{FinSet}
 use Rattle.std.specs.Ordering.{nat_cmp}
@@ -12,26 +12,29 @@ use Rattle.pvd_type.specs.declared.memory.NoMemory.{NoMemory}
 use Rattle.pvd_value.specs.Data.{Data}
 use Rattle.journal_core.specs.Moments.{Moment}
 use Rattle.pva_messages.specs.Fields as field
-use Rattle.pva_messages.specs.Fields.{Field, PartData}
+use Rattle.pva_messages.specs.Fields.{Field, Valued, PartData}
 use Rattle.pva_messages.specs.Replies as reply
 use Rattle.pva_messages.specs.Replies.{Reply, CanReply, reply_fields, reply_command, begun_reply}
 use Rattle.pva_messages.specs.Rows.{byte_of}
 use Rattle.pva_messages.specs.Subcommands.{begins, asks_back, OnlyWhere, ExactlyWhere}
 use Rattle.chan_table.specs.declared.ask.AskKind.{AskKind}
 use Rattle.chan_table.specs.declared.ask.AskKind.TheVariants as kinds
-use Rattle.desk_api.specs.Calls.{Calls, IsGet, IsPartOfGet, ArePut, HaveMoment}
+use Rattle.desk_api.specs.Calls.{Calls, IsGet, IsPartOfGet, ArePut, ArePutGet, IsSnapshot, IsPartOfSnapshot}
+use Rattle.desk_api.specs.declared.rows.RecRow.{RecRow}
+use Rattle.pvd_value.specs.declared.value.PvValue.{PvValue}
+use Rattle.rpc_services.specs.Answers.{snapshot_tree}
 use Rattle.desk_api.specs.Types.{type_of}
 use Rattle.desk_api.specs.declared.channel.Channel.{Channel}
-use Rattle.desk_api.specs.declared.mark.Mark.{Mark}
 use Rattle.desk_api.specs.declared.mark.Seat.{Seat}
 use Rattle.desk_api.specs.declared.put.Done.{Done}
 use Rattle.desk_api.specs.declared.put.PutAnswer.{PutAnswer}
 use Rattle.srv_session.specs.State.{State, Asked}
-use Rattle.srv_session.specs.Replies.{said, control, methods, greetings, spelled, spelled_all, outcome, IsServed, answered, begun, got, command_of_kind}
-use Rattle.srv_session.specs.Tasks.{get, put}
-use Rattle.srv_session.specs.Rows.{asked, put_status, behind}
-use Rattle.srv_session.specs.Calls.{Shown, Takes}
-use Rattle.srv_session.proofs.Rows.{shown, part_moments, whole_is_part, put_moments}
+use Rattle.srv_session.specs.Replies.{said, control, methods, greetings, spelled, spelled_all, outcome, IsServed, is_call, answered, begun, got, called, command_of_kind}
+use Rattle.srv_session.specs.Tasks.{get, put, put_get, snapshot}
+use Rattle.srv_session.specs.Rows.{asked, put_status, put_get_reply, rows_data, behind}
+use Rattle.srv_session.specs.Calls.{Takes}
+use Rattle.srv_session.specs.Views.{HasOneType}
+use Rattle.srv_session.proofs.Rows.{shown, part_moments, whole_is_part, put_moments, put_get_moments, snapshot_moments, snapshot_is_part}
 
 -- The greeting was written.
 pub greeted : (s m : State) (names : List (List ℕ)) (first second last : List ℕ) → m ≡ s
@@ -69,7 +72,19 @@ bare : (b : Bool) (t : Option Tree) → b ≡ false → reply.type_field b t ≡
 bare true t is = absurd (false≢true (sym is))
 bare false t is = refl
 
-pub answered_fields : (kind : AskKind) (req sub : ℕ) (problem : Option (List ℕ)) → IsServed kind → IfNone problem (begins sub ≡ false)
+bare_call : (b : Bool) (v : Valued) → b ≡ true → reply.valued_field (not b) v ≡ []
+bare_call true v is = refl
+bare_call false v is = absurd (false≢true is)
+
+whole_call : (b : Bool) (v : Valued) → b ≡ false → reply.valued_field (not b) v ≡ field.valued v ∷ []
+whole_call true v is = absurd (false≢true (sym is))
+whole_call false v is = refl
+
+both_types : (b : Bool) (t : Option Tree) → b ≡ true → reply.type_field b t ≡ field.description t ∷ []
+both_types true t is = refl
+both_types false t is = absurd (false≢true is)
+
+pub answered_fields : (kind : AskKind) (req sub : ℕ) (problem : Option (List ℕ)) → IsServed kind → IfNone problem (begins sub ≡ is_call kind)
     → reply_fields (answered kind req sub (outcome problem)) ≡ field.word req ∷ field.byte sub ∷ field.status (outcome problem) ∷ []
 answered_fields kinds.Get req sub None served none =
     ap (λ (l : List Field). field.word req ∷ field.byte sub ∷ field.status good ∷ (l ++ [])) (bare (begins sub) None none)
@@ -77,43 +92,48 @@ answered_fields kinds.Get req sub (Some text) served none = refl
 answered_fields kinds.Put req sub None served none =
     ap (λ (l : List Field). field.word req ∷ field.byte sub ∷ field.status good ∷ (l ++ [])) (bare (begins sub) None none)
 answered_fields kinds.Put req sub (Some text) served none = refl
-answered_fields kinds.PutGet req sub problem served none = absurd served
-answered_fields kinds.Rpc req sub problem served none = absurd served
+answered_fields kinds.PutGet req sub None served none =
+    ap (λ (l : List Field). field.word req ∷ field.byte sub ∷ field.status good ∷ ((l ++ l) ++ [])) (bare (begins sub) None none)
+answered_fields kinds.PutGet req sub (Some text) served none = refl
+answered_fields kinds.Rpc req sub None served none =
+    ap (λ (l : List Field). field.word req ∷ field.byte sub ∷ field.status good ∷ l) (bare_call (begins sub) None none)
+answered_fields kinds.Rpc req sub (Some text) served none = refl
 answered_fields kinds.Monitor req sub problem served none = absurd served
 
 pub answered_command : (kind : AskKind) (req sub : ℕ) (status : Status) → IsServed kind → reply_command (answered kind req sub status) ≡ byte_of (command_of_kind kind)
 answered_command kinds.Get req sub status served = refl
 answered_command kinds.Put req sub status served = refl
-answered_command kinds.PutGet req sub status served = absurd served
-answered_command kinds.Rpc req sub status served = absurd served
+answered_command kinds.PutGet req sub status served = refl
+answered_command kinds.Rpc req sub status served = refl
 answered_command kinds.Monitor req sub status served = absurd served
 
-pub got_fields : (kind : AskKind) (req sub : ℕ) (ty : Tree) (mask : FinSet nat_cmp) (value : Data) → IsServed kind → begins sub ≡ false
+pub got_fields : (kind : AskKind) (req sub : ℕ) (ty : Tree) (mask : FinSet nat_cmp) (value : Data) → IsServed kind → is_call kind ≡ false → begins sub ≡ false
     → reply_fields (got kind req sub ty mask value) ≡ field.word req ∷ field.byte sub ∷ field.status good ∷ field.part (record { ty = ty; mask = mask; value = value }) ∷ []
-got_fields kinds.Get req sub ty mask value served none =
+got_fields kinds.Get req sub ty mask value served call none =
     ap (λ (l : List Field). field.word req ∷ field.byte sub ∷ field.status good ∷ (l ++ field.part (record { ty = ty; mask = mask; value = value }) ∷ [])) (bare (begins sub) None none)
-got_fields kinds.Put req sub ty mask value served none =
+got_fields kinds.Put req sub ty mask value served call none =
     ap (λ (l : List Field). field.word req ∷ field.byte sub ∷ field.status good ∷ (l ++ field.part (record { ty = ty; mask = mask; value = value }) ∷ [])) (bare (begins sub) None none)
-got_fields kinds.PutGet req sub ty mask value served none = absurd served
-got_fields kinds.Rpc req sub ty mask value served none = absurd served
-got_fields kinds.Monitor req sub ty mask value served none = absurd served
+got_fields kinds.PutGet req sub ty mask value served call none =
+    ap (λ (l : List Field). field.word req ∷ field.byte sub ∷ field.status good ∷ ((l ++ l) ++ field.part (record { ty = ty; mask = mask; value = value }) ∷ [])) (bare (begins sub) None none)
+got_fields kinds.Rpc req sub ty mask value served call none = absurd (false≢true (sym call))
+got_fields kinds.Monitor req sub ty mask value served call none = absurd served
 
 pub got_command : (kind : AskKind) (req sub : ℕ) (ty : Tree) (mask : FinSet nat_cmp) (value : Data) → IsServed kind → reply_command (got kind req sub ty mask value) ≡ byte_of (command_of_kind kind)
 got_command kinds.Get req sub ty mask value served = refl
 got_command kinds.Put req sub ty mask value served = refl
-got_command kinds.PutGet req sub ty mask value served = absurd served
-got_command kinds.Rpc req sub ty mask value served = absurd served
+got_command kinds.PutGet req sub ty mask value served = refl
+got_command kinds.Rpc req sub ty mask value served = refl
 got_command kinds.Monitor req sub ty mask value served = absurd served
 
 -- the reply that begins a request
-pub begun_is : (kind : AskKind) (req sub : ℕ) (ty : Tree) → IsServed kind → begun_reply (command_of_kind kind) req sub ty ≡ begun kind req sub ty
+pub begun_is : (kind : AskKind) (req sub : ℕ) (ty : Tree) → HasOneType kind → begun_reply (command_of_kind kind) req sub ty ≡ begun kind req sub ty
 begun_is kinds.Get req sub ty served = refl
 begun_is kinds.Put req sub ty served = refl
 begun_is kinds.PutGet req sub ty served = absurd served
 begun_is kinds.Rpc req sub ty served = absurd served
 begun_is kinds.Monitor req sub ty served = absurd served
 
-pub begun_command : (kind : AskKind) (req sub : ℕ) (ty : Tree) → IsServed kind → reply_command (begun kind req sub ty) ≡ byte_of (command_of_kind kind)
+pub begun_command : (kind : AskKind) (req sub : ℕ) (ty : Tree) → HasOneType kind → reply_command (begun kind req sub ty) ≡ byte_of (command_of_kind kind)
 begun_command kinds.Get req sub ty served = refl
 begun_command kinds.Put req sub ty served = refl
 begun_command kinds.PutGet req sub ty served = absurd served
@@ -128,12 +148,22 @@ can_begin_whole : (b : Bool) (t : Tree) → b ≡ true → OnlyWhere b (Some t) 
 can_begin_whole true t is = ((λ e. absurd (false≢true (sym e))), refl)
 can_begin_whole false t is = absurd (false≢true is)
 
-pub may_begin : (kind : AskKind) (req sub : ℕ) (ty : Tree) → IsServed kind → begins sub ≡ true → CanReply (begun_reply (command_of_kind kind) req sub ty)
+pub may_begin : (kind : AskKind) (req sub : ℕ) (ty : Tree) → HasOneType kind → begins sub ≡ true → CanReply (begun_reply (command_of_kind kind) req sub ty)
 may_begin kinds.Get req sub ty served is = can_begin_whole (begins sub) ty is
 may_begin kinds.Put req sub ty served is = can_begin (begins sub) (asks_back sub) ty is
 may_begin kinds.PutGet req sub ty served is = absurd served
 may_begin kinds.Rpc req sub ty served is = absurd served
 may_begin kinds.Monitor req sub ty served is = absurd served
+
+-- the reply that begins a put-get
+pub both_fields : (req sub : ℕ) (ty : Tree) → begins sub ≡ true
+    → reply_fields (begun kinds.PutGet req sub ty) ≡ field.word req ∷ field.byte sub ∷ field.status good ∷ field.description (Some ty) ∷ field.description (Some ty) ∷ []
+both_fields req sub ty is = ap (λ (l : List Field). field.word req ∷ field.byte sub ∷ field.status good ∷ ((l ++ l) ++ [])) (both_types (begins sub) (Some ty) is)
+
+-- the answer to a call
+pub called_fields : (req sub : ℕ) (ty : Tree) (value : Data) → begins sub ≡ false
+    → reply_fields (called req sub ty value) ≡ field.word req ∷ field.byte sub ∷ field.status good ∷ field.valued (Some (ty, value)) ∷ []
+called_fields req sub ty value is = ap (λ (l : List Field). field.word req ∷ field.byte sub ∷ field.status good ∷ l) (whole_call (begins sub) (Some (ty, value)) is)
 
 -- A get of a channel.
 
@@ -200,3 +230,62 @@ module _ (here there : Seat) (moment : Moment) (s t : State) (out after : List �
     state = state;
     output = ok ∙ ap (λ (z : List ℕ). out ++ z) (sym (append-nil (spelled s.order s.segment (said (answered kinds.Put req sub status)))));
   }
+
+-- The same of a put-get.
+module _ (here there : Seat) (moment : Moment) (s t : State) (out after : List ℕ) (req sub : ℕ) (ask : Asked) (channel : Channel) (mask : FinSet nat_cmp) (value : Data) (answer : Result (Done × PvValue) PutAnswer)
+    (calls : Calls here there (ArePutGet (asked here.seen.base.site ask channel mask value moment) answer)) where
+  pub put_get_unsaid : (result : Result (Unit {0}) NoMemory) → IsErr result → after ≡ out
+      → Takes (shown here s out) (shown there t after) moment (put_get req sub ask channel mask value) result
+  put_get_unsaid (Ok u) failed same = absurd (false≢true failed)
+  put_get_unsaid (Err x) failed same = record {
+    marks = calls.marks;
+    part_is = (moment, answer, calls.named);
+    adds = calls.adds;
+    moments = put_get_moments (asked here.seen.base.site ask channel mask value moment) answer calls.marks calls.named;
+    output = same;
+  }
+
+  pub put_get_said : (told : Reply) → put_get_reply here.seen.base.site req sub ask channel answer ≡ Some told → t ≡ record s { requests = behind req sub s.requests }
+      → after ≡ out ++ spelled s.order s.segment (said told)
+      → Takes (shown here s out) (shown there t after) moment (put_get req sub ask channel mask value) (Ok tt)
+  put_get_said told is state ok = record {
+    marks = calls.marks;
+    sent = said told ∷ [];
+    row = record { moment = moment; answer = answer; told = told; is_put_get = calls.named; told_is = is; sent_is = refl };
+    adds = calls.adds;
+    moments = put_get_moments (asked here.seen.base.site ask channel mask value moment) answer calls.marks calls.named;
+    state = state;
+    output = ok ∙ ap (λ (z : List ℕ). out ++ z) (sym (append-nil (spelled s.order s.segment (said told))));
+  }
+
+-- The same of a look at all records.
+module _ (here there : Seat) (moment : Moment) (s t : State) (out after : List ℕ) (req sub : ℕ) where
+  pub not_looked : (result : Result (Unit {0}) NoMemory) → Calls here there (IsPartOfSnapshot here.seen.base.site) → IsErr result → after ≡ out
+      → Takes (shown here s out) (shown there t after) moment (snapshot req sub) result
+  not_looked (Ok u) calls failed same = absurd (false≢true failed)
+  not_looked (Err x) calls failed same = record {
+    marks = calls.marks;
+    part_is = calls.named;
+    adds = calls.adds;
+    moments = snapshot_moments moment here.seen.base.site calls.marks calls.named;
+    output = same;
+  }
+
+  module _ (rows : List RecRow) (calls : Calls here there (IsSnapshot here.seen.base.site rows)) where
+    pub look_unsaid : (result : Result (Unit {0}) NoMemory) → IsErr result → after ≡ out
+        → Takes (shown here s out) (shown there t after) moment (snapshot req sub) result
+    look_unsaid result failed same =
+        not_looked result (record { marks = calls.marks; adds = calls.adds; named = snapshot_is_part here.seen.base.site rows calls.marks calls.named }) failed same
+
+    pub look_said : t ≡ record s { requests = behind req sub s.requests }
+        → after ≡ out ++ spelled s.order s.segment (said (called req sub snapshot_tree (rows_data rows)))
+        → Takes (shown here s out) (shown there t after) moment (snapshot req sub) (Ok tt)
+    look_said state ok = record {
+      marks = calls.marks;
+      sent = said (called req sub snapshot_tree (rows_data rows)) ∷ [];
+      row = record { rows = rows; is_snapshot = calls.named; sent_is = refl };
+      adds = calls.adds;
+      moments = snapshot_moments moment here.seen.base.site calls.marks (snapshot_is_part here.seen.base.site rows calls.marks calls.named);
+      state = state;
+      output = ok ∙ ap (λ (z : List ℕ). out ++ z) (sym (append-nil (spelled s.order s.segment (said (called req sub snapshot_tree (rows_data rows))))));
+    }

@@ -1,26 +1,29 @@
 -- Rows and their parts.
-use Rattle.std.proofs.Common.{◌≡◌, ℕ, pos, Bool, Option, List, [], ◌∷◌, ◌++◌, take, length, Some, Result, Ok, Err, refl, sym, ◌∙◌, ap, subst}
+use Rattle.std.proofs.Common.{◌≡◌, ℕ, pos, Bool, true, false, inl, Option, List, [], ◌∷◌, ◌++◌, take, length, Some, Result, Ok, Err, refl, sym, ◌∙◌, ap, subst}
 use Rattle.std.specs.Prelude.{OnOk, OnErr, IsErr}
 use Rattle.std.proofs.lemmas.Bool.{false≢true}
 use Rattle.std.proofs.lemmas.List.{append-nil}
 use Rattle.pvd_value.specs.Data.{Data}
+use Rattle.pvd_value.specs.declared.value.PvValue.{PvValue}
 use Rattle.pva_frames.specs.declared.event.Event.{Event}
 use Rattle.pvd_type.specs.declared.memory.NoMemory.{NoMemory}
 use Rattle.journal_core.specs.Moments.{Moment}
 use Rattle.rec_kinds.specs.declared.datum.Action.{Action}
 use Rattle.desk_api.proofs.Adding.{adds_nothing, moments_append}
-use Rattle.desk_api.specs.Calls.{Asked, AreLooks, AreAdded, IsGet, IsPartOfGet, ArePut, HaveMoment, looks_of}
+use Rattle.desk_api.specs.Calls.{Asked, AreLooks, AreAdded, IsGet, IsPartOfGet, ArePut, ArePutGet, ArePutGetBy, IsSnapshot, IsPartOfSnapshot, HaveMoment, looks_of}
+use Rattle.desk_api.specs.Sites.{is_atomic, channel_of}
+use Rattle.desk_api.specs.declared.channel.ChannelKind.TheVariants.{Service}
+use Rattle.desk_api.specs.declared.rows.RecRow.{RecRow}
 use Rattle.desk_api.specs.History.{IsLegal}
 use Rattle.desk_api.specs.declared.channel.Channel.{Channel}
 use Rattle.desk_api.specs.declared.history.SiteData.{SiteData}
 use Rattle.desk_api.specs.declared.mark.Mark.{Mark}
-use Rattle.desk_api.specs.declared.mark.Mark.TheVariants.{Entered}
 use Rattle.desk_api.specs.declared.mark.Seat.{Seat}
 use Rattle.desk_api.specs.declared.put.Done.{Done}
 use Rattle.desk_api.specs.declared.put.PutAnswer.{PutAnswer}
 use Rattle.desk_api.specs.declared.put.PutAnswer.TheVariants as answers
 use Rattle.srv_session.specs.State.{State}
-use Rattle.srv_session.specs.Tasks.{Task, pass_over, echo_control, refuse, validate, echo, create, destroy_channel, begin, get, put, destroy_request, Hearing, asks, not_built, unreadable, heard}
+use Rattle.srv_session.specs.Tasks.{Task, pass_over, echo_control, refuse, tell, validate, echo, create, destroy_channel, begin, get, put, put_get, respond, snapshot, destroy_request, Hearing, asks, not_built, unreadable, heard}
 use Rattle.srv_session.specs.Replies.{Sent, spelled, spelled_all}
 use Rattle.srv_session.specs.Rows.{Says, Row, Part, after_task}
 use Rattle.srv_session.specs.Steps.{knowing, PartOf, NextPart}
@@ -28,10 +31,19 @@ use Rattle.srv_session.specs.Calls.{Shown, Answered, Takes}
 
 -- No mark is a part of every row.
 
+no_put_get : (whole : Bool) (a : Asked) → ArePutGetBy whole a (Err (answers.NoMemory 0)) []
+no_put_get true a = record { marks_are = refl; done_is = refl }
+no_put_get false a = record { puts = []; gets = []; marks_are = refl; put = record { added = tt; done_is = refl }; got = record { looks = tt }; behind = inl refl }
+
 pub no_part : (site : SiteData) (s : State) (task : Task) → Part site s task []
 no_part site s pass_over = refl
 no_part site s (echo_control number) = refl
 no_part site s (refuse r) = refl
+no_part site s (tell r) = refl
+no_part site s (respond req sub r) = refl
+no_part site s (snapshot req sub) = record { looks = tt }
+no_part site s (put_get req sub ask channel mask value) =
+    (record { seconds = pos 0; nanoseconds = 0 }, Err (answers.NoMemory 0), no_put_get (is_atomic site channel ask.atomic) _)
 no_part site s (validate buffer registry user host) = refl
 no_part site s (echo payload) = refl
 no_part site s (create names) = refl
@@ -76,6 +88,28 @@ put_moments a (Err (answers.JournalFull kept weight limit done)) marks p =
     (moments_append (Some a.moment) p.before _ (added_moments a (take done p.entries) p.before p.added) (tt, tt))
 put_moments a (Err (answers.NoMemory done)) marks p = added_moments a _ marks p.added
 
+pub snapshot_moments : (moment : Moment) (site : SiteData) (marks : List Mark) → IsPartOfSnapshot site marks → HaveMoment (Some moment) marks
+snapshot_moments moment site marks p = looks_moments moment (channel_of Service 0) _ marks p.looks
+
+put_get_by : (whole : Bool) (a : Asked) (answer : Result (Done × PvValue) PutAnswer) (marks : List Mark) → ArePutGetBy whole a answer marks → HaveMoment (Some a.moment) marks
+put_get_by true a (Ok (done, value)) marks p = subst (HaveMoment (Some a.moment)) (sym p.marks_are) (p.moment_is, tt)
+put_get_by false a (Ok (done, value)) marks p =
+    subst (HaveMoment (Some a.moment)) (sym p.marks_are)
+    (moments_append (Some a.moment) p.puts p.gets (put_moments a (Ok done) p.puts p.put)
+    (looks_moments a.moment a.channel (looks_of a.site a.channel a.atomic) p.gets p.got.looks))
+put_get_by true a (Err (answers.Refused refusal)) marks p = put_moments a (Err (answers.Refused refusal)) marks p
+put_get_by false a (Err (answers.Refused refusal)) marks p = put_moments a (Err (answers.Refused refusal)) marks p
+put_get_by true a (Err (answers.JournalFull kept weight limit done)) marks p = subst (HaveMoment (Some a.moment)) (sym p.marks_are) (tt, tt)
+put_get_by false a (Err (answers.JournalFull kept weight limit done)) marks p = put_moments a (Err (answers.JournalFull kept weight limit done)) marks p
+put_get_by true a (Err (answers.NoMemory done)) marks p = subst (HaveMoment (Some a.moment)) (sym p.marks_are) tt
+put_get_by false a (Err (answers.NoMemory done)) marks p =
+    subst (HaveMoment (Some a.moment)) (sym p.marks_are)
+    (moments_append (Some a.moment) p.puts p.gets (put_moments a (Err (answers.NoMemory done)) p.puts p.put)
+    (part_moments a.moment a.site a.channel a.atomic p.gets p.got))
+
+pub put_get_moments : (a : Asked) (answer : Result (Done × PvValue) PutAnswer) (marks : List Mark) → ArePutGet a answer marks → HaveMoment (Some a.moment) marks
+put_get_moments a answer marks p = put_get_by (is_atomic a.site a.channel a.atomic) a answer marks p
+
 -- all looks of a get are a part of them
 
 looks_count : (channel : Channel) (looks : List (List ℕ)) (marks : List Mark) → AreLooks channel looks marks → AreLooks channel (take (length marks) looks) marks
@@ -86,6 +120,10 @@ looks_count channel (recs ∷ looks) (mark ∷ marks) p = (p.0, looks_count chan
 
 pub whole_is_part : (site : SiteData) (channel : Channel) (atomic : Option Bool) (value : Data) (marks : List Mark) → IsGet site channel atomic value marks → IsPartOfGet site channel atomic marks
 whole_is_part site channel atomic value marks p = record { looks = looks_count channel (looks_of site channel atomic) marks p.looks }
+
+pub snapshot_is_part : (site : SiteData) (rows : List RecRow) (marks : List Mark) → IsSnapshot site rows marks → IsPartOfSnapshot site marks
+snapshot_is_part site rows marks p =
+    subst (IsPartOfSnapshot site) (sym p.marks_are) (record { looks = ((p.at, (p.found, refl)), tt) })
 
 -- A row that makes no mark was answered, or memory ran out for its reply.
 

@@ -1,19 +1,19 @@
 -- What the calls of a session do.
-use Rattle.std.specs.Prelude.{◌≡◌, ◌≢◌, ℕ, Bool, false, List, ◌++◌, Option, None, Some, Result, Ok, Err, IsTrue}
+use Rattle.std.specs.Prelude.{◌≡◌, ◌≢◌, ℕ, Bool, false, List, ◌++◌, Some, Result, Ok, Err, IsTrue}
 use Rattle.std.specs.FinMap.{get as at}
 use Rattle.std.specs.FinSet as set
 use Rattle.pva_frames.specs.declared.event.Event.{Event}
 use Rattle.pvd_type.specs.declared.memory.NoMemory.{NoMemory}
 use Rattle.journal_core.specs.Moments.{Moment}
 use Rattle.desk_api.specs.Calls.{Adds, HaveMoment}
-use Rattle.desk_api.specs.Sites.{is_channel}
+use Rattle.desk_api.specs.Sites.{is_channel, has_values}
 use Rattle.desk_api.specs.Types.{type_of, HoldsLeaves}
 use Rattle.desk_api.specs.declared.channel.Channel.{Channel}
 use Rattle.desk_api.specs.declared.history.SiteData.{SiteData}
 use Rattle.desk_api.specs.declared.mark.Mark.{Mark}
 use Rattle.desk_api.specs.declared.mark.Seat.{Seat}
 use Rattle.srv_session.specs.State.{State, Channels, Asked, channel_at}
-use Rattle.srv_session.specs.Replies.{Sent, spelled_all}
+use Rattle.srv_session.specs.Replies.{Sent, spelled_all, is_call}
 use Rattle.srv_session.specs.Tasks.{Task, Hearing, not_built, unreadable, heard}
 use Rattle.srv_session.specs.Rows.{Row, Part, after_task}
 use Rattle.srv_session.specs.Steps.{IsAnswer, PartOf, AreEndings, after_hearing}
@@ -21,17 +21,18 @@ use Rattle.srv_session.specs.declared.stop.SessionStop.{SessionStop}
 use Rattle.srv_session.specs.declared.stop.SessionStop.TheVariants as stops
 
 -- A session is one of a site where its channels are the site's, and its requests are on open channels, each for at
--- least one leaf of its channel.
+-- least one leaf of its channel, but for calls.
 
--- it has selected leaves of the channel, at least one
+-- it has selected leaves of the channel, which has values, at least one
 pub record Selects (site : SiteData) (channel : Channel) (ask : Asked) : Type 0 where
+  pub valued : IsTrue (has_values channel)
   pub leaves : HoldsLeaves (type_of site channel) ask.mask
   pub some : ask.mask ≢ set.empty
 
 pub record IsAskOf (site : SiteData) (channels : Channels) (ask : Asked) : Type 0 where
   pub channel : Channel
   pub open_ : channel_at channels ask.sid ≡ Some channel
-  pub selects : Selects site channel ask
+  pub selects : is_call ask.kind ≡ false → Selects site channel ask
 
 pub record IsOf (site : SiteData) (s : State) : Type 0 where
   pub channels : (sid : ℕ) (channel : Channel) → channel_at s.channels sid ≡ Some channel

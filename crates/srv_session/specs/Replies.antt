@@ -1,5 +1,5 @@
 -- What a session sends, and how it is spelled (pvAccess Protocol Specification, "Application Messages").
-use Rattle.std.specs.Prelude.{ℕ, true, List, [], ◌∷◌, ◌++◌, Option, None, Some, codes}
+use Rattle.std.specs.Prelude.{ℕ, Bool, true, false, List, [], ◌∷◌, ◌++◌, Option, None, Some, codes}
 use Rattle.std.specs.FinSet.{FinSet}
 use Rattle.std.specs.Ordering.{nat_cmp}
 use Rattle.pva_wire.specs.declared.order.Order.{Order}
@@ -59,17 +59,30 @@ outcome None = good
 outcome (Some text) = error text
 
 -- A reply to a message about a request: its kind, the id of the request and the subcommand are those of the message;
--- the status; the type, where the request has begun; the part of a value. Only gets and puts are replied to so far.
+-- the status; the type, where the request has begun; the part of a value. A put-get has its type twice, as what is put and
+-- as what is got; a call has neither a type nor a part. Monitors aren't replied to so far.
 
 abbrev pub IsServed : AskKind → Type 0
 IsServed kinds.Get = Unit {0}
 IsServed kinds.Put = Unit {0}
-IsServed kind = ⊥
+IsServed kinds.PutGet = Unit {0}
+IsServed kinds.Rpc = Unit {0}
+IsServed kinds.Monitor = ⊥
 
 abbrev pub reply_to : AskKind → ℕ → ℕ → Status → Option Tree → Option PartData → Reply
 reply_to kinds.Get req sub status ty part = reply.get req sub status ty part
 reply_to kinds.Put req sub status ty part = reply.put req sub status ty part
-reply_to kind req sub status ty part = reply.skipped 0
+reply_to kinds.PutGet req sub status ty part = reply.put_get req sub status ty ty part
+reply_to kinds.Rpc req sub status ty part = reply.rpc req sub status None
+reply_to kinds.Monitor req sub status ty part = reply.skipped 0
+
+-- whether requests of a kind are calls of the service, which select no leaves
+abbrev pub is_call : AskKind → Bool
+is_call kinds.Get = false
+is_call kinds.Put = false
+is_call kinds.PutGet = false
+is_call kinds.Rpc = true
+is_call kinds.Monitor = false
 
 -- a status, and nothing beside
 abbrev pub answered : AskKind → ℕ → ℕ → Status → Reply
@@ -79,13 +92,25 @@ answered kind req sub status = reply_to kind req sub status None None
 abbrev pub refused : AskKind → ℕ → ℕ → List ℕ → Reply
 refused kind req sub text = answered kind req sub (error text)
 
--- OK, and the type of the channel
+-- OK, and the type of the channel, as its kind has it
 abbrev pub begun : AskKind → ℕ → ℕ → Tree → Reply
 begun kind req sub ty = reply_to kind req sub good (Some ty) None
 
 -- OK, and these leaves of a value of this type
 abbrev pub got : AskKind → ℕ → ℕ → Tree → FinSet nat_cmp → Data → Reply
 got kind req sub ty mask value = reply_to kind req sub good None (Some (record { ty = ty; mask = mask; value = value }))
+
+-- the answer to a call: OK, and a value of this type
+abbrev pub called : ℕ → ℕ → Tree → Data → Reply
+called req sub ty value = reply.rpc req sub good (Some (ty, value))
+
+-- the answer to a question for the type of a field: OK and the type, or ERROR with a text
+
+abbrev pub field_told : ℕ → Tree → Reply
+field_told req ty = reply.get_field req good (Some ty)
+
+abbrev pub field_refused : ℕ → List ℕ → Reply
+field_refused req text = reply.get_field req (error text) None
 
 -- the command of the messages about requests of a kind
 abbrev pub command_of_kind : AskKind → Command

@@ -1,6 +1,6 @@
 -- What a session says to what it is asked: one row for each task, which names the marks of its desk and the replies;
 -- and the state that it leaves (pvAccess Protocol Specification, "Application Messages").
-use Rattle.std.specs.Prelude.{◌≡◌, ℕ, true, false, List, [], ◌∷◌, Option, None, Some, Result, Ok, Err, codes, if◌then◌else◌}
+use Rattle.std.specs.Prelude.{◌≡◌, ℕ, pos, map, option_map, true, false, List, [], ◌∷◌, Option, None, Some, Result, Ok, Err, codes, if◌then◌else◌}
 use Rattle.std.specs.FinMap.{insert, remove}
 use Rattle.std.specs.FinSet.{FinSet}
 use Rattle.std.specs.Ordering.{nat_cmp}
@@ -8,6 +8,8 @@ use Rattle.journal_core.specs.Moments.{Moment}
 use Rattle.pva_wire.specs.declared.status.Status.{Status}
 use Rattle.pva_wire.specs.Status.{good}
 use Rattle.pvd_value.specs.Data.{Data}
+use Rattle.pvd_value.specs.View.{view}
+use Rattle.pvd_value.specs.declared.value.PvValue.{PvValue}
 use Rattle.pva_messages.specs.Replies as reply
 use Rattle.pva_messages.specs.Replies.{Reply}
 use Rattle.pva_messages.specs.Subcommands.{ends}
@@ -17,7 +19,7 @@ use Rattle.chan_table.specs.declared.ask.AskKind.TheVariants as kinds
 use Rattle.rec_kinds.specs.declared.put.PutRefusal.{PutRefusal}
 use Rattle.rec_kinds.specs.declared.put.PutRefusal.TheVariants as refusals
 use Rattle.desk_api.specs.Calls as calls
-use Rattle.desk_api.specs.Calls.{IsGet, IsPartOfGet, ArePut}
+use Rattle.desk_api.specs.Calls.{IsGet, IsPartOfGet, ArePut, ArePutGet, IsSnapshot, IsPartOfSnapshot}
 use Rattle.desk_api.specs.Sites.{channel_named}
 use Rattle.desk_api.specs.Types.{type_of}
 use Rattle.desk_api.specs.declared.channel.Channel.{Channel}
@@ -26,9 +28,12 @@ use Rattle.desk_api.specs.declared.mark.Mark.{Mark}
 use Rattle.desk_api.specs.declared.put.Done.{Done}
 use Rattle.desk_api.specs.declared.put.PutAnswer.{PutAnswer}
 use Rattle.desk_api.specs.declared.put.PutAnswer.TheVariants as answers
+use Rattle.desk_api.specs.declared.rows.RecRow.{RecRow}
+use Rattle.rpc_services.specs.Answers.{snapshot_tree, snapshot_data}
 use Rattle.srv_session.specs.State.{State, Channels, Requests, Asked, segment_for, is_full, least_free, without_channel}
-use Rattle.srv_session.specs.Replies.{Sent, said, control, error, answered, begun, got}
-use Rattle.srv_session.specs.Tasks.{Task, pass_over, echo_control, refuse, validate, echo, create, destroy_channel, begin, get, put, destroy_request}
+use Rattle.srv_session.specs.Replies.{Sent, said, control, error, answered, begun, got, called}
+use Rattle.srv_session.specs.Tasks.{Task, pass_over, echo_control, refuse, tell, validate, echo, create, destroy_channel}
+use Rattle.srv_session.specs.Tasks.{begin, get, put, put_get, respond, snapshot, destroy_request}
 
 -- Channels that are created.
 
@@ -74,6 +79,13 @@ put_status (Err (answers.Refused refusal)) = Some (error (refusal_text refusal))
 put_status (Err (answers.JournalFull kept entry limit done)) = Some (error (codes "journal full"))
 put_status (Err (answers.NoMemory done)) = None
 
+-- What a put-get's client is told: the selected leaves of what was got. Where memory ran out it is told nothing.
+abbrev pub put_get_reply : SiteData → ℕ → ℕ → Asked → Channel → Result (Done × PvValue) PutAnswer → Option Reply
+put_get_reply site req sub ask channel (Ok (done, value)) =
+    Some (got kinds.PutGet req sub (type_of site channel) ask.mask (view value))
+put_get_reply site req sub ask channel (Err answer) =
+    option_map (answered kinds.PutGet req sub) (put_status (Err answer))
+
 -- what a put asks of the desk, at some moment
 abbrev pub asked : SiteData → Asked → Channel → FinSet nat_cmp → Data → Moment → calls.Asked
 asked site ask channel mask value moment =
@@ -103,11 +115,34 @@ pub record PutRow (site : SiteData) (req sub : ℕ) (ask : Asked) (channel : Cha
   pub status_is : put_status answer ≡ Some status
   pub sent_is : sent ≡ said (answered kinds.Put req sub status) ∷ []
 
+-- what became of the put and the get, at some moment
+pub record PutGetRow (site : SiteData) (req sub : ℕ) (ask : Asked) (channel : Channel) (mask : FinSet nat_cmp)
+    (value : Data) (marks : List Mark) (sent : List Sent) : Type 0 where
+  pub moment : Moment
+  pub answer : Result (Done × PvValue) PutAnswer
+  pub told : Reply
+  pub is_put_get : ArePutGet (asked site ask channel mask value moment) answer marks
+  pub told_is : put_get_reply site req sub ask channel answer ≡ Some told
+  pub sent_is : sent ≡ said told ∷ []
+
+-- the rows of a table
+abbrev pub rows_data : List RecRow → Data
+rows_data rows =
+    snapshot_data (map (λ r. r.name) rows) (map (λ r. r.text) rows) (map (λ r. pos r.severity) rows)
+    (map (λ r. r.moment.seconds) rows) (map (λ r. pos r.moment.nanoseconds) rows)
+
+-- What the marks found of all records.
+pub record SnapshotRow (site : SiteData) (req sub : ℕ) (marks : List Mark) (sent : List Sent) : Type 0 where
+  pub rows : List RecRow
+  pub is_snapshot : IsSnapshot site rows marks
+  pub sent_is : sent ≡ said (called req sub snapshot_tree (rows_data rows)) ∷ []
+
 -- What the session says to this task.
 abbrev pub Row : SiteData → State → Task → List Mark → List Sent → Type 0
 Row site s pass_over = Says []
 Row site s (echo_control number) = Says (control 4 number ∷ [])
 Row site s (refuse r) = Says (said r ∷ [])
+Row site s (tell r) = Says (said r ∷ [])
 Row site s (validate buffer registry user host) = Says (said (reply.validated good) ∷ [])
 Row site s (echo payload) = Says (said (reply.echo payload) ∷ [])
 Row site s (create names) = Says (all_created site s.channels names)
@@ -115,6 +150,9 @@ Row site s (destroy_channel sid cid) = Says (said (reply.channel_destroyed sid c
 Row site s (begin kind req sub sid channel wanted) = Says (said (begun kind req sub (type_of site channel)) ∷ [])
 Row site s (get kind req sub ask channel) = GetRow site kind req sub ask channel
 Row site s (put req sub ask channel mask value) = PutRow site req sub ask channel mask value
+Row site s (put_get req sub ask channel mask value) = PutGetRow site req sub ask channel mask value
+Row site s (respond req sub r) = Says (said r ∷ [])
+Row site s (snapshot req sub) = SnapshotRow site req sub
 Row site s (destroy_request req) = Says []
 
 -- The marks that may stand where memory ran out in a row.
@@ -127,9 +165,16 @@ PutPart site ask channel mask value marks =
     (moment : Moment) × (answer : Result Done PutAnswer)
     × ArePut (asked site ask channel mask value moment) answer marks
 
+abbrev pub PutGetPart : SiteData → Asked → Channel → FinSet nat_cmp → Data → List Mark → Type 0
+PutGetPart site ask channel mask value marks =
+    (moment : Moment) × (answer : Result (Done × PvValue) PutAnswer)
+    × ArePutGet (asked site ask channel mask value moment) answer marks
+
 abbrev pub Part : SiteData → State → Task → List Mark → Type 0
 Part site s (get kind req sub ask channel) = IsPartOfGet site channel ask.atomic
 Part site s (put req sub ask channel mask value) = PutPart site ask channel mask value
+Part site s (put_get req sub ask channel mask value) = PutGetPart site ask channel mask value
+Part site s (snapshot req sub) = IsPartOfSnapshot site
 Part site s task = NoPart
 
 -- The state that a task leaves, with the marks that were made.
@@ -160,5 +205,8 @@ after_task site s (begin kind req sub sid channel wanted) marks =
     record s { requests = insert s.requests req (ask_of kind sid wanted) }
 after_task site s (get kind req sub ask channel) marks = record s { requests = behind req sub s.requests }
 after_task site s (put req sub ask channel mask value) marks = record s { requests = behind req sub s.requests }
+after_task site s (put_get req sub ask channel mask value) marks = record s { requests = behind req sub s.requests }
+after_task site s (respond req sub r) marks = record s { requests = behind req sub s.requests }
+after_task site s (snapshot req sub) marks = record s { requests = behind req sub s.requests }
 after_task site s (destroy_request req) marks = record s { requests = remove s.requests req }
 after_task site s task marks = s

@@ -1,5 +1,5 @@
 -- What contracts see of a session.
-use Rattle.std.specs.Prelude.{◌≡◌, ◌≤◌, ℕ, List, ◌++◌, drop, Option, Some, option_map, Result, Ok, Err, codes}
+use Rattle.std.specs.Prelude.{◌≡◌, ◌≤◌, ℕ, Bool, false, List, ◌++◌, drop, Option, Some, option_map, Result, Ok, Err, codes}
 use Rattle.std.specs.FinMap.{get as at}
 use Rattle.std.specs.FinSet.{FinSet}
 use Rattle.std.specs.Ordering.{nat_cmp}
@@ -24,13 +24,14 @@ use Rattle.pvd_request.specs.declared.request.RequestFault.TheVariants as faults
 use Rattle.chan_table.specs.declared.answer.TableAnswer.{TableAnswer}
 use Rattle.chan_table.specs.declared.answer.TableAnswer.TheVariants as places
 use Rattle.chan_table.specs.declared.ask.AskKind.{AskKind}
+use Rattle.chan_table.specs.declared.ask.AskKind.TheVariants as kinds
 use Rattle.desk_api.specs.Types.{type_of, HoldsLeaves}
 use Rattle.desk_api.specs.declared.put.Done.{Done}
 use Rattle.desk_api.specs.declared.put.PutAnswer.{PutAnswer}
 use Rattle.srv_session.specs.State.{State, Asked, request_on}
-use Rattle.srv_session.specs.Replies.{refused, outcome}
+use Rattle.srv_session.specs.Replies.{refused, outcome, is_call}
 use Rattle.srv_session.specs.Rows.{put_status}
-use Rattle.srv_session.specs.Tasks.{Task, begin, refuse, get, put, fault_text, heard_putting, Hearing}
+use Rattle.srv_session.specs.Tasks.{Task, begin, refuse, get, nothing_wanted, putting_as, fault_text, reading_part, heard_getting, Hearing}
 use Rattle.srv_session.specs.Calls.{Shown, Takes, Responds, Heeds}
 use Rattle.srv_session.specs.declared.requests.Found.{Found}
 use Rattle.srv_session.specs.declared.session.Session.{Session}
@@ -76,11 +77,18 @@ pub record HasSelected (s : State) (req : ℕ) (ty : Tree) : Type 0 where
   pub here : at s.requests req ≡ Some ask
   pub leaves : HoldsLeaves ty ask.mask
 
--- a request is there, which began on this channel
+-- gets and puts have the type once where they begin
+abbrev pub HasOneType : AskKind → Type 0
+HasOneType kinds.Get = Unit {0}
+HasOneType kinds.Put = Unit {0}
+HasOneType kind = ⊥
+
+-- a request is there, which began on this channel, and is no call
 pub record IsThere (s : State) (sid req : ℕ) (found : Found) : Type 0 where
   pub ask : Asked
   pub here : request_on s sid req ≡ Some (ask, found.channel)
   pub atomic : found.atomic ≡ ask.atomic
+  pub selects : is_call ask.kind ≡ false
 
 -- A row's function was called with the desk at one seat and left it at another; then the sessions, the moment, the
 -- task, and what it answered.
@@ -111,6 +119,11 @@ BeginsOn old new kind req sub sid ty wanted result = (seat : Seat) (channel : Ch
     → ty ≡ type_of seat.seen.base.site channel
     → AnswersBeside seat old new (begin kind req sub sid channel wanted) result
 
+-- A call begins.
+abbrev pub BeginsCall : Session → Session → AskKind → ℕ → ℕ → ℕ → Result (Unit {0}) NoMemory → Type 0
+BeginsCall old new kind req sub sid result = (seat : Seat) (channel : Channel)
+    → AnswersBeside seat old new (begin kind req sub sid channel nothing_wanted) result
+
 -- A request structure is refused for its fault, or memory ran out.
 abbrev pub RefusesFault : Session → Session → AskKind → ℕ → ℕ → RequestFault → Result (Unit {0}) NoMemory → Type 0
 RefusesFault old new kind req sub faults.NoMemory (Ok u) = ⊥
@@ -134,25 +147,34 @@ GetsFrom here there old new kind sid req sub found result =
     (ask : Asked) → request_on (state_of old) sid req ≡ Some (ask, found.channel) → found.atomic ≡ ask.atomic
     → AnswersAnytime here there old new (get kind req sub ask found.channel) result
 
--- What it puts.
-abbrev pub PutsTo : Seat → Seat → Session → Session → Moment → ℕ → ℕ → ℕ → Found → FinSet nat_cmp → Data
+-- What it puts, and then gets if it gets too.
+abbrev pub PutsTo : Bool → Seat → Seat → Session → Session → Moment → ℕ → ℕ → ℕ → Found → FinSet nat_cmp → Data
     → Result (Unit {0}) NoMemory → Type 0
-PutsTo here there old new moment sid req sub found mask value result =
+PutsTo gets here there old new moment sid req sub found mask value result =
     (ask : Asked) → request_on (state_of old) sid req ≡ Some (ask, found.channel) → found.atomic ≡ ask.atomic
-    → AnswersTask here there old new moment (put req sub ask found.channel mask value) result
+    → AnswersTask here there old new moment (putting_as gets req sub ask found.channel mask value) result
 
--- A put that was read is so long that its part has a place.
+-- A put or a put-get that was read is so long that its part has a place.
 abbrev pub HasPlace : Request → ℕ → Type 0
 HasPlace (said.put sid req sub v part) end = part_place ≤ end
+HasPlace (said.put_get sid req sub v part) end = part_place ≤ end
 HasPlace request end = Unit {0}
 
 -- What is heard in the part of its put, and what becomes of that.
-abbrev pub PutsPart : Seat → Seat → Session → Session → Moment → Whole → ℕ → ℕ → ℕ → Found
+abbrev pub PutsPart : Bool → Seat → Seat → Session → Session → Moment → Whole → ℕ → ℕ → ℕ → Found
     → Result (Unit {0}) SessionStop → Type 0
-PutsPart here there old new moment whole sid req sub found result =
+PutsPart gets here there old new moment whole sid req sub found result =
     (ask : Asked) → request_on (state_of old) sid req ≡ Some (ask, found.channel) → found.atomic ≡ ask.atomic
     → HeedsHearing here there old new moment
-    (heard_putting here.seen.base.site whole (state_of old).types req sub (Ok (ask, found.channel))) result
+    (reading_part gets here.seen.base.site whole (state_of old).types req sub (ask, found.channel)) result
+
+-- The same of a put-get, whose bits 40 and 80 are refused.
+abbrev pub PutGetsPart : Seat → Seat → Session → Session → Moment → Whole → ℕ → ℕ → ℕ → Found
+    → Result (Unit {0}) SessionStop → Type 0
+PutGetsPart here there old new moment whole sid req sub found result =
+    (ask : Asked) → request_on (state_of old) sid req ≡ Some (ask, found.channel) → found.atomic ≡ ask.atomic
+    → HeedsHearing here there old new moment
+    (heard_getting here.seen.base.site whole (state_of old).types req sub (Ok (ask, found.channel))) result
 
 -- What is said to a client whose put had this answer, where memory didn't run out.
 abbrev pub IsProblem : Result Done PutAnswer → Result (Option (Bor (List ℕ))) NoMemory → Type 0

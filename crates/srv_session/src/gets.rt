@@ -1,4 +1,5 @@
 // Gets, and what a put's request gets (pvAccess Protocol Specification, "Channel Get" and "Channel Put").
+use crate::asking::type_on;
 use crate::requests::Found;
 use crate::session::Session;
 use chan_table::AskKind;
@@ -15,7 +16,7 @@ impl Session {
     ghost use Rattle.pva_messages.specs.Views.{valued_view};
     ghost use Rattle.pva_messages.specs.Subcommands.{begins};
     ghost use Rattle.srv_session.specs.Calls.{IsOf};
-    ghost use Rattle.srv_session.specs.Replies.{IsServed};
+    ghost use Rattle.srv_session.specs.Replies.{IsServed, is_call};
     ghost use Rattle.srv_session.specs.Tasks.{asked_get, getting, found_for};
     ghost use Rattle.srv_session.specs.Views.{state_of, AnswersAnytime, IsThere, GetsFrom};
 
@@ -52,6 +53,7 @@ impl Session {
     ) -> Result<(), NoMemory>
         requires site { IsOf (D.seat desk.old).seen.base.site (state_of self.old) }
         requires served { IsServed kind }
+        requires call { is_call kind ≡ false }
         requires sub { begins sub ≡ false }
         ensures { AnswersAnytime (D.seat desk.old) (D.seat desk.new) self.old self.new (getting kind req sub (found_for (state_of self.old) kind sid req)) result }
     {
@@ -76,11 +78,12 @@ impl Session {
         requires site { IsOf (D.seat desk.old).seen.base.site (state_of self.old) }
         requires there { IsThere (state_of self.old) sid req found }
         requires served { IsServed kind }
+        requires call { is_call kind ≡ false }
         requires sub { begins sub ≡ false }
         ensures { GetsFrom (D.seat desk.old) (D.seat desk.new) self.old self.new kind sid req sub found result }
     {
         let value = desk.get(alloc, found.channel, found.atomic)?;
-        let ty = desk.type_of(found.channel).unwrap();
+        let ty = type_on(desk, found.channel);
         self.say_selected(kind, req, sub, ty, &value)?;
         self.end_behind(req, sub);
         Ok(())

@@ -161,10 +161,23 @@ impl Session {
             ToServer::Cancel { .. } => stopping(self.pass_over()),
             ToServer::Message { .. } => stopping(self.pass_over()),
             ToServer::Skipped(_) => stopping(self.pass_over()),
-            ToServer::PutGet { .. }
-            | ToServer::Monitor { .. }
-            | ToServer::GetField { .. }
-            | ToServer::Rpc { .. } => Err(SessionStop::NotBuilt),
+            ToServer::PutGet {
+                sid,
+                req,
+                sub,
+                request,
+                ..
+            } => self.answer_put_get(alloc, message, *sid, *req, *sub, request, desk, moment),
+            ToServer::GetField { sid, req, path } => {
+                stopping(self.answer_field(alloc, *sid, *req, path, desk))
+            }
+            ToServer::Rpc {
+                sid,
+                req,
+                sub,
+                argument,
+            } => stopping(self.answer_call(alloc, *sid, *req, *sub, argument, desk)),
+            ToServer::Monitor { .. } => Err(SessionStop::NotBuilt),
         }
     }
 

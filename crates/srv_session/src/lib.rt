@@ -1,10 +1,14 @@
 //! One session of a server: events of a client in, replies out (pvAccess Protocol Specification, "Application Messages").
 #![tactic(auto)]
 
+mod asking;
+mod calls;
 mod channels;
+mod fields;
 mod gets;
 mod handling;
 mod monitors;
+mod put_gets;
 mod puts;
 mod requests;
 mod session;

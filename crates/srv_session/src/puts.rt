@@ -3,6 +3,7 @@ ghost use Rattle.std.specs.Prelude.{◌≡◌};
 ghost use Rattle.srv_session.specs.Rows.{refusal_text};
 ghost use Rattle.srv_session.specs.Views.{IsProblem};
 
+use crate::asking::type_on;
 use crate::handling::stopping;
 use crate::requests::Found;
 use crate::session::Session;
@@ -33,7 +34,7 @@ fn refusal_text(refusal: PutRefusal) -> &'static str
 }
 
 /// What a put's client is told: nothing where it was done, else the text of the problem. Where memory ran out nothing is said.
-fn problem_of(answer: Result<Done, PutAnswer>) -> Result<Option<&'static str>, NoMemory>
+pub(crate) fn problem_of(answer: Result<Done, PutAnswer>) -> Result<Option<&'static str>, NoMemory>
     ensures { IsProblem answer result }
 {
     match answer {
@@ -82,15 +83,16 @@ impl Session {
             return stopping(self.get(alloc, AskKind::Put, sid, req, sub, desk));
         }
         match self.find(AskKind::Put, sid, req) {
-            Ok(found) => self.put_part(alloc, message, sid, req, sub, found, desk, moment),
+            Ok(found) => self.put_part(alloc, false, message, sid, req, sub, found, desk, moment),
             Err(text) => stopping(self.refuse(AskKind::Put, req, sub, text)),
         }
     }
 
-    /// Reads the part of a put, which was left unread, and puts it.
-    fn put_part<D: Desk>(
+    /// Reads the part of a put, which was left unread, and puts it; and then gets, of a put-get.
+    pub(crate) fn put_part<D: Desk>(
         &mut self,
         alloc: Global,
+        gets: bool,
         message: &Lent<'_>,
         sid: u32,
         req: u32,
@@ -103,10 +105,10 @@ impl Session {
         requires there { IsThere (state_of self.old) sid req found }
         requires sub { begins sub ≡ false }
         requires place { part_place ≤ length message.now.payload.now }
-        ensures { PutsPart (D.seat desk.old) (D.seat desk.new) self.old self.new moment (whole_of message.now) sid req sub found result }
+        ensures { PutsPart gets (D.seat desk.old) (D.seat desk.new) self.old self.new moment (whole_of message.now) sid req sub found result }
     {
         desk.has_legal_history();
-        let ty = desk.type_of(found.channel).unwrap();
+        let ty = type_on(desk, found.channel);
         let (mask, value) = read_request_part(
             alloc,
             message.order,
@@ -116,7 +118,36 @@ impl Session {
             &mut self.types,
             ty,
         )?;
-        stopping(self.put(alloc, sid, req, sub, found, &mask, &value, desk, moment))
+        stopping(self.put_as(
+            alloc, gets, sid, req, sub, found, &mask, &value, desk, moment,
+        ))
+    }
+
+    /// Puts the marked leaves of a value at this moment, and then gets, of a put-get.
+    fn put_as<D: Desk>(
+        &mut self,
+        alloc: Global,
+        gets: bool,
+        sid: u32,
+        req: u32,
+        sub: u8,
+        found: Found,
+        mask: &BitSet,
+        value: &PvValue,
+        desk: &mut D,
+        moment: Moment,
+    ) -> Result<(), NoMemory>
+        requires site { IsOf (D.seat desk.old).seen.base.site (state_of self.old) }
+        requires there { IsThere (state_of self.old) sid req found }
+        requires sub { begins sub ≡ false }
+        requires fits { fits_of 16 (view value.now) (type_of (D.seat desk.old).seen.base.site found.channel) ≡ true }
+        requires leaves { HoldsLeaves (type_of (D.seat desk.old).seen.base.site found.channel) mask.now }
+        ensures { PutsTo gets (D.seat desk.old) (D.seat desk.new) self.old self.new moment sid req sub found mask.now (view value.now) result }
+    {
+        if gets {
+            return self.put_get(alloc, sid, req, sub, found, mask, value, desk, moment);
+        }
+        self.put(alloc, sid, req, sub, found, mask, value, desk, moment)
     }
 
     /// Puts the marked leaves of a value at this moment.
@@ -137,7 +168,7 @@ impl Session {
         requires sub { begins sub ≡ false }
         requires fits { fits_of 16 (view value.now) (type_of (D.seat desk.old).seen.base.site found.channel) ≡ true }
         requires leaves { HoldsLeaves (type_of (D.seat desk.old).seen.base.site found.channel) mask.now }
-        ensures { PutsTo (D.seat desk.old) (D.seat desk.new) self.old self.new moment sid req sub found mask.now (view value.now) result }
+        ensures { PutsTo false (D.seat desk.old) (D.seat desk.new) self.old self.new moment sid req sub found mask.now (view value.now) result }
     {
         let answer = desk.put(alloc, found.channel, mask, value, moment, found.atomic);
         let problem = problem_of(answer)?;

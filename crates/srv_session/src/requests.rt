@@ -1,10 +1,11 @@
 // Requests that begin and end (pvAccess Protocol Specification, "Application Messages").
+use crate::asking::{is_call, root_for, type_on, unfit};
 use crate::session::Session;
 use crate::subcommand::ends;
 use chan_table::{Ask, AskKind, TableAnswer};
 use desk_api::{Channel, Desk};
-use pvd_request::{Request, RequestFault, Root, read_request};
-use pvd_type::{Name, NoMemory, PvType};
+use pvd_request::{Request, RequestFault, read_request};
+use pvd_type::{BitSet, Name, NoMemory, PvType};
 use pvd_value::PvValue;
 use std::alloc::Global;
 
@@ -16,7 +17,7 @@ pub(crate) struct Found {
 }
 
 impl Session {
-    ghost use Rattle.std.specs.Prelude.{◌≡◌, ◌≢◌, ◌++◌, false, true, IfSome, IsTrue, Some, codes};
+    ghost use Rattle.std.specs.Prelude.{◌≡◌, ◌≢◌, ◌++◌, false, true, IfSome, IsTrue, None, Some, codes};
     ghost use Rattle.std.specs.FinMap.{get as at};
     ghost use Rattle.chan_table.specs.Tables.{IsReady};
     ghost use Rattle.std.specs.FinSet as set;
@@ -24,17 +25,16 @@ impl Session {
     ghost use Rattle.pvd_value.specs.View.{view};
     ghost use Rattle.pva_messages.specs.Subcommands.{begins};
     ghost use Rattle.pva_messages.specs.Views.{valued_view};
-    ghost use Rattle.pvd_request.specs.Requests.{request_of};
-    ghost use Rattle.pvd_request.specs.declared.request.Root.TheVariants as roots;
-    ghost use Rattle.desk_api.specs.Sites.{is_channel};
+    ghost use Rattle.chan_table.specs.declared.ask.AskKind.TheVariants as kinds;
+    ghost use Rattle.desk_api.specs.Sites.{is_channel, has_values};
     ghost use Rattle.desk_api.specs.Types.{type_of};
     ghost use Rattle.srv_session.specs.State.{channel_at, is_on};
     ghost use Rattle.srv_session.specs.Calls.{IsOf};
-    ghost use Rattle.srv_session.specs.Replies.{IsServed, refused};
+    ghost use Rattle.srv_session.specs.Replies.{IsServed, is_call, refused};
     ghost use Rattle.srv_session.specs.Rows.{behind};
     ghost use Rattle.srv_session.specs.Tasks as task;
-    ghost use Rattle.srv_session.specs.Tasks.{beginning, beginning_as, found_for, asked_request_end};
-    ghost use Rattle.srv_session.specs.Views.{state_of, output_of, AnswersAlone, AnswersBeside, BeginsOn, RefusesFault, RefusesPlace, IsFound};
+    ghost use Rattle.srv_session.specs.Tasks.{beginning, beginning_as, beginning_on, nothing_wanted, unfit, wanted_for, found_for, asked_request_end};
+    ghost use Rattle.srv_session.specs.Views.{state_of, output_of, AnswersAlone, AnswersBeside, BeginsOn, BeginsCall, RefusesFault, RefusesPlace, IsFound};
 
     /// Says why a message about a request is refused.
     pub(crate) fn refuse(
@@ -111,10 +111,91 @@ impl Session {
         requires served { IsServed kind }
         requires begins { begins sub ≡ true }
         requires fits { IfSome request.now (λ r. fits_of 16 (view r.1) r.0 ≡ true) }
-        ensures { AnswersBeside (D.seat desk.now) self.old self.new (beginning_as kind req sub sid channel (request_of (type_of (D.seat desk.now).seen.base.site channel) roots.Field (valued_view request.now))) result }
+        ensures { AnswersBeside (D.seat desk.now) self.old self.new (beginning_on (D.seat desk.now).seen.base.site kind req sub sid (valued_view request.now) channel (unfit kind channel)) result }
     {
-        let ty = desk.type_of(channel).unwrap();
-        match read_request(alloc, ty, request.as_ref(), Root::Field) {
+        match unfit(kind, channel) {
+            Some(text) => self.refuse(kind, req, sub, text),
+            None => self.begin_fit(alloc, kind, sid, channel, req, sub, request, desk),
+        }
+    }
+
+    /// Begins a request on a channel that is fit for it.
+    fn begin_fit<D: Desk>(
+        &mut self,
+        alloc: Global,
+        kind: AskKind,
+        sid: u32,
+        channel: Channel,
+        req: u32,
+        sub: u8,
+        request: &Option<(PvType, PvValue)>,
+        desk: &D,
+    ) -> Result<(), NoMemory>
+        requires channel { IsTrue (is_channel (D.seat desk.now).seen.base.site channel) }
+        requires fit { unfit kind channel ≡ None }
+        requires room { IsReady self.old.table req }
+        requires served { IsServed kind }
+        requires begins { begins sub ≡ true }
+        requires fits { IfSome request.now (λ r. fits_of 16 (view r.1) r.0 ≡ true) }
+        ensures { AnswersBeside (D.seat desk.now) self.old self.new (beginning_as kind req sub sid channel (wanted_for kind (type_of (D.seat desk.now).seen.base.site channel) (valued_view request.now))) result }
+    {
+        if is_call(kind) {
+            return self.begin_call(alloc, kind, sid, req, sub);
+        }
+        self.begin_valued(alloc, kind, sid, channel, req, sub, request, desk)
+    }
+
+    /// Begins a call of the service. It selects nothing.
+    fn begin_call(
+        &mut self,
+        alloc: Global,
+        kind: AskKind,
+        sid: u32,
+        req: u32,
+        sub: u8,
+    ) -> Result<(), NoMemory>
+        requires room { IsReady self.old.table req }
+        requires call { is_call kind ≡ true }
+        requires begins { begins sub ≡ true }
+        ensures { BeginsCall self.old self.new kind req sub sid result }
+    {
+        self.say_answer(kind, req, sub, None)?;
+        let ask = Ask {
+            sid,
+            kind,
+            mask: BitSet::new(alloc),
+            atomic: None,
+            sub: None,
+            window: None,
+            started: false,
+        };
+        self.table.add(req, ask);
+        Ok(())
+    }
+
+    /// Begins a request for values on this channel, which has some, and for which there is room.
+    fn begin_valued<D: Desk>(
+        &mut self,
+        alloc: Global,
+        kind: AskKind,
+        sid: u32,
+        channel: Channel,
+        req: u32,
+        sub: u8,
+        request: &Option<(PvType, PvValue)>,
+        desk: &D,
+    ) -> Result<(), NoMemory>
+        requires channel { IsTrue (is_channel (D.seat desk.now).seen.base.site channel) }
+        requires valued { IsTrue (has_values channel) }
+        requires room { IsReady self.old.table req }
+        requires served { IsServed kind }
+        requires call { is_call kind ≡ false }
+        requires begins { begins sub ≡ true }
+        requires fits { IfSome request.now (λ r. fits_of 16 (view r.1) r.0 ≡ true) }
+        ensures { AnswersBeside (D.seat desk.now) self.old self.new (beginning_as kind req sub sid channel (wanted_for kind (type_of (D.seat desk.now).seen.base.site channel) (valued_view request.now))) result }
+    {
+        let ty = type_on(desk, channel);
+        match read_request(alloc, ty, request.as_ref(), root_for(kind)) {
             Ok(wanted) => self.begin_as(kind, sid, req, sub, ty, wanted),
             Err(fault) => self.refuse_fault(alloc, kind, req, sub, &fault),
         }
@@ -168,6 +249,7 @@ impl Session {
     ) -> Result<(), NoMemory>
         requires room { IsReady self.old.table req }
         requires served { IsServed kind }
+        requires call { is_call kind ≡ false }
         requires begins { begins sub ≡ true }
         ensures { BeginsOn self.old self.new kind req sub sid ty.now wanted result }
     {

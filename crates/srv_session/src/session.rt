@@ -6,7 +6,10 @@ ghost use Rattle.srv_session.specs.State.{buffer_for, segment_for, opening};
 ghost use Rattle.pva_messages.specs.Rows.{byte_of};
 ghost use Rattle.srv_session.specs.Replies.{methods, greeting, command_of_kind};
 
-use crate::writing::{write_answer, write_created, write_destroyed, write_validated, write_value};
+use crate::writing::{
+    write_answer, write_both_types, write_created, write_destroyed, write_field_refusal,
+    write_field_type, write_result, write_validated, write_value,
+};
 use chan_table::{AskKind, Table};
 use desk_api::Channel;
 use pva_frames::{write_control, write_message};
@@ -99,11 +102,12 @@ impl Session {
     ghost use Rattle.pva_messages.specs.Replies as reply;
     ghost use Rattle.pva_messages.specs.Subcommands.{begins};
     ghost use Rattle.pva_messages.specs.Views.{reply_view};
-    ghost use Rattle.srv_session.specs.Replies.{CanSay, IsServed, spelled, spelled_all, said, control, greetings, outcome, answered, begun, got};
+    ghost use Rattle.srv_session.specs.Replies.{CanSay, IsServed, spelled, spelled_all, said, control, greetings, outcome, is_call, answered, begun, got, called, field_told, field_refused};
     ghost use Rattle.desk_api.specs.declared.history.SiteData.{SiteData};
     ghost use Rattle.srv_session.specs.Calls.{IsOf};
     ghost use Rattle.srv_session.specs.State.{Asked};
-    ghost use Rattle.srv_session.specs.Views.{state_of, output_of, Keeps, HasSelected};
+    ghost use Rattle.srv_session.specs.Views.{state_of, output_of, Keeps, HasSelected, HasOneType};
+    ghost use Rattle.chan_table.specs.declared.ask.AskKind.TheVariants as kinds;
 
     /// A session that has said nothing yet.
     fn silent(alloc: Global, order: Order) -> Result<Session, NoMemory>
@@ -215,6 +219,7 @@ impl Session {
         ensures ok { OnOk result (output_of self.new ≡ output_of self.old ++ message_bytes self.old.order true (byte_of command) self.old.payload.items self.old.segment) }
         ensures err { OnErr result (output_of self.new ≡ output_of self.old) }
         ensures keeps { Keeps self.old self.new }
+        ensures table { self.new.table ≡ self.old.table }
     {
         write_message(
             &mut self.output,
@@ -265,7 +270,8 @@ impl Session {
         self.say_payload(Command::DestroyChannel)
     }
 
-    /// Adds the reply to a message about a request: OK, or the text of the problem, and nothing beside.
+    /// Adds the reply to a message about a request: OK, or the text of the problem, and nothing beside. OK alone is said to no
+    /// beginning but that of a call.
     pub(crate) fn say_answer(
         &mut self,
         kind: AskKind,
@@ -274,17 +280,18 @@ impl Session {
         problem: Option<&str>,
     ) -> Result<(), NoMemory>
         requires served { IsServed kind }
-        requires sub { IfNone problem (begins sub ≡ false) }
+        requires sub { IfNone problem (begins sub ≡ is_call kind) }
         ensures state { state_of self.new ≡ state_of self.old }
         ensures ok { OnOk result (output_of self.new ≡ output_of self.old ++ spelled self.old.order self.old.segment (said (answered kind req sub (outcome (option_map (λ t. t.now) problem.entry))))) }
         ensures err { OnErr result (output_of self.new ≡ output_of self.old) }
+        ensures table { self.new.table ≡ self.old.table }
     {
         self.payload.clear();
         write_answer(&mut self.payload, self.order, req, sub, problem)?;
         self.say_payload(command_of(kind))
     }
 
-    /// Adds the reply that a request begins on a channel of this type.
+    /// Adds the reply that a request, which isn't a call, begins on a channel of this type.
     pub(crate) fn say_begun(
         &mut self,
         kind: AskKind,
@@ -293,6 +300,38 @@ impl Session {
         ty: &PvType,
     ) -> Result<(), NoMemory>
         requires served { IsServed kind }
+        requires call { is_call kind ≡ false }
+        requires begins { begins sub ≡ true }
+        ensures state { state_of self.new ≡ state_of self.old }
+        ensures table { self.new.table ≡ self.old.table }
+        ensures ok { OnOk result (output_of self.new ≡ output_of self.old ++ spelled self.old.order self.old.segment (said (begun kind req sub ty.now))) }
+        ensures err { OnErr result (output_of self.new ≡ output_of self.old) }
+    {
+        match kind {
+            AskKind::PutGet => self.say_both_types(req, sub, ty),
+            AskKind::Get => self.say_type(kind, req, sub, ty),
+            AskKind::Put => self.say_type(kind, req, sub, ty),
+            AskKind::Rpc => self.say_type(kind, req, sub, ty),
+            AskKind::Monitor => self.say_type(kind, req, sub, ty),
+        }
+    }
+
+    /// Adds the reply that a put-get begins on a channel of this type.
+    fn say_both_types(&mut self, req: u32, sub: u8, ty: &PvType) -> Result<(), NoMemory>
+        requires begins { begins sub ≡ true }
+        ensures state { state_of self.new ≡ state_of self.old }
+        ensures table { self.new.table ≡ self.old.table }
+        ensures ok { OnOk result (output_of self.new ≡ output_of self.old ++ spelled self.old.order self.old.segment (said (begun kinds.PutGet req sub ty.now))) }
+        ensures err { OnErr result (output_of self.new ≡ output_of self.old) }
+    {
+        self.payload.clear();
+        write_both_types(&mut self.payload, self.order, req, sub, ty)?;
+        self.say_payload(Command::PutGet)
+    }
+
+    /// Adds the reply that a get or a put begins on a channel of this type.
+    fn say_type(&mut self, kind: AskKind, req: u32, sub: u8, ty: &PvType) -> Result<(), NoMemory>
+        requires kind { HasOneType kind }
         requires begins { begins sub ≡ true }
         ensures state { state_of self.new ≡ state_of self.old }
         ensures table { self.new.table ≡ self.old.table }
@@ -321,6 +360,7 @@ impl Session {
     ) -> Result<(), NoMemory>
         requires there { HasSelected (state_of self.old) req ty.now }
         requires served { IsServed kind }
+        requires call { is_call kind ≡ false }
         requires sub { begins sub ≡ false }
         requires fits { fits_of 16 (view value.now) ty.now ≡ true }
         ensures state { state_of self.new ≡ state_of self.old }
@@ -339,5 +379,52 @@ impl Session {
             &ask.mask,
             value,
         )
+    }
+
+    /// Adds the reply that brings the result of a call.
+    pub(crate) fn say_result(
+        &mut self,
+        req: u32,
+        sub: u8,
+        ty: &PvType,
+        value: &PvValue,
+    ) -> Result<(), NoMemory>
+        requires sub { begins sub ≡ false }
+        requires fits { fits_of 16 (view value.now) ty.now ≡ true }
+        ensures state { state_of self.new ≡ state_of self.old }
+        ensures ok { OnOk result (output_of self.new ≡ output_of self.old ++ spelled self.old.order self.old.segment (said (called req sub ty.now (view value.now)))) }
+        ensures err { OnErr result (output_of self.new ≡ output_of self.old) }
+    {
+        write_result(
+            &mut self.output,
+            self.order,
+            self.segment,
+            req,
+            sub,
+            ty,
+            value,
+        )
+    }
+
+    /// Adds the reply that tells the type of a field.
+    pub(crate) fn say_field_type(&mut self, req: u32, ty: &PvType) -> Result<(), NoMemory>
+        ensures state { state_of self.new ≡ state_of self.old }
+        ensures ok { OnOk result (output_of self.new ≡ output_of self.old ++ spelled self.old.order self.old.segment (said (field_told req ty.now))) }
+        ensures err { OnErr result (output_of self.new ≡ output_of self.old) }
+    {
+        self.payload.clear();
+        write_field_type(&mut self.payload, self.order, req, ty)?;
+        self.say_payload(Command::GetField)
+    }
+
+    /// Adds the reply that says why the type of a field isn't told.
+    pub(crate) fn say_field_refusal(&mut self, req: u32, text: &str) -> Result<(), NoMemory>
+        ensures state { state_of self.new ≡ state_of self.old }
+        ensures ok { OnOk result (output_of self.new ≡ output_of self.old ++ spelled self.old.order self.old.segment (said (field_refused req text.now))) }
+        ensures err { OnErr result (output_of self.new ≡ output_of self.old) }
+    {
+        self.payload.clear();
+        write_field_refusal(&mut self.payload, self.order, req, text)?;
+        self.say_payload(Command::GetField)
     }
 }

@@ -1,7 +1,7 @@
 // The bits of a subcommand (pvAccess Protocol Specification, "Application Messages").
 ghost use Rattle.std.specs.Prelude.{◌≡◌, ◌<◌};
 ghost use Rattle.pvd_type.specs.Sets.{bit};
-ghost use Rattle.pva_messages.specs.Subcommands.{ends, asks_back};
+ghost use Rattle.pva_messages.specs.Subcommands.{ends, asks_back, counts};
 
 /// Whether a subcommand has the bit of this place.
 fn has(sub: u8, place: u32) -> bool
@@ -23,4 +23,11 @@ pub(crate) fn asks_back(sub: u8) -> bool
     ensures { result ≡ asks_back sub }
 {
     has(sub, 6)
+}
+
+/// Bit 80: a count of updates follows.
+pub(crate) fn counts(sub: u8) -> bool
+    ensures { result ≡ counts sub }
+{
+    has(sub, 7)
 }

@@ -129,7 +129,7 @@ passed_lent old told v stream piece whole legal sound x =
 pub moments_told : (told : Option (ℤ × ℕ)) (moment : Moment) (marks : List Mark) → IfSome told (λ t. moment ≡ record { seconds = t.0; nanoseconds = t.1 }) → HaveMoment (Some moment) marks → HaveMoment (moment_told told) marks
 moments_told None moment [] is h = tt
 moments_told None moment (Read at channel footprint found ∷ marks) is h = (tt, moments_told None moment marks is h.1)
-moments_told None moment (Entered at entry ∷ marks) is h = (tt, moments_told None moment marks is h.1)
+moments_told None moment (Entered at entry looked found ∷ marks) is h = (tt, moments_told None moment marks is h.1)
 moments_told None moment (Overweight at footprint actions kept added limit ∷ marks) is h = (tt, moments_told None moment marks is h.1)
 moments_told (Some t) moment marks is h = subst (λ (m : Moment). HaveMoment (Some m) marks) is h
 

@@ -1,6 +1,8 @@
 //! One connection, from the bytes that a client sends to those that the server answers.
 #![tactic(auto)]
 
+#[cfg(test)]
+mod call_tests;
 mod ended;
 mod laws;
 mod serve;

@@ -128,13 +128,29 @@ fn desk_of(alloc: Global, text: &str) -> Result<SoloDesk<MemoryPort>, NoMemory> 
     SoloDesk::new(alloc, site, ports, LIMIT)
 }
 
-/// What a serving of these records says to an input that comes at 100 seconds and 5 nanoseconds.
-fn said(alloc: Global, text: &str, input: &[u8]) -> Result<(Result<(), Ended>, Vec<u8>), NoMemory> {
+/// What a serving of this desk says to an input that comes at 100 seconds and 5 nanoseconds.
+fn said_over(
+    alloc: Global,
+    desk: &mut SoloDesk<MemoryPort>,
+    input: &[u8],
+) -> Result<(Result<(), Ended>, Vec<u8>), NoMemory> {
     let mut serving = Serving::start(alloc, Order::Little)?;
+    let ended = serving.feed(alloc, desk, input, Moment::new(100, 5));
+    let output = Vec::from_slice(alloc, serving.output());
+    discard(serving);
+    Ok((ended, output?))
+}
+
+/// What a serving of these records says to that input.
+pub(crate) fn said(
+    alloc: Global,
+    text: &str,
+    input: &[u8],
+) -> Result<(Result<(), Ended>, Vec<u8>), NoMemory> {
     let mut desk = desk_of(alloc, text)?;
-    let ended = serving.feed(alloc, &mut desk, input, Moment::new(100, 5));
+    let said = said_over(alloc, &mut desk, input);
     discard(desk);
-    Ok((ended, Vec::from_slice(alloc, serving.output())?))
+    said
 }
 
 /// A client that gets the group's member b alone, puts 10, 20 and 30 to its members, and gets b again.
@@ -302,29 +318,40 @@ fn a_put_by_another_channel_is_refused(rt: HostRuntime) -> Result<(), Fail> {
 }
 
 /// A message in little endian.
-fn message(alloc: Global, command: u8, payload: &[u8]) -> Result<Event, NoMemory> {
-    Ok(Event::Message(Whole {
+fn message(command: u8, payload: Vec<u8>) -> Event {
+    Event::Message(Whole {
         order: Order::Little,
         command,
-        payload: Payload::of(Vec::from_slice(alloc, payload)?),
+        payload: Payload::of(payload),
         place: 0,
-    }))
+    })
 }
 
-/// What a session of the record X says to a validation, once the greeting is taken, and whether a pump then finds something.
+/// What a session over this desk says to the payload of a validation, once the greeting is taken, and whether a pump then finds
+/// something.
+fn handled_over(
+    alloc: Global,
+    desk: &mut SoloDesk<MemoryPort>,
+    payload: Vec<u8>,
+) -> Result<(Result<(), SessionStop>, Vec<u8>, Result<bool, NoMemory>), NoMemory> {
+    let mut session = Session::start(alloc, Order::Little)?;
+    session.took(session.output().len());
+    let answer = session.handle(alloc, message(1, payload), desk, Moment::new(100, 5));
+    let output = Vec::from_slice(alloc, session.output());
+    let more = session.pump(desk);
+    session.finish(desk);
+    Ok((answer, output?, more))
+}
+
+/// The same of a session of the record X.
 fn handled(
     alloc: Global,
 ) -> Result<(Result<(), SessionStop>, Vec<u8>, Result<bool, NoMemory>), NoMemory> {
-    let event = message(alloc, 1, &VALIDATION[8..])?;
-    let mut session = Session::start(alloc, Order::Little)?;
+    let payload = Vec::from_slice(alloc, &VALIDATION[8..])?;
     let mut desk = desk_of(alloc, PROCESSED)?;
-    session.took(session.output().len());
-    let answer = session.handle(alloc, event, &mut desk, Moment::new(100, 5));
-    let output = Vec::from_slice(alloc, session.output());
-    let more = session.pump(&mut desk);
-    session.finish(&mut desk);
+    let handled = handled_over(alloc, &mut desk, payload);
     discard(desk);
-    Ok((answer, output?, more))
+    handled
 }
 
 #[test]

@@ -2,7 +2,7 @@ use Rattle.std.proofs.Common.{◌≡◌, ◌<◌, ℕ, IsTrue, length, sym, ◌�
 use Rattle.std.proofs.lemmas.Bool.{ltb-true}
 use Rattle.desk_api.specs.Sites.{is_channel, is_channel_of}
 use Rattle.desk_api.specs.declared.channel.ChannelKind.{ChannelKind}
-use Rattle.desk_api.specs.declared.channel.ChannelKind.TheVariants.{Rec, Desc, Group}
+use Rattle.desk_api.specs.declared.channel.ChannelKind.TheVariants.{Rec, Desc, Group, Service}
 use Rattle.desk_api.specs.declared.history.SiteData.{SiteData}
 use Rattle.desk_core.proofs.tests.port_of.Goals as goal
 
@@ -11,6 +11,7 @@ of_record : (site : SiteData) (kind : ChannelKind) (number : ℕ) → kind ≡ R
 of_record site Rec number is there = ltb-true number (length site.names) there
 of_record site Desc number is there = ltb-true number (length site.names) there
 of_record site Group number is there = absurd (cc is)
+of_record site Service number is there = absurd (cc is)
 
 pub port-requires : goal.port-requires
 port-requires c =

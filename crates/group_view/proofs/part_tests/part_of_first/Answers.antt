@@ -14,8 +14,8 @@ first_kept : (states : List RecState) → slice_get states 0 ≡ slice_get (take
 first_kept [] = refl
 first_kept (s ∷ ss) = refl
 
-pub view_part-requires : goal.view_part-requires
-view_part-requires c =
+pub over_blank-requires : goal.over_blank-requires
+over_blank-requires c =
     let g = c.args.group.now in
     let states = c.args.states.now in
     let configs = configs_seen c.args.configs.now in

@@ -1,8 +1,8 @@
-use Rattle.std.proofs.Common.{◌≡◌, ◌<◌, sym, ◌∙◌, ap, subst}
+use Rattle.std.proofs.Common.{◌<◌, sym, ◌∙◌, ap, subst}
 use Rattle.std.specs.FinMap.{len}
 use Rattle.chan_table.specs.Tables.{Tables}
 use Rattle.desk_api.specs.declared.channel.Channel.{Channel}
-use Rattle.srv_session.specs.State.{Channels, Requests, without_channel}
+use Rattle.srv_session.specs.State.{Requests, without_channel}
 use Rattle.srv_session.proofs.Tables.{fewer, sid_is_on, sid_not_on, taken_first, none_on}
 use Rattle.srv_session.proofs.channels.end_requests_on.Goals as goal
 

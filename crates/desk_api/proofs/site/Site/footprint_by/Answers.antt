@@ -1,30 +1,8 @@
-use Rattle.std.specs.Prelude.{◌≡◌, ◌||◌, ℕ, Bool, List, length, take}
-use Rattle.std.proofs.Common.{sym, ◌∙◌, ap, arith}
-use Rattle.std.proofs.Math.Seq.{take-length}
-use Rattle.rec_kinds.specs.declared.datum.Action.{Action}
-use Rattle.desk_api.proofs.Holding.{held_last, is_footprint}
-use Rattle.desk_api.proofs.Stating.{next_taken, there}
-use Rattle.desk_api.specs.Grouping.{is_among}
-use Rattle.desk_api.specs.Puts.{is_held, is_held_with}
+use Rattle.std.specs.Prelude.{◌≡◌, ℕ, List, IfOk}
+use Rattle.std.proofs.Common.{subst}
+use Rattle.desk_api.proofs.Holding.{looks_at_none}
 use Rattle.desk_api.proofs.site.Site.footprint_by.Goals as goal
-
-pub loop-rec-init : goal.loop-rec-init
-loop-rec-init c = λ n. ap (λ (l : List ℕ). is_among l n) (c.in_ok-found.ensures {u = tt}).items
-
-pub loop-rec-preserved : goal.loop-rec-preserved
-loop-rec-preserved c = λ n.
-    let actions = c.args.actions.now in
-    let i = c.loop-rec.rec-index in
-    let at = there actions i c.loop-rec-item.result c.loop-rec-test.true c.loop-rec-item.is in
-    (c.in_ok-add_held.ensures {u = tt}) n
-    ∙ ap (λ (b : Bool). b || is_held_with c.args.self.now n c.loop-rec-item.result.0) (c.loop-rec.invariant n)
-    ∙ sym (held_last c.args.self.now (take i actions) c.loop-rec-item.result n)
-    ∙ ap (λ (l : List (ℕ × Action)). is_held c.args.self.now l n) (sym (next_taken actions i c.loop-rec-item.result at))
 
 pub returns : goal.returns
 returns c =
-    let actions = c.args.actions.now in
-    let end : c.loop-rec.rec-index ≡ length actions = omega (arith, c.loop-rec-test.false, c.loop-rec.auto.rec-index-end) in
-    let whole : take c.loop-rec.rec-index actions ≡ actions = ap (λ (n : ℕ). take n actions) end ∙ take-length actions in
-    is_footprint c.args.self.now actions c.in_rising_order.new.numbers.items c.are_over.ensures c.requires c.in_rising_order.ensures.rises
-    (λ n. c.in_rising_order.ensures.same n ∙ c.loop-rec.invariant n ∙ ap (λ (l : List (ℕ × Action)). is_held c.args.self.now l n) whole)
+    subst (λ (l : List ℕ). IfOk c.footprint_with.result (λ recs. recs.items ≡ l)) (looks_at_none c.args.self.now c.args.actions.now) c.footprint_with.ensures

@@ -66,7 +66,7 @@ returns-in-Err-clause-put g c =
     (alone_many actions done count c.loop-action.invariant.count so_far c.in-Some.action at)
     (alone_next actions done count c.loop-action.invariant.count so_far c.in-Some.action at)
     c.in-Err.answer
-    (subst (λ (x : Terms × List (ℕ × Action)). IsPutNow x.0.site c.args.moment x.1 count c.loop-action.self.log c.put_entry.new.self.log mid new (Err c.in-Err.answer)) (λ i. (c.loop-action.invariant.terms i, (c.in-Ok.ensures {u = tt}) i))
+    (subst (λ (x : Terms × List (ℕ × Action)). IsPutNow x.0.site c.args.moment x.1 [] [] count c.loop-action.self.log c.put_entry.new.self.log mid new (Err c.in-Err.answer)) (λ i. (c.loop-action.invariant.terms i, (c.in-Ok.ensures {u = tt}) i))
     (c.in-Err.ensures {u = tt}).put)
 
 pub loop-action-preserved : goal.loop-action-preserved
@@ -79,8 +79,8 @@ loop-action-preserved g c =
     let mid = ports_of g.P.Port.port c.loop-action.self in
     let new = ports_of g.P.Port.port c.put_entry.new.self in
     let place = c.in-Ok-put_entry.field-0 in
-    let step : IsAddedNow site c.args.moment (c.in-Some.action ∷ []) c.loop-action.self.log t mid new place =
-    subst (λ (x : Terms × List (ℕ × Action)). IsPutNow x.0.site c.args.moment x.1 c.loop-action.count c.loop-action.self.log t mid new (Ok place)) (λ i. (c.loop-action.invariant.terms i, (c.in-Ok.ensures {u = tt}) i))
+    let step : IsAddedNow site c.args.moment (c.in-Some.action ∷ []) [] [] c.loop-action.self.log t mid new place =
+    subst (λ (x : Terms × List (ℕ × Action)). IsPutNow x.0.site c.args.moment x.1 [] [] c.loop-action.count c.loop-action.self.log t mid new (Ok place)) (λ i. (c.loop-action.invariant.terms i, (c.in-Ok.ensures {u = tt}) i))
     (c.in-Ok-put_entry.ensures {u = tt}).put in record {
       begun = subst (λ (l : List (List (ℕ × Action))). AreBegun site c.args.moment l s t old new) (sym (map-append alone done (c.in-Some.action ∷ [])))
           (more_begun site c.args.moment (map alone done) (c.in-Some.action ∷ []) s c.loop-action.self.log t old mid new place c.loop-action.invariant.begun step);

@@ -1,4 +1,4 @@
-use Rattle.std.proofs.Common.{ℕ, List, Ok, Err, map, option_map, sym, subst, ap, ◌∙◌}
+use Rattle.std.proofs.Common.{ℕ, List, [], Ok, Err, refl, map, option_map, sym, subst, ap, ◌∙◌}
 use Rattle.rec_kinds.specs.declared.state.RecState.{RecState}
 use Rattle.journal_core.specs.Histories.{WritesWithin}
 use Rattle.journal_core.specs.Legality.{AreValid}
@@ -32,11 +32,11 @@ invariant_of-self-in-Ok-enter g c =
     let d = c.args.self.now in
     let base = base_of d.terms in
     let drafted = (c.in-Ok.ensures {u = tt}).drafted in
-    let inside = c.entries_write_inside.ensures in
+    let inside = c.entries_write_inside.ensures.put_gets in
     let e = c.in-Ok-enter.ensures {u = tt} in record {
-      stands = put_stands inside base _ _ d.history d.log d.stands d.legal d.valid _ _ _ _ c.in-Ok.entry _ drafted c.args.done c.enter.new.history c.enter.new.log _ e;
-      legal = put_legal inside base _ _ d.history d.log d.stands d.legal d.valid _ _ _ _ c.in-Ok.entry _ drafted c.args.done c.enter.new.history c.enter.new.log _ e;
-      valid = put_valid inside base _ _ d.history d.log d.stands d.legal d.valid _ _ _ _ c.in-Ok.entry _ drafted c.args.done c.enter.new.history c.enter.new.log _ e;
+      stands = put_stands inside base _ _ d.history d.log d.stands d.legal d.valid _ _ _ [] [] _ c.in-Ok.entry _ drafted refl c.args.done c.enter.new.history c.enter.new.log _ e;
+      legal = put_legal inside base _ _ d.history d.log d.stands d.legal d.valid _ _ _ [] [] _ c.in-Ok.entry _ drafted refl c.args.done c.enter.new.history c.enter.new.log _ e;
+      valid = put_valid inside base _ _ d.history d.log d.stands d.legal d.valid _ _ _ [] [] _ c.in-Ok.entry _ drafted refl c.args.done c.enter.new.history c.enter.new.log _ e;
       ported = ported g.P.Port.port d.terms.site.configs d.cells.ports.items d.ported c.draft.new.self.ports.items (stay_driven _ _ c.in-Ok.entry.drove c.in-Ok.entry.writes drafted.done.driven);
     }
 
@@ -50,11 +50,11 @@ invariant_of-self-in-Err g c =
     let d = c.args.self.now in
     let base = base_of d.terms in
     let drafted = (c.in-Ok.ensures {u = tt}).drafted in
-    let inside = c.entries_write_inside.ensures in
+    let inside = c.entries_write_inside.ensures.put_gets in
     let e = c.in-Err.ensures {u = tt} in record {
-      stands = refused_stands inside base _ _ d.history d.log d.stands d.legal d.valid _ _ _ _ c.in-Ok.entry _ drafted c.restore.new.self.states.items c.restore.ensures.states c.enter.new.history c.enter.new.log c.args.done c.in-Err.answer e;
-      legal = refused_legal inside base _ _ d.history d.log d.stands d.legal d.valid _ _ _ _ c.in-Ok.entry _ drafted c.enter.new.history c.enter.new.log c.args.done c.in-Err.answer e;
-      valid = back_valid inside base _ _ d.history d.log d.stands d.legal d.valid _ _ _ _ c.in-Ok.entry _ drafted c.restore.new.self.states.items c.restore.ensures.states;
+      stands = refused_stands inside base _ _ d.history d.log d.stands d.legal d.valid _ _ _ [] [] _ c.in-Ok.entry _ drafted refl c.restore.new.self.states.items c.restore.ensures.states c.enter.new.history c.enter.new.log c.args.done c.in-Err.answer e;
+      legal = refused_legal inside base _ _ d.history d.log d.stands d.legal d.valid _ _ _ [] [] _ c.in-Ok.entry _ drafted refl c.enter.new.history c.enter.new.log c.args.done c.in-Err.answer e;
+      valid = back_valid inside base _ _ d.history d.log d.stands d.legal d.valid _ _ _ [] [] _ c.in-Ok.entry _ drafted refl c.restore.new.self.states.items c.restore.ensures.states;
       ported = ported g.P.Port.port d.terms.site.configs d.cells.ports.items d.ported c.restore.new.self.ports.items
           (ap ports_there (ap (map (option_map g.P.Port.port)) c.restore.ensures.ports) ∙ stay_driven _ _ c.in-Ok.entry.drove c.in-Ok.entry.writes drafted.done.driven);
     }
@@ -63,11 +63,11 @@ pub returns-in-Ok-enter-clause-put : goal.returns-in-Ok-enter-clause-put
 returns-in-Ok-enter-clause-put g c =
     let d = c.args.self.now in
     let drafted = (c.in-Ok.ensures {u = tt}).drafted in
-    draft_put c.entries_write_inside.ensures (base_of d.terms) _ _ d.history d.log d.stands d.legal d.valid _ _ _ _ c.in-Ok.entry _ drafted c.args.done c.enter.new.history c.enter.new.log (Ok c.in-Ok-enter.place) (c.in-Ok-enter.ensures {u = tt})
+    draft_put c.entries_write_inside.ensures.put_gets (base_of d.terms) _ _ d.history d.log d.stands d.legal d.valid _ _ _ [] [] _ c.in-Ok.entry _ drafted refl c.args.done c.enter.new.history c.enter.new.log (Ok c.in-Ok-enter.place) (c.in-Ok-enter.ensures {u = tt})
 
 pub returns-in-Err-clause-put : goal.returns-in-Err-clause-put
 returns-in-Err-clause-put g c =
     let d = c.args.self.now in
     let drafted = (c.in-Ok.ensures {u = tt}).drafted in
-    subst (λ (p : Ports). IsPutNow d.terms.site c.args.moment c.args.actions.items c.args.done d.log c.enter.new.log (map (option_map g.P.Port.port) d.cells.ports.items) p (Err c.in-Err.answer)) (sym (ap (map (option_map g.P.Port.port)) c.restore.ensures.ports))
-    (draft_put c.entries_write_inside.ensures (base_of d.terms) _ _ d.history d.log d.stands d.legal d.valid _ _ _ _ c.in-Ok.entry _ drafted c.args.done c.enter.new.history c.enter.new.log (Err c.in-Err.answer) (c.in-Err.ensures {u = tt}))
+    subst (λ (p : Ports). IsPutNow d.terms.site c.args.moment c.args.actions.items [] [] c.args.done d.log c.enter.new.log (map (option_map g.P.Port.port) d.cells.ports.items) p (Err c.in-Err.answer)) (sym (ap (map (option_map g.P.Port.port)) c.restore.ensures.ports))
+    (draft_put c.entries_write_inside.ensures.put_gets (base_of d.terms) _ _ d.history d.log d.stands d.legal d.valid _ _ _ [] [] _ c.in-Ok.entry _ drafted refl c.args.done c.enter.new.history c.enter.new.log (Err c.in-Err.answer) (c.in-Err.ensures {u = tt}))

@@ -1,4 +1,4 @@
-use Rattle.std.proofs.Common.{cond, Bool, Ok, sym, ◌∙◌, ap}
+use Rattle.std.proofs.Common.{cond, Bool, Ok, refl, sym, ◌∙◌, ap}
 use Rattle.chan_table.specs.declared.ask.AskKind.TheVariants as kinds
 use Rattle.pva_frames.specs.LentView.{whole_of}
 use Rattle.pva_messages.specs.Subcommands.{begins, asks_back}
@@ -44,7 +44,7 @@ returns-then-asks_back g c =
     (heeds_as old new c.args.moment task c.get.result c.stopping-then-asks_back.result c.stopping-then-asks_back.ensures (c.get.ensures c.args.moment))
 
 pub put_part-requires-clause-there : goal.put_part-requires-clause-there
-put_part-requires-clause-there g c = there (state_of c.args.self.now) kinds.Put c.args.sid c.args.req c.in-Ok.found (c.in-Ok.ensures {u = tt})
+put_part-requires-clause-there g c = there (state_of c.args.self.now) kinds.Put c.args.sid c.args.req c.in-Ok.found refl (c.in-Ok.ensures {u = tt})
 
 pub returns-in-Ok : goal.returns-in-Ok
 returns-in-Ok g c =

@@ -7,7 +7,7 @@ use Rattle.srv_session.specs.State.{State, channel_at}
 use Rattle.srv_session.specs.Tasks.{beginning}
 use Rattle.srv_session.specs.Views.{state_of, output_of, show}
 use Rattle.srv_session.proofs.Beginning.{unknown_channel, may_begin, place_refused}
-use Rattle.srv_session.proofs.Rows.{as_task, as_old, gave_up}
+use Rattle.srv_session.proofs.Rows.{as_task, as_old}
 use Rattle.srv_session.proofs.session.Session.begin.Goals as goal
 
 pub returns-in_default : goal.returns-in_default

@@ -1,29 +1,27 @@
-use Rattle.std.proofs.Common.{◌≡◌, sym, ◌∙◌, ap}
-use Rattle.std.specs.Option.{option_copied}
+use Rattle.std.proofs.Common.{ap, sym, ◌∙◌}
+use Rattle.std.specs.Prelude.{option_map}
 use Rattle.pva_messages.specs.Views.{valued_view}
-use Rattle.pvd_request.specs.Requests.{request_of}
-use Rattle.desk_api.specs.Types.{type_of}
-use Rattle.srv_session.specs.Tasks.{begin, beginning_as}
-use Rattle.srv_session.specs.Views.{state_of, output_of, show}
-use Rattle.srv_session.proofs.Beginning.{asked_as, fault_refused}
-use Rattle.srv_session.proofs.Replying.{looked_up}
+use Rattle.srv_session.specs.Replies.{refused}
+use Rattle.srv_session.specs.Tasks.{refuse, beginning_on}
+use Rattle.srv_session.specs.Views.{show}
 use Rattle.srv_session.proofs.Rows.{as_task}
 use Rattle.srv_session.proofs.session.Session.begin_on.Goals as goal
 
-pub returns-in-Ok : goal.returns-in-Ok
-returns-in-Ok g c legal moment =
-    let seat = g.D.Desk.seat c.args.desk.now in
-    let ty_is = looked_up (λ x. x.now) c.type_of.result c.unwrap-ty.result (type_of seat.seen.base.site c.args.channel) c.unwrap-ty.ensures c.type_of.ensures in
-    let asked = asked_as c.unwrap-ty.result.now (type_of seat.seen.base.site c.args.channel) c.args.request.now (option_copied c.as_ref.result) ty_is c.as_ref.ensures.value in
-    as_task (show seat c.args.self.now) (show seat c.begin_as.new.self) moment (begin c.args.kind c.args.req c.args.sub c.args.sid c.args.channel c.in-Ok.wanted) _ c.begin_as.result
-    (ap (beginning_as c.args.kind c.args.req c.args.sub c.args.sid c.args.channel) (asked ∙ (c.in-Ok.ensures {u = tt}).exact))
-    (c.begin_as.ensures seat c.args.channel ty_is legal moment)
+pub begin_fit-requires-clause-fit : goal.begin_fit-requires-clause-fit
+begin_fit-requires-clause-fit g c = sym c.unfit.ensures ∙ ap (option_map (λ t. t.now)) c.in-None.is
 
-pub returns-in-Err : goal.returns-in-Err
-returns-in-Err g c legal moment =
+pub returns-in-Some : goal.returns-in-Some
+returns-in-Some g c legal moment =
     let seat = g.D.Desk.seat c.args.desk.now in
-    let ty_is = looked_up (λ x. x.now) c.type_of.result c.unwrap-ty.result (type_of seat.seen.base.site c.args.channel) c.unwrap-ty.ensures c.type_of.ensures in
-    let asked = asked_as c.unwrap-ty.result.now (type_of seat.seen.base.site c.args.channel) c.args.request.now (option_copied c.as_ref.result) ty_is c.as_ref.ensures.value in
-    as_task (show seat c.args.self.now) (show seat c.refuse_fault.new.self) moment _ _ c.refuse_fault.result (ap (beginning_as c.args.kind c.args.req c.args.sub c.args.sid c.args.channel) asked)
-    (fault_refused c.args.self.now c.refuse_fault.new.self seat legal moment c.args.kind c.args.req c.args.sub c.args.sid c.args.channel c.in-Err.fault _ c.refuse_fault.result
-    (c.in-Err.ensures {u = tt}).exact c.refuse_fault.ensures)
+    let v = valued_view c.args.request.now in
+    as_task (show seat c.args.self.now) (show seat c.refuse.new.self) moment (refuse (refused c.args.kind c.args.req c.args.sub c.in-Some.text.now)) _ c.refuse.result
+    (ap (beginning_on seat.seen.base.site c.args.kind c.args.req c.args.sub c.args.sid v c.args.channel) (sym c.unfit.ensures ∙ ap (option_map (λ t. t.now)) c.in-Some.is))
+    (c.refuse.ensures seat legal moment)
+
+pub returns-in-None : goal.returns-in-None
+returns-in-None g c legal moment =
+    let seat = g.D.Desk.seat c.args.desk.now in
+    let v = valued_view c.args.request.now in
+    as_task (show seat c.args.self.now) (show seat c.begin_fit.new.self) moment _ _ c.begin_fit.result
+    (ap (beginning_on seat.seen.base.site c.args.kind c.args.req c.args.sub c.args.sid v c.args.channel) (sym c.unfit.ensures ∙ ap (option_map (λ t. t.now)) c.in-None.is))
+    (c.begin_fit.ensures legal moment)

@@ -1,7 +1,5 @@
-use Rattle.std.proofs.Common.{◌≡◌, true, sym, ◌∙◌, ap, subst}
-use Rattle.std.specs.Prelude.{Bool, Option, List}
-use Rattle.pvd_type.specs.Tree.{Tree}
-use Rattle.pvd_value.specs.Fits.{fits_of}
+use Rattle.std.proofs.Common.{◌≡◌, sym, ◌∙◌, ap, subst}
+use Rattle.std.specs.Prelude.{Bool, Option}
 use Rattle.pvd_value.specs.View.{view}
 use Rattle.desk_api.specs.Calls.{Calls, IsGet, IsPartOfGet}
 use Rattle.desk_api.specs.Types.{type_of}
@@ -9,8 +7,10 @@ use Rattle.desk_api.specs.declared.history.Base.{Base}
 use Rattle.srv_session.specs.State.{State}
 use Rattle.srv_session.specs.Rows.{behind}
 use Rattle.srv_session.specs.Views.{state_of, output_of}
-use Rattle.srv_session.proofs.Finding.{is_on_it, selected_there, real_there}
-use Rattle.srv_session.proofs.Replying.{looked_up, not_got, got_unsaid, told}
+use Rattle.desk_api.specs.Sites.{is_channel}
+use Rattle.std.specs.Prelude.{IsTrue}
+use Rattle.srv_session.proofs.Finding.{is_on_it, selected_there, valued_there, real_there}
+use Rattle.srv_session.proofs.Replying.{not_got, got_unsaid, told}
 use Rattle.srv_session.proofs.session.Session.get_from.Goals as goal
 
 pub get-requires : goal.get-requires
@@ -18,13 +18,23 @@ get-requires g c =
     let t = c.requires.there in
     real_there (g.D.Desk.seat c.args.desk.now).seen.base.site (state_of c.args.self.now) c.requires.site c.args.sid c.args.req t.ask c.args.found.channel t.here
 
+pub type_on-ty-requires-clause-channel : goal.type_on-ty-requires-clause-channel
+type_on-ty-requires-clause-channel g c =
+    let t = c.requires.there in
+    subst (λ (b : Base). IsTrue (is_channel b.site c.args.found.channel)) (sym c.get.ensures.base)
+    (real_there (g.D.Desk.seat c.args.desk.now).seen.base.site (state_of c.args.self.now) c.requires.site c.args.sid c.args.req t.ask c.args.found.channel t.here)
+
+pub type_on-ty-requires-clause-valued : goal.type_on-ty-requires-clause-valued
+type_on-ty-requires-clause-valued g c =
+    let t = c.requires.there in
+    valued_there (g.D.Desk.seat c.args.desk.now).seen.base.site (state_of c.args.self.now) c.requires.site c.args.sid c.args.req t.ask c.args.found.channel t.here t.selects
+
 pub say_selected-requires-clause-there : goal.say_selected-requires-clause-there
 say_selected-requires-clause-there g c =
     let t = c.requires.there in
     let site = (g.D.Desk.seat c.args.desk.now).seen.base.site in
-    let ty_is = looked_up (λ x. x.now) c.type_of.result c.unwrap-ty.result (type_of (g.D.Desk.seat c.get.new.self).seen.base.site c.args.found.channel) c.unwrap-ty.ensures c.type_of.ensures in
-    let same : c.unwrap-ty.result.now ≡ type_of site c.args.found.channel = ty_is ∙ ap (λ (b : Base). type_of b.site c.args.found.channel) c.get.ensures.base in
-    selected_there site (state_of c.args.self.now) c.requires.site c.args.sid c.args.req t.ask c.args.found.channel t.here c.unwrap-ty.result.now same
+    let same : c.type_on-ty.result.now ≡ type_of site c.args.found.channel = c.type_on-ty.ensures ∙ ap (λ (b : Base). type_of b.site c.args.found.channel) c.get.ensures.base in
+    selected_there site (state_of c.args.self.now) c.requires.site c.args.sid c.args.req t.ask c.args.found.channel t.here t.selects c.type_on-ty.result.now same
 
 pub returns-in_err-value : goal.returns-in_err-value
 returns-in_err-value g c ask here atomic moment =
@@ -52,11 +62,10 @@ returns g c ask here atomic moment =
     let s = state_of c.args.self.now in
     let got = c.in_ok-value.ensures {u = tt} in
     let said = c.in_ok-say_selected.ensures {u = tt} in
-    let ty_is = looked_up (λ x. x.now) c.type_of.result c.unwrap-ty.result (type_of there.seen.base.site c.args.found.channel) c.unwrap-ty.ensures c.type_of.ensures in
-    let same : c.unwrap-ty.result.now ≡ type_of seat.seen.base.site c.args.found.channel = ty_is ∙ ap (λ (b : Base). type_of b.site c.args.found.channel) c.get.ensures.base in
+    let same : c.type_on-ty.result.now ≡ type_of seat.seen.base.site c.args.found.channel = c.type_on-ty.ensures ∙ ap (λ (b : Base). type_of b.site c.args.found.channel) c.get.ensures.base in
     told seat there moment s (state_of c.end_behind.new.self) (output_of c.args.self.now) (output_of c.end_behind.new.self) c.args.kind c.args.req c.args.sub ask c.args.found.channel
     (view c.in_ok-value.value)
     (subst (λ (a : Option Bool). Calls seat there (IsGet seat.seen.base.site c.args.found.channel a (view c.in_ok-value.value))) atomic got.calls)
-    c.unwrap-ty.result.now same
+    c.type_on-ty.result.now same
     (c.end_behind.ensures.state ∙ ap (λ (z : State). record z { requests = behind c.args.req c.args.sub z.requests }) said.state)
     (c.end_behind.ensures.output ∙ said.ok ask (is_on_it s c.args.sid c.args.req ask c.args.found.channel here).there)

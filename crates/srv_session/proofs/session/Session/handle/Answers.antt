@@ -2,7 +2,7 @@ use Rattle.std.proofs.Common.{ℕ, List, sym, ◌∙◌, ap, subst}
 use Rattle.pva_frames.specs.declared.event.Event.{Event}
 use Rattle.pva_frames.specs.declared.event.Event.TheVariants.{Message, Control}
 use Rattle.srv_session.specs.Calls.{Handles}
-use Rattle.srv_session.specs.Views.{state_of, show}
+use Rattle.srv_session.specs.Views.{show}
 use Rattle.srv_session.proofs.Heeding.{handles_control, handled_on_site}
 use Rattle.srv_session.proofs.session.Session.handle.Goals as goal
 

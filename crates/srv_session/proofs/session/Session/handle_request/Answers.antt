@@ -5,9 +5,10 @@ use Rattle.pva_messages.specs.Views.{request_view, valued_view}
 use Rattle.pva_messages.specs.declared.to_server.ToServer.{ToServer}
 use Rattle.pva_messages.specs.Written.{FitsField}
 use Rattle.pvd_codec.specs.Written.{CanEach}
-use Rattle.srv_session.specs.Tasks.{Hearing, asks, echo, create, pass_over, validated_by, asked_get, asked_end, asked_request_end, heard_message}
+use Rattle.srv_session.specs.State.{channel_at}
+use Rattle.srv_session.specs.Tasks.{Hearing, asks, echo, create, pass_over, validated_by, asked_get, asked_field, asked_call, asked_end, asked_request_end, heard_message}
 use Rattle.srv_session.specs.Views.{state_of, show, HasPlace}
-use Rattle.srv_session.proofs.Beginning.{get_fits, put_fits}
+use Rattle.srv_session.proofs.Beginning.{get_fits, put_fits, put_get_fits, call_fits}
 use Rattle.srv_session.proofs.Heeding.{heeds_as, heeds_so}
 use Rattle.srv_session.proofs.session.Session.handle_request.Goals as goal
 
@@ -21,6 +22,17 @@ answer_put-requires-clause-fits g c =
 
 pub answer_put-requires-clause-place : goal.answer_put-requires-clause-place
 answer_put-requires-clause-place g c = subst (λ (r : ToServer). HasPlace (request_view r) (length c.args.message.now.payload.now)) c.in-Put.is c.requires.place
+
+pub answer_put_get-requires-clause-fits : goal.answer_put_get-requires-clause-fits
+answer_put_get-requires-clause-fits g c =
+    put_get_fits c.in-PutGet.sid c.in-PutGet.req c.in-PutGet.sub c.in-PutGet.request c.in-PutGet.part (subst (λ (r : ToServer). CanEach FitsField (request_fields (request_view r))) c.in-PutGet.is c.requires.fits)
+
+pub answer_put_get-requires-clause-place : goal.answer_put_get-requires-clause-place
+answer_put_get-requires-clause-place g c = subst (λ (r : ToServer). HasPlace (request_view r) (length c.args.message.now.payload.now)) c.in-PutGet.is c.requires.place
+
+pub answer_call-requires-clause-fits : goal.answer_call-requires-clause-fits
+answer_call-requires-clause-fits g c =
+    call_fits c.in-Rpc.sid c.in-Rpc.req c.in-Rpc.sub c.in-Rpc.argument (subst (λ (r : ToServer). CanEach FitsField (request_fields (request_view r))) c.in-Rpc.is c.requires.fits)
 
 pub returns-in-Validation : goal.returns-in-Validation
 returns-in-Validation g c =
@@ -130,3 +142,27 @@ returns-in-Create g c =
     heeds_so old new c.args.moment (hears c.args.request.now) (asks task s.types) c.stopping-in-Create.result
     (ap hears c.in-Create.is ∙ ap (λ (names : List (ℕ × List ℕ)). asks (create names) s.types) (sym c.deref.ensures.value))
     (heeds_as old new c.args.moment task c.create.result c.stopping-in-Create.result c.stopping-in-Create.ensures (c.create.ensures c.has_legal_history.ensures c.args.moment))
+
+pub returns-in-GetField : goal.returns-in-GetField
+returns-in-GetField g c =
+    let seat = g.D.Desk.seat c.args.desk.now in
+    let s = state_of c.args.self.now in
+    let whole = whole_of c.args.message.now in
+    let hears : ToServer → Hearing = λ (r : ToServer). heard_message seat.seen.base.site s whole s.types (request_view r) in
+    let old = show seat c.args.self.now in
+    let new = show seat c.answer_field.new.self in
+    let task = asked_field seat.seen.base.site c.in-GetField.req c.in-GetField.path (channel_at s.channels c.in-GetField.sid) in
+    heeds_so old new c.args.moment (hears c.args.request.now) (asks task s.types) c.stopping-in-GetField.result (ap hears c.in-GetField.is)
+    (heeds_as old new c.args.moment task c.answer_field.result c.stopping-in-GetField.result c.stopping-in-GetField.ensures (c.answer_field.ensures c.has_legal_history.ensures c.args.moment))
+
+pub returns-in-Rpc : goal.returns-in-Rpc
+returns-in-Rpc g c =
+    let seat = g.D.Desk.seat c.args.desk.now in
+    let s = state_of c.args.self.now in
+    let whole = whole_of c.args.message.now in
+    let hears : ToServer → Hearing = λ (r : ToServer). heard_message seat.seen.base.site s whole s.types (request_view r) in
+    let old = show seat c.args.self.now in
+    let new = show (g.D.Desk.seat c.answer_call.new.desk) c.answer_call.new.self in
+    let task = asked_call seat.seen.base.site s c.in-Rpc.sid c.in-Rpc.req c.in-Rpc.sub (valued_view c.in-Rpc.argument) in
+    heeds_so old new c.args.moment (hears c.args.request.now) (asks task s.types) c.stopping-in-Rpc.result (ap hears c.in-Rpc.is)
+    (heeds_as old new c.args.moment task c.answer_call.result c.stopping-in-Rpc.result c.stopping-in-Rpc.ensures (c.answer_call.ensures c.args.moment))

@@ -1,6 +1,5 @@
-use Rattle.std.proofs.Common.{◌≡◌, ◌++◌, ℕ, List, Some, sym, ◌∙◌, ap, subst}
+use Rattle.std.proofs.Common.{◌≡◌, ◌++◌, Some, sym, ◌∙◌, ap, subst}
 use Rattle.std.specs.Prelude.{OnOk}
-use Rattle.pva_messages.specs.Replies as reply
 use Rattle.pva_messages.specs.Replies.{Reply}
 use Rattle.chan_table.specs.Tables.{Tables}
 use Rattle.desk_api.specs.Sites.{channel_named}

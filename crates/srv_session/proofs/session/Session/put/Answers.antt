@@ -1,11 +1,11 @@
-use Rattle.std.proofs.Common.{◌≡◌, refl, sym, ◌∙◌, ap, subst}
+use Rattle.std.proofs.Common.{refl, ◌∙◌, ap, subst}
 use Rattle.std.specs.Prelude.{Bool, Option, option_map}
 use Rattle.pvd_value.specs.View.{view}
 use Rattle.desk_api.specs.Calls as calls
 use Rattle.desk_api.specs.Calls.{Calls, ArePut}
 use Rattle.srv_session.specs.State.{State}
 use Rattle.srv_session.specs.Replies.{outcome}
-use Rattle.srv_session.specs.Rows.{asked, behind}
+use Rattle.srv_session.specs.Rows.{behind}
 use Rattle.srv_session.specs.Views.{state_of, output_of}
 use Rattle.srv_session.proofs.Finding.{real_there}
 use Rattle.srv_session.proofs.Replying.{put_unsaid, put_said}

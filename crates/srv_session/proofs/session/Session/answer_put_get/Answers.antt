@@ -1,0 +1,62 @@
+use Rattle.std.proofs.Common.{cond, Bool, Ok, refl, sym, ◌∙◌, ap}
+use Rattle.chan_table.specs.declared.ask.AskKind.TheVariants as kinds
+use Rattle.pva_frames.specs.LentView.{whole_of}
+use Rattle.pva_messages.specs.Subcommands.{begins}
+use Rattle.pva_messages.specs.Views.{valued_view}
+use Rattle.srv_session.specs.State.{channel_at}
+use Rattle.srv_session.specs.Replies.{refused}
+use Rattle.srv_session.specs.Tasks.{asks, refuse, beginning, found_for, heard_getting}
+use Rattle.srv_session.specs.Views.{state_of, show}
+use Rattle.srv_session.proofs.Finding.{is_here, there, not_here}
+use Rattle.srv_session.proofs.Heeding.{heeds_as, heeds_so}
+use Rattle.srv_session.proofs.session.Session.answer_put_get.Goals as goal
+
+pub begin-requires-clause-fits : goal.begin-requires-clause-fits
+begin-requires-clause-fits g c = c.requires.fits (sym c.begins.ensures ∙ c.if-begins.true)
+
+pub returns-then-begins : goal.returns-then-begins
+returns-then-begins g c =
+    let seat = g.D.Desk.seat c.args.desk.now in
+    let site = seat.seen.base.site in
+    let s = state_of c.args.self.now in
+    let begun = beginning site s kinds.PutGet c.args.req c.args.sub c.args.sid (valued_view c.args.request.now) (channel_at s.channels c.args.sid) in
+    let puts = heard_getting site (whole_of c.args.message.now) s.types c.args.req c.args.sub (found_for s kinds.PutGet c.args.sid c.args.req) in
+    let old = show seat c.args.self.now in
+    let new = show seat c.begin.new.self in
+    heeds_so old new c.args.moment (cond (begins c.args.sub) (asks begun s.types) puts) (asks begun s.types) c.stopping.result
+    (ap (λ (b : Bool). cond b (asks begun s.types) puts) (sym c.begins.ensures ∙ c.if-begins.true))
+    (heeds_as old new c.args.moment begun c.begin.result c.stopping.result c.stopping.ensures (c.begin.ensures c.has_legal_history.ensures c.args.moment))
+
+pub put_get_part-requires-clause-there : goal.put_get_part-requires-clause-there
+put_get_part-requires-clause-there g c = there (state_of c.args.self.now) kinds.PutGet c.args.sid c.args.req c.in-Ok.found refl (c.in-Ok.ensures {u = tt})
+
+pub returns-in-Ok : goal.returns-in-Ok
+returns-in-Ok g c =
+    let seat = g.D.Desk.seat c.args.desk.now in
+    let site = seat.seen.base.site in
+    let s = state_of c.args.self.now in
+    let whole = whole_of c.args.message.now in
+    let h = is_here s kinds.PutGet c.args.sid c.args.req c.in-Ok.found (c.in-Ok.ensures {u = tt}) in
+    let begun = asks (beginning site s kinds.PutGet c.args.req c.args.sub c.args.sid (valued_view c.args.request.now) (channel_at s.channels c.args.sid)) s.types in
+    let puts = heard_getting site whole s.types c.args.req c.args.sub (found_for s kinds.PutGet c.args.sid c.args.req) in
+    heeds_so (show seat c.args.self.now) (show (g.D.Desk.seat c.put_get_part.new.desk) c.put_get_part.new.self) c.args.moment (cond (begins c.args.sub) begun puts)
+    (heard_getting site whole s.types c.args.req c.args.sub (Ok (h.ask, c.in-Ok.found.channel))) c.put_get_part.result
+    (ap (λ (b : Bool). cond b begun puts) (sym c.begins.ensures ∙ c.if-begins.false)
+    ∙ ap (heard_getting site whole s.types c.args.req c.args.sub) h.phase)
+    (c.put_get_part.ensures h.ask h.here h.atomic)
+
+pub returns-in-Err : goal.returns-in-Err
+returns-in-Err g c =
+    let seat = g.D.Desk.seat c.args.desk.now in
+    let site = seat.seen.base.site in
+    let s = state_of c.args.self.now in
+    let whole = whole_of c.args.message.now in
+    let begun = asks (beginning site s kinds.PutGet c.args.req c.args.sub c.args.sid (valued_view c.args.request.now) (channel_at s.channels c.args.sid)) s.types in
+    let puts = heard_getting site whole s.types c.args.req c.args.sub (found_for s kinds.PutGet c.args.sid c.args.req) in
+    let old = show seat c.args.self.now in
+    let new = show seat c.refuse.new.self in
+    let task = refuse (refused kinds.PutGet c.args.req c.args.sub c.in-Err.text.now) in
+    heeds_so old new c.args.moment (cond (begins c.args.sub) begun puts) (asks task s.types) c.stopping-in-Err.result
+    (ap (λ (b : Bool). cond b begun puts) (sym c.begins.ensures ∙ c.if-begins.false)
+    ∙ ap (heard_getting site whole s.types c.args.req c.args.sub) (not_here s kinds.PutGet c.args.sid c.args.req c.in-Err.text (c.in-Err.ensures {u = tt})))
+    (heeds_as old new c.args.moment task c.refuse.result c.stopping-in-Err.result c.stopping-in-Err.ensures (c.refuse.ensures seat c.has_legal_history.ensures c.args.moment))

@@ -1,0 +1,25 @@
+use Rattle.std.proofs.Common.{refl, sym, ◌∙◌, ap}
+use Rattle.pvd_type.specs.Tree.{Tree}
+use Rattle.pvd_value.specs.Data.{Data}
+use Rattle.pvd_value.specs.View.{view}
+use Rattle.rpc_services.specs.Answers.{info_tree}
+use Rattle.srv_session.specs.Replies.{called}
+use Rattle.srv_session.specs.Tasks.{Task, respond, info_of}
+use Rattle.srv_session.specs.Views.{state_of, output_of, show}
+use Rattle.srv_session.proofs.Rows.{gave_up, as_task}
+use Rattle.srv_session.proofs.session.Session.tell_info.Goals as goal
+
+pub returns-in_err-told : goal.returns-in_err-told
+returns-in_err-told g c legal moment =
+    let seat = g.D.Desk.seat c.args.desk.now in
+    gave_up seat moment (state_of c.args.self.now) (state_of c.args.self.now) (output_of c.args.self.now) (output_of c.args.self.now)
+    (respond c.args.req c.args.sub (called c.args.req c.args.sub info_tree (info_of seat.seen.base.site))) c.from_residual.result legal c.from_residual.ensures.0 refl
+
+pub returns : goal.returns
+returns g c legal moment =
+    let seat = g.D.Desk.seat c.args.desk.now in
+    let told = c.in_ok-told.ensures {u = tt} in
+    let says : Tree → Data → Task = λ (t : Tree) (v : Data). respond c.args.req c.args.sub (called c.args.req c.args.sub t v) in
+    as_task (show seat c.args.self.now) (show seat c.say_told.new.self) moment _ (says info_tree (info_of seat.seen.base.site)) c.say_told.result
+    (sym (ap (λ (t : Tree). says t (view c.in_ok-told.told.1)) told.tree ∙ ap (says info_tree) told.value))
+    (c.say_told.ensures seat legal moment)
