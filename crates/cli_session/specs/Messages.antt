@@ -14,7 +14,7 @@ use Rattle.cli_session.specs.declared.ask.Operation.TheVariants as operation
 use Rattle.cli_session.specs.declared.turn.Turn.{Turn}
 use Rattle.cli_session.specs.declared.turn.Turn.TheVariants as turn
 use Rattle.cli_session.specs.State.{State}
-use Rattle.cli_session.specs.Structures.{request, fields_of, atomic_options, monitor_options, user_of, uri}
+use Rattle.cli_session.specs.Structures.{request, selected, atomic_options, monitor_options, user_of, uri}
 
 -- what is sent: a message, or a control message
 pub data Sent : Type 0 where
@@ -42,13 +42,13 @@ put_id op = 1
 
 -- a get and a put-get ask for fields; what is put names none
 abbrev pub get_request : Ask → Valued
-get_request ask = Some (request (codes "field") (fields_of ask.fields.items) (atomic_options ask.atomic))
+get_request ask = Some (request (codes "field") (selected ask.fields.items) (atomic_options ask.atomic))
 
 abbrev pub put_request : Ask → Valued
 put_request ask = Some (request (codes "field") no_fields (atomic_options ask.atomic))
 
 abbrev pub put_get_request : Ask → Valued
-put_get_request ask = Some (request (codes "getField") (fields_of ask.fields.items) (atomic_options ask.atomic))
+put_get_request ask = Some (request (codes "getField") (selected ask.fields.items) (atomic_options ask.atomic))
 
 abbrev pub call_request : Valued
 call_request = Some (request (codes "field") no_fields [])
@@ -61,7 +61,7 @@ monitor_sub (Some free) = 0x88
 abbrev pub monitor_beginning : List (List ℕ) → ℕ → Operation → List Request
 monitor_beginning fields sid (operation.Monitor queue window count) =
     requests.monitor sid 1 (monitor_sub window)
-    (Some (request (codes "field") (fields_of fields) (monitor_options queue window))) window ∷ []
+    (Some (request (codes "field") (selected fields) (monitor_options queue window))) window ∷ []
 monitor_beginning fields sid op = []
 
 abbrev pub call_argument : List ℕ → Operation → Valued

@@ -2,6 +2,12 @@
 use Rattle.std.specs.Prelude.{ℕ, Bool, true, false, List, [], ◌∷◌, ◌++◌, map, Option, None, Some, Result, Ok, Err}
 use denote.Ref.{Bor}
 use Rattle.pvd_type.specs.Numbers.{path_of}
+use Rattle.pvd_type.specs.Tree.{Tree}
+use Rattle.pvd_type.specs.View.{shape_view}
+use Rattle.pvd_type.specs.declared.shape.Shape.{Shape}
+use Rattle.pvd_value.specs.Data.{Data}
+use Rattle.pvd_value.specs.View.{view}
+use Rattle.pvd_value.specs.declared.value.PvValue.{PvValue}
 use Rattle.pva_messages.specs.Views.{part_of, part_view, update_view, valued_view}
 use Rattle.cli_session.specs.Answers as answer
 use Rattle.cli_session.specs.Answers.{Answer}
@@ -26,6 +32,13 @@ path_seen p = path_of p.now
 
 abbrev pub paths_seen : List (Bor (List ℕ)) → List Path
 paths_seen ps = map path_seen ps
+
+-- a type, or a shape that stands for one, with a value
+abbrev pub pair_view : Tree × PvValue → Tree × Data
+pair_view p = (p.0, view p.1)
+
+abbrev pub shape_seen : Shape × PvValue → Tree × Data
+shape_seen p = (shape_view p.0, view p.1)
 
 -- what a report tells
 abbrev pub report_view : Report → Told

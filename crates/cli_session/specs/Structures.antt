@@ -8,9 +8,11 @@ use Rattle.std.specs.Str.{bytes_eq}
 use Rattle.pvd_type.specs.Check.{contains}
 use Rattle.pvd_type.specs.Numbers.{path_of}
 use Rattle.pvd_type.specs.Tree.{Tree, leaf, node, plain, struct, Fields, no_fields, field}
+use Rattle.pvd_type.specs.View.{fields_of}
 use Rattle.pvd_type.specs.declared.shape.Scalar.TheVariants.{Text}
 use Rattle.pvd_value.specs.Blank.{blank_of}
 use Rattle.pvd_value.specs.Data.{Data, single, text, members, Row, end, more}
+use Rattle.pvd_value.specs.View.{row_of}
 
 -- a structure without an id
 abbrev pub structure : Fields → Tree
@@ -21,13 +23,17 @@ structure fields = node struct [] fields
 abbrev pub Texts : Type 0
 Texts = List (List ℕ × List ℕ)
 
+abbrev pub text_field : List ℕ × List ℕ → List ℕ × Tree
+text_field t = (t.0, leaf (plain Text))
+
 abbrev pub text_fields : Texts → Fields
-text_fields [] = no_fields
-text_fields (t ∷ ts) = field t.0 (leaf (plain Text)) (text_fields ts)
+text_fields ts = fields_of (map text_field ts)
+
+abbrev pub text_datum : List ℕ × List ℕ → Data
+text_datum t = single (text t.1)
 
 abbrev pub text_row : Texts → Row
-text_row [] = end
-text_row (t ∷ ts) = more (single (text t.1)) (text_row ts)
+text_row ts = row_of (map text_datum ts)
 
 -- a structure of them, and its value
 abbrev pub texts_type : Texts → Tree
@@ -63,25 +69,25 @@ first_name [] = []
 first_name (name ∷ path) = name
 
 -- A member for each name that isn't among those before it, in the order in which the names are given.
-abbrev pub members_by : (List ℕ → Tree) → List (List ℕ) → List (List ℕ) → Fields
-members_by below before [] = no_fields
+abbrev pub members_by : (List ℕ → Tree) → List (List ℕ) → List (List ℕ) → List (List ℕ × Tree)
+members_by below before [] = []
 members_by below before (name ∷ names) =
     if contains name before then members_by below before names
-    else field name (below name) (members_by below (before ++ name ∷ []) names)
+    else (name, below name) ∷ members_by below (before ++ name ∷ []) names
 
 -- An empty structure for each path, in one for each name that leads there. A path has at most so many names.
-abbrev pub chosen : ℕ → List Path → Fields
+unfoldable pub chosen : ℕ → List Path → Fields
 chosen zero paths = no_fields
 chosen (suc depth) paths =
-    members_by (λ name. structure (chosen depth (below name paths))) [] (map first_name paths)
+    fields_of (members_by (λ name. structure (chosen depth (below name paths))) [] (map first_name paths))
 
 -- a path has at most so many names
 abbrev pub deepest : ℕ
 deepest = 30
 
 -- the members of the structures for these fields
-abbrev pub fields_of : List (List ℕ) → Fields
-fields_of paths = chosen deepest (map path_of paths)
+abbrev pub selected : List (List ℕ) → Fields
+selected paths = chosen deepest (map path_of paths)
 
 -- Which options are given.
 
@@ -103,13 +109,20 @@ monitor_options queue window = (codes "queueSize", decimal queue) ∷ window_opt
 
 -- A request: the structure `field` or `getField` and, where there are options, `record`, which has them.
 
+abbrev pub record_fields : Texts → Fields
+record_fields options =
+    field (codes "record") (structure (field (codes "_options") (texts_type options) no_fields)) no_fields
+
+abbrev pub record_row : Texts → Row
+record_row options = more (members (more (texts_value options) end)) end
+
 abbrev pub record_type : Texts → Fields
 record_type [] = no_fields
-record_type (o ∷ os) = field (codes "record") (structure (field (codes "_options") (texts_type (o ∷ os)) no_fields)) no_fields
+record_type (o ∷ os) = record_fields (o ∷ os)
 
 abbrev pub record_value : Texts → Row
 record_value [] = end
-record_value (o ∷ os) = more (members (more (texts_value (o ∷ os)) end)) end
+record_value (o ∷ os) = record_row (o ∷ os)
 
 abbrev pub request_type : List ℕ → Fields → Texts → Tree
 request_type root fields options = structure (field root (structure fields) (record_type options))

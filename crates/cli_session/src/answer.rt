@@ -2,7 +2,7 @@
 ghost use Rattle.std.specs.Prelude.{◌≡◌, true, IfOk};
 ghost use Rattle.pva_messages.specs.Subcommands.{carries};
 ghost use Rattle.pva_messages.specs.Views.{part_view, update_view, valued_view, reply_view};
-ghost use Rattle.cli_session.specs.Answers as answer;
+ghost use Rattle.cli_session.specs.Answers as rows;
 ghost use Rattle.cli_session.specs.Fitting.{part_fits, update_fits, valued_fits, answer_fits, reply_fits};
 ghost use Rattle.cli_session.specs.Seen.{answer_view, answered_view};
 
@@ -56,7 +56,7 @@ fn carries(status: &Status) -> bool
 /// An answer, where its status is OK or WARNING.
 fn unless_refused(status: Status, answer: Answer) -> Result<Answer, ClientFault>
     requires { answer_fits (answer_view answer) ≡ true }
-    ensures answer { answered_view result ≡ answer.unless_refused status (answer_view answer) }
+    ensures answer { answered_view result ≡ rows.unless_refused status (answer_view answer) }
     ensures fits { IfOk result (λ a. answer_fits (answer_view a) ≡ true) }
 {
     if carries(&status) {
@@ -69,7 +69,7 @@ fn unless_refused(status: Status, answer: Answer) -> Result<Answer, ClientFault>
 /// A reply to a beginning, which has bit 08.
 fn at_beginning(command: u8, sub: u8, status: Status, answer: Answer) -> Result<Answer, ClientFault>
     requires { answer_fits (answer_view answer) ≡ true }
-    ensures answer { answered_view result ≡ answer.at_beginning command sub status (answer_view answer) }
+    ensures answer { answered_view result ≡ rows.at_beginning command sub status (answer_view answer) }
     ensures fits { IfOk result (λ a. answer_fits (answer_view a) ≡ true) }
 {
     if begins(sub) {
@@ -88,7 +88,7 @@ fn at_sub(
     answer: Answer,
 ) -> Result<Answer, ClientFault>
     requires { answer_fits (answer_view answer) ≡ true }
-    ensures answer { answered_view result ≡ answer.at_sub command wanted sub status (answer_view answer) }
+    ensures answer { answered_view result ≡ rows.at_sub command wanted sub status (answer_view answer) }
     ensures fits { IfOk result (λ a. answer_fits (answer_view a) ≡ true) }
 {
     if sub == wanted {
@@ -100,14 +100,14 @@ fn at_sub(
 
 /// A reply to another message than the one that awaits it.
 fn wrong(turn: Turn, command: u8) -> Result<Answer, ClientFault>
-    ensures answer { answered_view result ≡ answer.wrong turn command }
+    ensures answer { answered_view result ≡ rows.wrong turn command }
     ensures fits { IfOk result (λ a. answer_fits (answer_view a) ≡ true) }
 {
     Err(ClientFault::WrongCommand(turn.awaited(), command))
 }
 
 fn validation_answer(turn: Turn, buffer: u32) -> Result<Answer, ClientFault>
-    ensures answer { answered_view result ≡ answer.validation_answer turn buffer }
+    ensures answer { answered_view result ≡ rows.validation_answer turn buffer }
     ensures fits { IfOk result (λ a. answer_fits (answer_view a) ≡ true) }
 {
     match turn {
@@ -117,7 +117,7 @@ fn validation_answer(turn: Turn, buffer: u32) -> Result<Answer, ClientFault>
 }
 
 fn validated_answer(turn: Turn, status: Status) -> Result<Answer, ClientFault>
-    ensures answer { answered_view result ≡ answer.validated_answer turn status }
+    ensures answer { answered_view result ≡ rows.validated_answer turn status }
     ensures fits { IfOk result (λ a. answer_fits (answer_view a) ≡ true) }
 {
     match turn {
@@ -127,7 +127,7 @@ fn validated_answer(turn: Turn, status: Status) -> Result<Answer, ClientFault>
 }
 
 fn created_answer(turn: Turn, sid: u32, status: Status) -> Result<Answer, ClientFault>
-    ensures answer { answered_view result ≡ answer.created_answer turn sid status }
+    ensures answer { answered_view result ≡ rows.created_answer turn sid status }
     ensures fits { IfOk result (λ a. answer_fits (answer_view a) ≡ true) }
 {
     match turn {
@@ -144,7 +144,7 @@ fn get_answer(
     part: Option<Part>,
 ) -> Result<Answer, ClientFault>
     requires { part_fits (part_view part) ≡ true }
-    ensures answer { answered_view result ≡ answer.get_answer turn sub status ty (part_view part) }
+    ensures answer { answered_view result ≡ rows.get_answer turn sub status ty (part_view part) }
     ensures fits { IfOk result (λ a. answer_fits (answer_view a) ≡ true) }
 {
     let command = Command::Get.byte();
@@ -163,7 +163,7 @@ fn put_answer(
     part: Option<Part>,
 ) -> Result<Answer, ClientFault>
     requires { part_fits (part_view part) ≡ true }
-    ensures answer { answered_view result ≡ answer.put_answer turn sub status ty (part_view part) }
+    ensures answer { answered_view result ≡ rows.put_answer turn sub status ty (part_view part) }
     ensures fits { IfOk result (λ a. answer_fits (answer_view a) ≡ true) }
 {
     let command = Command::Put.byte();
@@ -183,7 +183,7 @@ fn put_get_answer(
     part: Option<Part>,
 ) -> Result<Answer, ClientFault>
     requires { part_fits (part_view part) ≡ true }
-    ensures answer { answered_view result ≡ answer.put_get_answer turn sub status got (part_view part) }
+    ensures answer { answered_view result ≡ rows.put_get_answer turn sub status got (part_view part) }
     ensures fits { IfOk result (λ a. answer_fits (answer_view a) ≡ true) }
 {
     let command = Command::PutGet.byte();
@@ -200,7 +200,7 @@ fn monitor_begun_answer(
     status: Status,
     ty: Option<PvType>,
 ) -> Result<Answer, ClientFault>
-    ensures answer { answered_view result ≡ answer.monitor_begun_answer turn sub status ty }
+    ensures answer { answered_view result ≡ rows.monitor_begun_answer turn sub status ty }
     ensures fits { IfOk result (λ a. answer_fits (answer_view a) ≡ true) }
 {
     let command = Command::Monitor.byte();
@@ -217,7 +217,7 @@ fn monitor_update_answer(
     update: Option<(Part, BitSet)>,
 ) -> Result<Answer, ClientFault>
     requires { update_fits (update_view update) ≡ true }
-    ensures answer { answered_view result ≡ answer.monitor_update_answer turn sub (update_view update) }
+    ensures answer { answered_view result ≡ rows.monitor_update_answer turn sub (update_view update) }
     ensures fits { IfOk result (λ a. answer_fits (answer_view a) ≡ true) }
 {
     let command = Command::Monitor.byte();
@@ -230,7 +230,7 @@ fn monitor_update_answer(
 }
 
 fn monitor_end_answer(turn: Turn, sub: u8, status: Status) -> Result<Answer, ClientFault>
-    ensures answer { answered_view result ≡ answer.monitor_end_answer turn sub status }
+    ensures answer { answered_view result ≡ rows.monitor_end_answer turn sub status }
     ensures fits { IfOk result (λ a. answer_fits (answer_view a) ≡ true) }
 {
     let command = Command::Monitor.byte();
@@ -242,7 +242,7 @@ fn monitor_end_answer(turn: Turn, sub: u8, status: Status) -> Result<Answer, Cli
 }
 
 fn field_answer(turn: Turn, status: Status, ty: Option<PvType>) -> Result<Answer, ClientFault>
-    ensures answer { answered_view result ≡ answer.field_answer turn status ty }
+    ensures answer { answered_view result ≡ rows.field_answer turn status ty }
     ensures fits { IfOk result (λ a. answer_fits (answer_view a) ≡ true) }
 {
     match turn {
@@ -258,7 +258,7 @@ fn call_answer(
     value: Option<(PvType, PvValue)>,
 ) -> Result<Answer, ClientFault>
     requires { valued_fits (valued_view value) ≡ true }
-    ensures answer { answered_view result ≡ answer.call_answer turn sub status (valued_view value) }
+    ensures answer { answered_view result ≡ rows.call_answer turn sub status (valued_view value) }
     ensures fits { IfOk result (λ a. answer_fits (answer_view a) ≡ true) }
 {
     let command = Command::Rpc.byte();
@@ -272,7 +272,7 @@ fn call_answer(
 /// What a reply is to this turn.
 pub(crate) fn answer_of(turn: Turn, reply: ToClient) -> Result<Answer, ClientFault>
     requires { reply_fits (reply_view reply) ≡ true }
-    ensures answer { answered_view result ≡ answer.answer_of turn (reply_view reply) }
+    ensures answer { answered_view result ≡ rows.answer_of turn (reply_view reply) }
     ensures fits { IfOk result (λ a. answer_fits (answer_view a) ≡ true) }
 {
     match reply {

@@ -25,7 +25,7 @@ pub enum ClientFault {
 
 impl From<NoMemory> for ClientFault {
     ghost use Rattle.std.specs.Prelude.{◌≡◌};
-    ghost use Rattle.cli_session.specs.declared.fault.ClientFault.TheVariants as fault;
+    ghost use Rattle.cli_session.specs.declared.fault.ClientFault.TheVariants as fails;
 
     ghost from_gives = { λ _ e. e ≡ fails.NoMemory };
 

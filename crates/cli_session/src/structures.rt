@@ -8,7 +8,7 @@ ghost use Rattle.pvd_type.specs.declared.shape.Scalar.TheVariants as scalar;
 ghost use Rattle.pvd_value.specs.Data.{members, more, end};
 ghost use Rattle.pvd_value.specs.Fits.{fits_of};
 ghost use Rattle.pvd_value.specs.View.{view, row_view};
-ghost use Rattle.cli_session.specs.Seen.{texts_seen, paths_seen};
+ghost use Rattle.cli_session.specs.Seen.{texts_seen, paths_seen, shape_seen, pair_view};
 ghost use Rattle.cli_session.specs.Structures as spec;
 
 use itoa::Buffer;
@@ -64,7 +64,7 @@ fn text_values(alloc: Global, texts: &[Text<'_>]) -> Result<Vec<PvValue>, NoMemo
 
 /// A structure of texts.
 fn texts_of(alloc: Global, texts: &[Text<'_>]) -> Result<(Shape, PvValue), NoMemory>
-    ensures { IfOk result (λ s. (shape_view s.0, view s.1) ≡ (spec.texts_type (texts_seen texts.now), spec.texts_value (texts_seen texts.now))) }
+    ensures { IfOk result (λ s. shape_seen s ≡ (spec.texts_type (texts_seen texts.now), spec.texts_value (texts_seen texts.now))) }
 {
     let shape = structure_of(alloc, "", text_members(alloc, texts)?)?;
     Ok((shape, PvValue::Struct(text_values(alloc, texts)?)))
@@ -72,7 +72,7 @@ fn texts_of(alloc: Global, texts: &[Text<'_>]) -> Result<(Shape, PvValue), NoMem
 
 /// The type of a shape, with its value.
 fn typed(alloc: Global, shape: Shape, value: PvValue) -> Result<(PvType, PvValue), NoMemory>
-    ensures { IfOk result (λ r. (r.0, view r.1) ≡ (shape_view shape, view value)) }
+    ensures { IfOk result (λ r. pair_view r ≡ (shape_view shape, view value)) }
 {
     match PvType::check(alloc, shape) {
         Ok(ty) => Ok((ty, value)),
@@ -97,12 +97,13 @@ fn below<'a>(alloc: Global, name: &str, paths: &[&'a str]) -> Result<Vec<&'a str
     let mut found = Vec::with_capacity(alloc, paths.len())?;
     for path in paths {
         let (first, rest) = split_path(path);
-        if first == name {
-            let Some(rest) = rest else {
-                return Ok(Vec::new(alloc));
-            };
-            found.push(rest)?;
+        if first != name {
+            continue;
         }
+        let Some(rest) = rest else {
+            return Ok(Vec::new(alloc));
+        };
+        found.push(rest)?;
     }
     Ok(found)
 }
@@ -110,7 +111,8 @@ fn below<'a>(alloc: Global, name: &str, paths: &[&'a str]) -> Result<Vec<&'a str
 /// The member of this name, for the paths that begin with it.
 #[cycle(chosen)]
 fn chosen_member(alloc: Global, name: Name, paths: &[&str], depth: u32) -> Result<Member, NoMemory>
-    ensures { IfOk result (λ m. member_view m ≡ (name, spec.structure (spec.chosen depth (spec.below name (paths_seen paths.now))))) }
+    ensures member { IfOk result (λ m. member_view m ≡ (name, spec.structure (spec.chosen depth (spec.below name (paths_seen paths.now))))) }
+    ensures name { IfOk result (λ m. m.name ≡ name) }
 {
     let found = below(alloc, name.as_str(), paths)?;
     let shape = structure_of(alloc, "", chosen(alloc, &found, depth)?)?;
@@ -119,6 +121,7 @@ fn chosen_member(alloc: Global, name: Name, paths: &[&str], depth: u32) -> Resul
 
 /// An empty structure for each path, in one for each name that leads there. A path has at most `depth` names.
 #[cycle(chosen)]
+#[tactic(auto, unfolding(crate::specs::Structures::chosen))]
 fn chosen(alloc: Global, paths: &[&str], depth: u32) -> Result<Vec<Member>, NoMemory>
     ensures { IfOk result (λ ms. members_view ms.items ≡ spec.chosen depth (paths_seen paths.now)) }
 {
@@ -128,16 +131,17 @@ fn chosen(alloc: Global, paths: &[&str], depth: u32) -> Result<Vec<Member>, NoMe
     }
     for path in paths {
         let name = Name::of(alloc, split_path(path).0)?;
-        if !is_among(&name, &members) {
-            members.push(chosen_member(alloc, name, paths, depth - 1)?)?;
+        if is_among(&name, &members) {
+            continue;
         }
+        members.push(chosen_member(alloc, name, paths, depth - 1)?)?;
     }
     Ok(members)
 }
 
 /// The members of the structures for these fields.
 fn fields_of(alloc: Global, fields: &[Name]) -> Result<Vec<Member>, NoMemory>
-    ensures { IfOk result (λ ms. members_view ms.items ≡ spec.fields_of fields.now) }
+    ensures { IfOk result (λ ms. members_view ms.items ≡ spec.selected fields.now) }
 {
     let mut paths = Vec::with_capacity(alloc, fields.len())?;
     for field in fields {
@@ -153,7 +157,7 @@ fn request(
     fields: Vec<Member>,
     options: &[Text<'_>],
 ) -> Result<(PvType, PvValue), NoMemory>
-    ensures { IfOk result (λ r. (r.0, view r.1) ≡ spec.request root.now (members_view fields.items) (texts_seen options.now)) }
+    ensures { IfOk result (λ r. pair_view r ≡ spec.request root.now (members_view fields.items) (texts_seen options.now)) }
 {
     let fields = structure_of(alloc, "", fields)?;
     let blank = blank_shape(alloc, &fields)?;
@@ -162,6 +166,18 @@ fn request(
         let shape = structure_of(alloc, "", vec![in alloc; fields]?)?;
         return typed(alloc, shape, PvValue::Struct(vec![in alloc; blank]?));
     }
+    with_options(alloc, fields, blank, options)
+}
+
+/// A request of a structure of fields, with its value, and the structure `record`.
+fn with_options(
+    alloc: Global,
+    fields: Member,
+    blank: PvValue,
+    options: &[Text<'_>],
+) -> Result<(PvType, PvValue), NoMemory>
+    ensures { IfOk result (λ r. pair_view r ≡ (spec.structure (field (member_view fields).0 (member_view fields).1 (spec.record_fields (texts_seen options.now))), members (more (view blank) (spec.record_row (texts_seen options.now))))) }
+{
     let (record, texts) = record_of(alloc, options)?;
     let shape = structure_of(alloc, "", vec![in alloc; fields, record]?)?;
     typed(alloc, shape, PvValue::Struct(vec![in alloc; blank, texts]?))
@@ -169,8 +185,7 @@ fn request(
 
 /// The member `record` with options, and its value.
 fn record_of(alloc: Global, options: &[Text<'_>]) -> Result<(Member, PvValue), NoMemory>
-    ensures { IfOk result (λ r. (member_view r.0 ≡ (codes "record", spec.structure (field (codes "_options") (spec.texts_type (texts_seen options.now)) no_fields)))
-        × (view r.1 ≡ members (more (spec.texts_value (texts_seen options.now)) end))) }
+    ensures { IfOk result (λ r. (members_view (r.0 ∷ []) ≡ spec.record_fields (texts_seen options.now)) × (row_view (r.1 ∷ []) ≡ spec.record_row (texts_seen options.now))) }
 {
     let (shape, value) = texts_of(alloc, options)?;
     let options = member(alloc, "_options", shape)?;
@@ -197,7 +212,7 @@ pub(crate) fn access_request(
     fields: &[Name],
     atomic: Option<bool>,
 ) -> Result<(PvType, PvValue), NoMemory>
-    ensures is { IfOk result (λ r. (r.0, view r.1) ≡ spec.request root.now (spec.fields_of fields.now) (spec.atomic_options atomic)) }
+    ensures is { IfOk result (λ r. pair_view r ≡ spec.request root.now (spec.selected fields.now) (spec.atomic_options atomic)) }
     ensures fits { IfOk result (λ r. fits_of 16 (view r.1) r.0 ≡ true) }
 {
     let fields = fields_of(alloc, fields)?;
@@ -211,7 +226,7 @@ pub(crate) fn monitor_request(
     queue: u32,
     window: Option<u32>,
 ) -> Result<(PvType, PvValue), NoMemory>
-    ensures is { IfOk result (λ r. (r.0, view r.1) ≡ spec.request (codes "field") (spec.fields_of fields.now) (spec.monitor_options queue window)) }
+    ensures is { IfOk result (λ r. pair_view r ≡ spec.request (codes "field") (spec.selected fields.now) (spec.monitor_options queue window)) }
     ensures fits { IfOk result (λ r. fits_of 16 (view r.1) r.0 ≡ true) }
 {
     let fields = fields_of(alloc, fields)?;
@@ -225,7 +240,7 @@ pub(crate) fn monitor_request(
 
 /// The user and the host, as the argument of a validation.
 pub(crate) fn user_of(alloc: Global, user: &str, host: &str) -> Result<(PvType, PvValue), NoMemory>
-    ensures is { IfOk result (λ r. (r.0, view r.1) ≡ spec.user_of (user.now, host.now)) }
+    ensures is { IfOk result (λ r. pair_view r ≡ spec.user_of (user.now, host.now)) }
     ensures fits { IfOk result (λ r. fits_of 16 (view r.1) r.0 ≡ true) }
 {
     let (shape, value) = texts_of(alloc, &[("user", user), ("host", host)])?;
@@ -241,7 +256,7 @@ fn text_member(alloc: Global, name: &str) -> Result<Member, NoMemory>
 
 /// An NTURI that calls the operation of this name (EPICS Normative Types 1.0, "NTURI").
 pub(crate) fn uri(alloc: Global, path: &str, operation: &str) -> Result<(PvType, PvValue), NoMemory>
-    ensures is { IfOk result (λ r. (r.0, view r.1) ≡ spec.uri path.now operation.now) }
+    ensures is { IfOk result (λ r. pair_view r ≡ spec.uri path.now operation.now) }
     ensures fits { IfOk result (λ r. fits_of 16 (view r.1) r.0 ≡ true) }
 {
     let (query, texts) = texts_of(alloc, &[("op", operation)])?;
