@@ -89,9 +89,10 @@ fn within(alloc: Global, ty: &PvType, bits: &BitSet) -> Result<BitSet, NoMemory>
 {
     let mut found = BitSet::new(alloc);
     for number in 0..ty.node_count() {
-        if bits.contains(number) {
-            found.insert(number)?;
+        if !bits.contains(number) {
+            continue;
         }
+        found.insert(number)?;
     }
     Ok(found)
 }
