@@ -95,6 +95,11 @@ abbrev pub Takes : Result Taken ClientFault → State → List ℕ → List ℕ 
 Takes outcome new before after (Ok telling) = Took outcome new before after (telling_view telling)
 Takes outcome new before after (Err f) = Faults f outcome
 
+-- What an event brought about was kept, or there was no memory for it.
+abbrev pub Keeps : View → View → List ℕ → List Told → Result (Unit {0}) ClientFault → Type 0
+Keeps old new bytes told (Ok u) = new ≡ record old { told = old.told ++ told; output = old.output ++ bytes }
+Keeps old new bytes told (Err f) = (f ≡ fails.NoMemory) × (new ≡ record old { fault = Some fails.NoMemory })
+
 -- An event was taken.
 pub record Handled (ask : Ask) (old new : View) (e : Event) : Type 0 where
   pub unfailed : old.fault ≡ None

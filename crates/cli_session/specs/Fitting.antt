@@ -1,10 +1,12 @@
 -- Values fit their types, in what a client reads and tells.
-use Rattle.std.specs.Prelude.{◌≡◌, Bool, true, List, Option, None, Some}
+use Rattle.std.specs.Prelude.{◌≡◌, ℕ, Bool, true, ◌&&◌, not, List, Option, None, Some, if◌then◌else◌}
 use Rattle.std.specs.List.{list_all}
 use Rattle.std.specs.Ordering.{nat_cmp}
 use Rattle.std.specs.FinSet.{FinSet}
 use Rattle.pvd_value.specs.Fits.{fits_of}
 use Rattle.pvd_codec.specs.Written.{HoldsLeaves}
+use Rattle.pva_wire.specs.declared.status.Status.{Status}
+use Rattle.pva_messages.specs.Subcommands.{begins, carries}
 use Rattle.pva_messages.specs.Fields.{Valued, PartData}
 use Rattle.pva_messages.specs.Replies as replies
 use Rattle.pva_messages.specs.Replies.{Reply}
@@ -24,12 +26,16 @@ abbrev pub valued_fits : Valued → Bool
 valued_fits None = true
 valued_fits (Some v) = fits_of 16 v.1 v.0
 
+-- the result of a call, where its reply brings one
+abbrev pub result_fits : ℕ → Status → Valued → Bool
+result_fits sub status v = if carries status && not (begins sub) then valued_fits v else true
+
 abbrev pub reply_fits : Reply → Bool
 reply_fits (replies.get req sub status ty p) = part_fits p
 reply_fits (replies.put req sub status ty p) = part_fits p
 reply_fits (replies.put_get req sub status put_ty get_ty p) = part_fits p
 reply_fits (replies.monitor_update req sub u) = update_fits u
-reply_fits (replies.rpc req sub status v) = valued_fits v
+reply_fits (replies.rpc req sub status v) = result_fits sub status v
 reply_fits other = true
 
 abbrev pub answer_fits : Answer → Bool

@@ -152,9 +152,11 @@ replied ask s turn later reply None = answered ask s turn later (answer_of turn 
 abbrev pub fault_in : Whole → ValueCause × ℕ → MessageFault
 fault_in whole (cause, left) = record { command = whole.command; cause = fault_at cause (length whole.payload - left) }
 
+abbrev pub heard_reply : Ask → State → Turn → List Turn → Reply → Result Taken ClientFault
+heard_reply ask s turn later reply = replied ask s turn later reply (foreign_id s reply)
+
 abbrev pub heard : Ask → State → Turn → List Turn → Whole → Read Source Reply → Result Taken ClientFault
-heard ask s turn later whole (Ok (reply, (rest, types))) =
-    replied ask (record s { types = types }) turn later reply (foreign_id s reply)
+heard ask s turn later whole (Ok (reply, (rest, types))) = heard_reply ask (record s { types = types }) turn later reply
 heard ask s turn later whole (Err f) = Err (fails.Message (fault_in whole f))
 
 -- The commands of the replies that a client awaits; all others are passed over unread.

@@ -3,7 +3,7 @@ ghost use Rattle.std.specs.Prelude.{◌≡◌, true, IfOk};
 ghost use Rattle.pva_messages.specs.Subcommands.{carries};
 ghost use Rattle.pva_messages.specs.Views.{part_view, update_view, valued_view, reply_view};
 ghost use Rattle.cli_session.specs.Answers as rows;
-ghost use Rattle.cli_session.specs.Fitting.{part_fits, update_fits, valued_fits, answer_fits, reply_fits};
+ghost use Rattle.cli_session.specs.Fitting.{part_fits, update_fits, result_fits, answer_fits, reply_fits};
 ghost use Rattle.cli_session.specs.Seen.{answer_view, answered_view};
 
 use crate::fault::ClientFault;
@@ -55,7 +55,7 @@ fn carries(status: &Status) -> bool
 
 /// An answer, where its status is OK or WARNING.
 fn unless_refused(status: Status, answer: Answer) -> Result<Answer, ClientFault>
-    requires { answer_fits (answer_view answer) ≡ true }
+    requires { carries status ≡ true → answer_fits (answer_view answer) ≡ true }
     ensures answer { answered_view result ≡ rows.unless_refused status (answer_view answer) }
     ensures fits { IfOk result (λ a. answer_fits (answer_view a) ≡ true) }
 {
@@ -87,7 +87,7 @@ fn at_sub(
     status: Status,
     answer: Answer,
 ) -> Result<Answer, ClientFault>
-    requires { answer_fits (answer_view answer) ≡ true }
+    requires { sub ≡ wanted → carries status ≡ true → answer_fits (answer_view answer) ≡ true }
     ensures answer { answered_view result ≡ rows.at_sub command wanted sub status (answer_view answer) }
     ensures fits { IfOk result (λ a. answer_fits (answer_view a) ≡ true) }
 {
@@ -257,7 +257,7 @@ fn call_answer(
     status: Status,
     value: Option<(PvType, PvValue)>,
 ) -> Result<Answer, ClientFault>
-    requires { valued_fits (valued_view value) ≡ true }
+    requires { result_fits sub status (valued_view value) ≡ true }
     ensures answer { answered_view result ≡ rows.call_answer turn sub status (valued_view value) }
     ensures fits { IfOk result (λ a. answer_fits (answer_view a) ≡ true) }
 {

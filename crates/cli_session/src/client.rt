@@ -1,4 +1,5 @@
-ghost use Rattle.std.specs.Prelude.{◌≡◌, ◌≤◌, ◌++◌, [], true, map, length, drop, List, ℕ, Option, None, OnOk, OnErr, IfSome};
+ghost use Rattle.std.specs.Prelude.{◌≡◌, ◌≤◌, ◌<◌, ◌+◌, ◌++◌, [], true, map, length, drop, List, ℕ, None, Some, Err, IfSome};
+ghost use Rattle.std.specs.VecDeque.{deque_len, deque_capacity};
 ghost use Rattle.pva_frames.specs.declared.event.Event.{Event};
 ghost use Rattle.cli_session.specs.Fitting.{all_fit, told_fits};
 ghost use Rattle.cli_session.specs.Seen.{report_view, reports_view, telling_view};
@@ -10,7 +11,6 @@ use crate::fault::ClientFault;
 use crate::report::{Report, Telling};
 use crate::session::Session;
 use pva_frames::Event;
-use pvd_type::NoMemory;
 use std::alloc::Global;
 use std::collections::VecDeque;
 
@@ -32,27 +32,31 @@ pub struct Client {
     ghost fit: { all_fit (map report_view reports.items) ≡ true },
 }
 
-/// Puts what was told behind the reports, for which there is room.
-fn put_reports(reports: &mut VecDeque<Report>, telling: Telling) -> Result<(), NoMemory>
-    ensures ok { OnOk result (map report_view reports.new.items ≡ map report_view reports.old.items ++ telling_view telling) }
-    ensures err { OnErr result (reports.new.items ≡ reports.old.items) }
+/// Puts what was told behind the reports, which have room for it.
+fn put_reports(reports: &mut VecDeque<Report>, telling: Telling)
+    requires { deque_len reports.old + 2 ≤ deque_capacity reports.old }
+    ensures { map report_view reports.new.items ≡ map report_view reports.old.items ++ telling_view telling }
 {
-    if let Err(_) = reports.reserve(2) {
-        discard(telling);
-        return Err(NoMemory);
-    }
     let Telling { report, finished } = telling;
-    if let Some(report) = report {
-        reports.push_back_reserved(report);
-    }
+    put_report(reports, report);
     if finished {
         reports.push_back_reserved(Report::Finished);
     }
-    Ok(())
+}
+
+/// Puts a report behind the others, which leave room for one more.
+fn put_report(reports: &mut VecDeque<Report>, report: Option<Report>)
+    requires { deque_len reports.old + 2 ≤ deque_capacity reports.old }
+    ensures told { map report_view reports.new.items ≡ map report_view reports.old.items ++ reports_view report }
+    ensures room { deque_len reports.new < deque_capacity reports.new }
+{
+    if let Some(report) = report {
+        reports.push_back_reserved(report);
+    }
 }
 
 impl Client {
-    ghost use Rattle.cli_session.specs.Calls.{Handles, Stands, Continues, Gives};
+    ghost use Rattle.cli_session.specs.Calls.{Handles, Keeps, Stands, Continues, Gives};
     ghost use Rattle.cli_session.specs.State.{opening};
     ghost use Rattle.cli_session.specs.Views.{view_of, ask_of};
 
@@ -96,19 +100,29 @@ impl Client {
     }
 
     /// Keeps what an event brought about.
-    fn keep(&mut self, out: &[u8], telling: Telling) -> Result<(), ClientFault> {
+    fn keep(&mut self, out: &[u8], telling: Telling) -> Result<(), ClientFault>
+        requires { all_fit (telling_view telling) ≡ true }
+        ensures keeps { Keeps (view_of self.old) (view_of self.new) out.now (telling_view telling) result }
+        ensures ask { ask_of self.new ≡ ask_of self.old }
+    {
+        if let Err(_) = self.reports.reserve(2) {
+            discard(telling);
+            return self.fail(ClientFault::NoMemory);
+        }
         if let Err(_) = self.output.extend_from_slice(out) {
             discard(telling);
             return self.fail(ClientFault::NoMemory);
         }
-        match put_reports(&mut self.reports, telling) {
-            Ok(()) => Ok(()),
-            Err(_) => self.fail(ClientFault::NoMemory),
-        }
+        put_reports(&mut self.reports, telling);
+        Ok(())
     }
 
     /// The client has failed.
-    fn fail(&mut self, fault: ClientFault) -> Result<(), ClientFault> {
+    fn fail(&mut self, fault: ClientFault) -> Result<(), ClientFault>
+        ensures result { result ≡ Err fault }
+        ensures view { view_of self.new ≡ record (view_of self.old) { fault = Some fault } }
+        ensures ask { ask_of self.new ≡ ask_of self.old }
+    {
         self.fault = Some(fault);
         Err(fault)
     }

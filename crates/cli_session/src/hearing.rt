@@ -1,5 +1,5 @@
 // What a client does at an event.
-ghost use Rattle.std.specs.Prelude.{◌≡◌, ◌≢◌, true, IfOk, Ok, Err};
+ghost use Rattle.std.specs.Prelude.{◌≡◌, ◌∷◌, [], true, IfOk, Ok, Err};
 ghost use Rattle.std.specs.Option.{option_copied};
 ghost use Rattle.pva_messages.specs.Replies.{Reply};
 ghost use Rattle.pva_messages.specs.Views.{part_view, part_data, update_view, valued_view, reply_view};
@@ -281,7 +281,7 @@ impl Session {
         reply: ToClient,
     ) -> Result<Telling, ClientFault>
         requires { reply_fits (reply_view reply) ≡ true }
-        ensures takes { Takes (step.replied ask.now (state_of self.old) turn later.entry.now (reply_view reply) (foreign_id (state_of self.old) (reply_view reply))) (state_of self.new) out.old.items out.new.items result }
+        ensures takes { Takes (step.heard_reply ask.now (state_of self.old) turn later.entry.now (reply_view reply)) (state_of self.new) out.old.items out.new.items result }
         ensures fits { IfOk result (λ t. all_fit (telling_view t) ≡ true) }
     {
         if let Some(id) = self.foreign_id(&reply) {
@@ -350,6 +350,7 @@ impl Session {
         }
         if command == ECHO_REQUEST {
             self.say_control(out, ECHO_RESPONSE, number)?;
+            return Ok(untold());
         }
         Ok(untold())
     }
