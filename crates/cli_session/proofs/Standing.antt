@@ -2,7 +2,7 @@
 use Rattle.std.proofs.Common.{◌≡◌, ◌⊎◌, inl, inr, ℕ, List, [], ◌∷◌, ◌++◌, Option, None, Some, Result, Ok, Err, refl, sym, ap, subst, ◌∙◌, append_assoc}
 use Rattle.std.proofs.lemmas.List.{append-nil}
 use Rattle.pva_frames.specs.declared.event.Event.{Event}
-use Rattle.cli_session.specs.Calls.{Faults, Handled, Failed, Handles, Stands, Fell, Continues}
+use Rattle.cli_session.specs.Calls.{Faults, Took, Keeps, Handled, Failed, Handles, Stands, Fell, Continues}
 use Rattle.cli_session.specs.State.{State, opening}
 use Rattle.cli_session.specs.Steps.{Told, Taken, Run, bytes_of, and_then, going_on, step, run, client_run, client_told, client_bytes, client_fault}
 use Rattle.cli_session.specs.Views.{View}
@@ -100,3 +100,36 @@ module _ (ask : Ask) where
     pub continues : (result : Result (Unit {0}) ClientFault) → Handles ask old new e result → Continues ask events given taken new e result
     continues (Ok u) h = stands_on h
     continues (Err f) h = fell f h (why_of f h h.why)
+
+-- How an event is taken, between the view before it, and the same with another state.
+module _ (ask : Ask) (old new : View) (e : Event) (state : State) (unfailed : old.fault ≡ None) where
+  abbrev mid : View
+  mid = record old { state = state }
+
+  -- what it brought about was kept, or there was no memory for it
+  pub kept : (bytes : List ℕ) (told : List Told) (result : Result (Unit {0}) ClientFault) → Took (step ask old.state e) state [] bytes told → Keeps mid new bytes told result → Handles ask old new e result
+  kept bytes told (Ok u) took is = record {
+    unfailed = unfailed;
+    taken = took.taken;
+    is = took.is;
+    state = ap (λ (v : View). v.state) is ∙ took.went.state;
+    told = ap (λ (v : View). v.told) is ∙ ap (λ (xs : List Told). old.told ++ xs) took.told_is;
+    output = ap (λ (v : View). v.output) is ∙ ap (λ (xs : List ℕ). old.output ++ xs) took.went.bytes;
+    fault = ap (λ (v : View). v.fault) is ∙ unfailed;
+  }
+  kept bytes told (Err f) took (none, is) = record {
+    fault = ap (λ (v : View). v.fault) is ∙ ap Some (sym none);
+    why = inr (unfailed, subst (λ (g : ClientFault). Faults g (step ask old.state e)) (sym none) tt);
+    told = ap (λ (v : View). v.told) is;
+    output = ap (λ (v : View). v.output) is;
+  }
+
+  -- it has this fault
+  pub not_taken : (f : ClientFault) (result : Result (Unit {0}) ClientFault) → result ≡ Err f → Faults f (step ask old.state e) → new ≡ record mid { fault = Some f } → Handles ask old new e result
+  not_taken f result failed why is =
+      subst (λ (r : Result (Unit {0}) ClientFault). Handles ask old new e r) (sym failed) (record {
+        fault = ap (λ (v : View). v.fault) is;
+        why = inr (unfailed, why);
+        told = ap (λ (v : View). v.told) is;
+        output = ap (λ (v : View). v.output) is;
+      })
