@@ -21,28 +21,24 @@ const USER_VALIDATION: &[u8] =
     b"\xCA\x02\x00\x01\"\x00\x00\x00\x00\x00\x01\x00\xFF\x7F\x00\x00\x02ca\x80\x00\x02\x04user`\x04host`\x03ann\x03lab";
 
 /// It asks for the channel X.
-const CREATE: &[u8] =
-    b"\xCA\x02\x00\x07\x08\x00\x00\x00\x01\x00\x01\x00\x00\x00\x01X";
+const CREATE: &[u8] = b"\xCA\x02\x00\x07\x08\x00\x00\x00\x01\x00\x01\x00\x00\x00\x01X";
 
 /// A get of all fields begins.
 const BEGIN_GET: &[u8] =
     b"\xCA\x02\x00\x0A\x15\x00\x00\x00\x00\x00\x00\x00\x01\x00\x00\x00\x08\x80\x00\x01\x05field\x80\x00\x00";
 
 /// Its value is asked for.
-const GET: &[u8] =
-    b"\xCA\x02\x00\x0A\x09\x00\x00\x00\x00\x00\x00\x00\x01\x00\x00\x00\x00";
+const GET: &[u8] = b"\xCA\x02\x00\x0A\x09\x00\x00\x00\x00\x00\x00\x00\x01\x00\x00\x00\x00";
 
 /// The request of id 1 is ended.
-const END: &[u8] =
-    b"\xCA\x02\x00\x0F\x08\x00\x00\x00\x00\x00\x00\x00\x01\x00\x00\x00";
+const END: &[u8] = b"\xCA\x02\x00\x0F\x08\x00\x00\x00\x00\x00\x00\x00\x01\x00\x00\x00";
 
 /// A put that isn't to be atomic begins.
 const BEGIN_PUT: &[u8] =
     b"\xCA\x02\x00\x0B9\x00\x00\x00\x00\x00\x00\x00\x01\x00\x00\x00\x08\x80\x00\x02\x05field\x80\x00\x00\x06record\x80\x00\x01\x08_options\x80\x00\x01\x06atomic`\x05false";
 
 /// The present value is asked for.
-const READ_BACK: &[u8] =
-    b"\xCA\x02\x00\x0B\x09\x00\x00\x00\x00\x00\x00\x00\x01\x00\x00\x00@";
+const READ_BACK: &[u8] = b"\xCA\x02\x00\x0B\x09\x00\x00\x00\x00\x00\x00\x00\x01\x00\x00\x00@";
 
 /// The field 1 is 7.
 const PUT_SEVEN: &[u8] =
@@ -53,12 +49,10 @@ const BEGIN_PUT_2: &[u8] =
     b"\xCA\x02\x00\x0B8\x00\x00\x00\x00\x00\x00\x00\x02\x00\x00\x00\x08\x80\x00\x02\x05field\x80\x00\x00\x06record\x80\x00\x01\x08_options\x80\x00\x01\x06atomic`\x04true";
 
 /// The present value is asked for.
-const READ_BACK_2: &[u8] =
-    b"\xCA\x02\x00\x0B\x09\x00\x00\x00\x00\x00\x00\x00\x02\x00\x00\x00@";
+const READ_BACK_2: &[u8] = b"\xCA\x02\x00\x0B\x09\x00\x00\x00\x00\x00\x00\x00\x02\x00\x00\x00@";
 
 /// The request of id 2 is ended.
-const END_2: &[u8] =
-    b"\xCA\x02\x00\x0F\x08\x00\x00\x00\x00\x00\x00\x00\x02\x00\x00\x00";
+const END_2: &[u8] = b"\xCA\x02\x00\x0F\x08\x00\x00\x00\x00\x00\x00\x00\x02\x00\x00\x00";
 
 /// A put-get begins that is to be atomic, for `alarm.severity`, `value` and `alarm.status`.
 const BEGIN_PUT_GET: &[u8] =
@@ -73,8 +67,7 @@ const BEGIN_MONITOR: &[u8] =
     b"\xCA\x02\x00\x0DK\x00\x00\x00\x00\x00\x00\x00\x01\x00\x00\x00\x88\x80\x00\x02\x05field\x80\x00\x00\x06record\x80\x00\x01\x08_options\x80\x00\x02\x09queueSize`\x08pipeline`\x017\x04true\x03\x00\x00\x00";
 
 /// It is started.
-const START: &[u8] =
-    b"\xCA\x02\x00\x0D\x09\x00\x00\x00\x00\x00\x00\x00\x01\x00\x00\x00D";
+const START: &[u8] = b"\xCA\x02\x00\x0D\x09\x00\x00\x00\x00\x00\x00\x00\x01\x00\x00\x00D";
 
 /// An update is acknowledged.
 const ACKNOWLEDGE: &[u8] =
@@ -85,8 +78,7 @@ const BEGIN_PLAIN_MONITOR: &[u8] =
     b"\xCA\x02\x00\x0D8\x00\x00\x00\x00\x00\x00\x00\x01\x00\x00\x00\x08\x80\x00\x02\x05field\x80\x00\x00\x06record\x80\x00\x01\x08_options\x80\x00\x01\x09queueSize`\x014";
 
 /// The type of the channel is asked for.
-const GET_FIELD: &[u8] =
-    b"\xCA\x02\x00\x11\x09\x00\x00\x00\x00\x00\x00\x00\x01\x00\x00\x00\x00";
+const GET_FIELD: &[u8] = b"\xCA\x02\x00\x11\x09\x00\x00\x00\x00\x00\x00\x00\x01\x00\x00\x00\x00";
 
 /// A call begins.
 const BEGIN_CALL: &[u8] =
@@ -101,33 +93,26 @@ const BIG_VALIDATION: &[u8] =
     b"\xCA\x02\x80\x01\x00\x00\x00\x13\x00\x01\x00\x00\x7F\xFF\x00\x00\x09anonymous\xFF";
 
 /// The echo of 2A in big endian.
-const BIG_ECHOED: &[u8] =
-    b"\xCA\x02\x81\x04\x00\x00\x00*";
+const BIG_ECHOED: &[u8] = b"\xCA\x02\x81\x04\x00\x00\x00*";
 
 /// The channel X in big endian.
-const BIG_CREATE: &[u8] =
-    b"\xCA\x02\x80\x07\x00\x00\x00\x08\x00\x01\x00\x00\x00\x01\x01X";
+const BIG_CREATE: &[u8] = b"\xCA\x02\x80\x07\x00\x00\x00\x08\x00\x01\x00\x00\x00\x01\x01X";
 
 /// The beginning of a get in big endian.
 const BIG_BEGIN_GET: &[u8] =
     b"\xCA\x02\x80\x0A\x00\x00\x00\x15\x00\x00\x00\x00\x00\x00\x00\x01\x08\x80\x00\x01\x05field\x80\x00\x00";
 
 /// A get in big endian.
-const BIG_GET: &[u8] =
-    b"\xCA\x02\x80\x0A\x00\x00\x00\x09\x00\x00\x00\x00\x00\x00\x00\x01\x00";
+const BIG_GET: &[u8] = b"\xCA\x02\x80\x0A\x00\x00\x00\x09\x00\x00\x00\x00\x00\x00\x00\x01\x00";
 
 /// The end of the request in big endian.
-const BIG_END: &[u8] =
-    b"\xCA\x02\x80\x0F\x00\x00\x00\x08\x00\x00\x00\x00\x00\x00\x00\x01";
+const BIG_END: &[u8] = b"\xCA\x02\x80\x0F\x00\x00\x00\x08\x00\x00\x00\x00\x00\x00\x00\x01";
 
 /// A message of the server: its command and its payload.
 type Heard<'a> = (u8, &'a [u8]);
 
 /// The server's sizes and methods.
-const GREETING: Heard<'static> = (
-    0x01,
-    b"\x00\x00\x01\x00\xFF\x7F\x02\x09anonymous\x02ca",
-);
+const GREETING: Heard<'static> = (0x01, b"\x00\x00\x01\x00\xFF\x7F\x02\x09anonymous\x02ca");
 
 /// The validation was taken.
 const VALIDATED: Heard<'static> = (0x09, b"\xFF");
@@ -136,44 +121,64 @@ const VALIDATED: Heard<'static> = (0x09, b"\xFF");
 const CREATED: Heard<'static> = (0x07, b"\x01\x00\x00\x00\x00\x00\x00\x00\xFF");
 
 /// A get of a longout has begun.
-const GET_BEGUN: Heard<'static> =
-    (0x0A, b"\x01\x00\x00\x00\x08\xFF\x80\x15epics:nt/NTScalar:1.0\x03\x05value\x22\x05alarm\x80\x07alarm_t\x03\x08severity\x22\x06status\x22\x07message\x60\x09timeStamp\x80\x06time_t\x03\x10secondsPastEpoch\x23\x0Bnanoseconds\x22\x07userTag\x22");
+const GET_BEGUN: Heard<'static> = (
+    0x0A,
+    b"\x01\x00\x00\x00\x08\xFF\x80\x15epics:nt/NTScalar:1.0\x03\x05value\x22\x05alarm\x80\x07alarm_t\x03\x08severity\x22\x06status\x22\x07message\x60\x09timeStamp\x80\x06time_t\x03\x10secondsPastEpoch\x23\x0Bnanoseconds\x22\x07userTag\x22",
+);
 
 /// Its value, 42.
-const GOT: Heard<'static> =
-    (0x0A, b"\x01\x00\x00\x00\x00\xFF\x02\xBA\x03\x2A\x00\x00\x00\x00\x00\x00\x00\x00\x00\x00\x00\x00\x00\x00\x00\x00\x00\x00\x00\x00\x00\x00\x00\x00\x00\x00\x00\x00");
+const GOT: Heard<'static> = (
+    0x0A,
+    b"\x01\x00\x00\x00\x00\xFF\x02\xBA\x03\x2A\x00\x00\x00\x00\x00\x00\x00\x00\x00\x00\x00\x00\x00\x00\x00\x00\x00\x00\x00\x00\x00\x00\x00\x00\x00\x00\x00\x00",
+);
 
 /// A put to a longout has begun.
-const PUT_BEGUN: Heard<'static> =
-    (0x0B, b"\x01\x00\x00\x00\x08\xFF\x80\x15epics:nt/NTScalar:1.0\x03\x05value\x22\x05alarm\x80\x07alarm_t\x03\x08severity\x22\x06status\x22\x07message\x60\x09timeStamp\x80\x06time_t\x03\x10secondsPastEpoch\x23\x0Bnanoseconds\x22\x07userTag\x22");
+const PUT_BEGUN: Heard<'static> = (
+    0x0B,
+    b"\x01\x00\x00\x00\x08\xFF\x80\x15epics:nt/NTScalar:1.0\x03\x05value\x22\x05alarm\x80\x07alarm_t\x03\x08severity\x22\x06status\x22\x07message\x60\x09timeStamp\x80\x06time_t\x03\x10secondsPastEpoch\x23\x0Bnanoseconds\x22\x07userTag\x22",
+);
 
 /// Its present value, 42.
-const PRESENT: Heard<'static> =
-    (0x0B, b"\x01\x00\x00\x00@\xFF\x02\xBA\x03\x2A\x00\x00\x00\x00\x00\x00\x00\x00\x00\x00\x00\x00\x00\x00\x00\x00\x00\x00\x00\x00\x00\x00\x00\x00\x00\x00\x00\x00");
+const PRESENT: Heard<'static> = (
+    0x0B,
+    b"\x01\x00\x00\x00@\xFF\x02\xBA\x03\x2A\x00\x00\x00\x00\x00\x00\x00\x00\x00\x00\x00\x00\x00\x00\x00\x00\x00\x00\x00\x00\x00\x00\x00\x00\x00\x00\x00\x00",
+);
 
 /// It was done.
 const PUT_DONE: Heard<'static> = (0x0B, b"\x01\x00\x00\x00\x00\xFF");
 
-const PUT_2_BEGUN: Heard<'static> =
-    (0x0B, b"\x02\x00\x00\x00\x08\xFF\x80\x15epics:nt/NTScalar:1.0\x03\x05value\x22\x05alarm\x80\x07alarm_t\x03\x08severity\x22\x06status\x22\x07message\x60\x09timeStamp\x80\x06time_t\x03\x10secondsPastEpoch\x23\x0Bnanoseconds\x22\x07userTag\x22");
+const PUT_2_BEGUN: Heard<'static> = (
+    0x0B,
+    b"\x02\x00\x00\x00\x08\xFF\x80\x15epics:nt/NTScalar:1.0\x03\x05value\x22\x05alarm\x80\x07alarm_t\x03\x08severity\x22\x06status\x22\x07message\x60\x09timeStamp\x80\x06time_t\x03\x10secondsPastEpoch\x23\x0Bnanoseconds\x22\x07userTag\x22",
+);
 
-const PRESENT_2: Heard<'static> =
-    (0x0B, b"\x02\x00\x00\x00@\xFF\x02\xBA\x03\x2A\x00\x00\x00\x00\x00\x00\x00\x00\x00\x00\x00\x00\x00\x00\x00\x00\x00\x00\x00\x00\x00\x00\x00\x00\x00\x00\x00\x00");
+const PRESENT_2: Heard<'static> = (
+    0x0B,
+    b"\x02\x00\x00\x00@\xFF\x02\xBA\x03\x2A\x00\x00\x00\x00\x00\x00\x00\x00\x00\x00\x00\x00\x00\x00\x00\x00\x00\x00\x00\x00\x00\x00\x00\x00\x00\x00\x00\x00",
+);
 
 /// A put-get has begun, which puts and gets a longout.
-const PUT_GET_BEGUN: Heard<'static> =
-    (0x0C, b"\x01\x00\x00\x00\x08\xFF\x80\x15epics:nt/NTScalar:1.0\x03\x05value\x22\x05alarm\x80\x07alarm_t\x03\x08severity\x22\x06status\x22\x07message\x60\x09timeStamp\x80\x06time_t\x03\x10secondsPastEpoch\x23\x0Bnanoseconds\x22\x07userTag\x22\x80\x15epics:nt/NTScalar:1.0\x03\x05value\x22\x05alarm\x80\x07alarm_t\x03\x08severity\x22\x06status\x22\x07message\x60\x09timeStamp\x80\x06time_t\x03\x10secondsPastEpoch\x23\x0Bnanoseconds\x22\x07userTag\x22");
+const PUT_GET_BEGUN: Heard<'static> = (
+    0x0C,
+    b"\x01\x00\x00\x00\x08\xFF\x80\x15epics:nt/NTScalar:1.0\x03\x05value\x22\x05alarm\x80\x07alarm_t\x03\x08severity\x22\x06status\x22\x07message\x60\x09timeStamp\x80\x06time_t\x03\x10secondsPastEpoch\x23\x0Bnanoseconds\x22\x07userTag\x22\x80\x15epics:nt/NTScalar:1.0\x03\x05value\x22\x05alarm\x80\x07alarm_t\x03\x08severity\x22\x06status\x22\x07message\x60\x09timeStamp\x80\x06time_t\x03\x10secondsPastEpoch\x23\x0Bnanoseconds\x22\x07userTag\x22",
+);
 
 /// The value that came of it, 9.
-const PUT_GOT: Heard<'static> =
-    (0x0C, b"\x01\x00\x00\x00\x00\xFF\x02\xBA\x03\x09\x00\x00\x00\x00\x00\x00\x00\x00\x00\x00\x00\x00\x00\x00\x00\x00\x00\x00\x00\x00\x00\x00\x00\x00\x00\x00\x00\x00");
+const PUT_GOT: Heard<'static> = (
+    0x0C,
+    b"\x01\x00\x00\x00\x00\xFF\x02\xBA\x03\x09\x00\x00\x00\x00\x00\x00\x00\x00\x00\x00\x00\x00\x00\x00\x00\x00\x00\x00\x00\x00\x00\x00\x00\x00\x00\x00\x00\x00",
+);
 
-const MONITOR_BEGUN: Heard<'static> =
-    (0x0D, b"\x01\x00\x00\x00\x08\xFF\x80\x15epics:nt/NTScalar:1.0\x03\x05value\x22\x05alarm\x80\x07alarm_t\x03\x08severity\x22\x06status\x22\x07message\x60\x09timeStamp\x80\x06time_t\x03\x10secondsPastEpoch\x23\x0Bnanoseconds\x22\x07userTag\x22");
+const MONITOR_BEGUN: Heard<'static> = (
+    0x0D,
+    b"\x01\x00\x00\x00\x08\xFF\x80\x15epics:nt/NTScalar:1.0\x03\x05value\x22\x05alarm\x80\x07alarm_t\x03\x08severity\x22\x06status\x22\x07message\x60\x09timeStamp\x80\x06time_t\x03\x10secondsPastEpoch\x23\x0Bnanoseconds\x22\x07userTag\x22",
+);
 
 /// The first update: all leaves.
-const FIRST: Heard<'static> =
-    (0x0D, b"\x01\x00\x00\x00\x00\x02\xBA\x03\x2A\x00\x00\x00\x00\x00\x00\x00\x00\x00\x00\x00\x00\x00\x00\x00\x00\x00\x00\x00\x00\x00\x00\x00\x00\x00\x00\x00\x00\x00");
+const FIRST: Heard<'static> = (
+    0x0D,
+    b"\x01\x00\x00\x00\x00\x02\xBA\x03\x2A\x00\x00\x00\x00\x00\x00\x00\x00\x00\x00\x00\x00\x00\x00\x00\x00\x00\x00\x00\x00\x00\x00\x00\x00\x00\x00\x00\x00\x00",
+);
 
 /// The value 5 at the moment 5, of which the time stamp and a field that isn't there changed more than once.
 const SECOND: Heard<'static> = (
@@ -190,8 +195,10 @@ const THIRD: Heard<'static> = (
 /// The monitor has ended.
 const MONITOR_END: Heard<'static> = (0x0D, b"\x01\x00\x00\x00\x10\xFF");
 
-const FIELD: Heard<'static> =
-    (0x11, b"\x01\x00\x00\x00\xFF\x80\x15epics:nt/NTScalar:1.0\x03\x05value\x22\x05alarm\x80\x07alarm_t\x03\x08severity\x22\x06status\x22\x07message\x60\x09timeStamp\x80\x06time_t\x03\x10secondsPastEpoch\x23\x0Bnanoseconds\x22\x07userTag\x22");
+const FIELD: Heard<'static> = (
+    0x11,
+    b"\x01\x00\x00\x00\xFF\x80\x15epics:nt/NTScalar:1.0\x03\x05value\x22\x05alarm\x80\x07alarm_t\x03\x08severity\x22\x06status\x22\x07message\x60\x09timeStamp\x80\x06time_t\x03\x10secondsPastEpoch\x23\x0Bnanoseconds\x22\x07userTag\x22",
+);
 
 const CALL_BEGUN: Heard<'static> = (0x14, b"\x01\x00\x00\x00\x08\xFF");
 
@@ -220,12 +227,15 @@ const NO_VALUE: Heard<'static> = (0x0A, b"\x01\x00\x00\x00\x00\xFF");
 const NO_PRESENT: Heard<'static> = (0x0B, b"\x01\x00\x00\x00@\xFF");
 
 /// The lines of the value 42 and of the value 9.
-const TEXT_42: &[u8] = b"value 42\nalarm.severity 0\nalarm.status 0\nalarm.message \"\"\ntimeStamp.secondsPastEpoch 0\ntimeStamp.nanoseconds 0\ntimeStamp.userTag 0\n";
+const TEXT_42: &[u8] =
+    b"value 42\nalarm.severity 0\nalarm.status 0\nalarm.message \"\"\ntimeStamp.secondsPastEpoch 0\ntimeStamp.nanoseconds 0\ntimeStamp.userTag 0\n";
 
-const TEXT_9: &[u8] = b"value 9\nalarm.severity 0\nalarm.status 0\nalarm.message \"\"\ntimeStamp.secondsPastEpoch 0\ntimeStamp.nanoseconds 0\ntimeStamp.userTag 0\n";
+const TEXT_9: &[u8] =
+    b"value 9\nalarm.severity 0\nalarm.status 0\nalarm.message \"\"\ntimeStamp.secondsPastEpoch 0\ntimeStamp.nanoseconds 0\ntimeStamp.userTag 0\n";
 
 /// The lines of the type.
-const TEXT_TYPE: &[u8] = b"value int\nalarm structure alarm_t\nalarm.severity int\nalarm.status int\nalarm.message string\ntimeStamp structure time_t\ntimeStamp.secondsPastEpoch long\ntimeStamp.nanoseconds int\ntimeStamp.userTag int\n";
+const TEXT_TYPE: &[u8] =
+    b"value int\nalarm structure alarm_t\nalarm.severity int\nalarm.status int\nalarm.message string\ntimeStamp structure time_t\ntimeStamp.secondsPastEpoch long\ntimeStamp.nanoseconds int\ntimeStamp.userTag int\n";
 
 /// What the tests print where a client prints nothing.
 const FINISHED: &[u8] = b"finished\n";
@@ -304,7 +314,9 @@ fn hear_all(alloc: Global, ask: Ask, heard: &[Heard<'_>]) -> Result<Said, NoMemo
     let mut text = Vec::new(alloc);
     let mut fault = None;
     for heard in heard {
-        fault = client.handle(alloc, message(alloc, Order::Little, *heard)?).err();
+        fault = client
+            .handle(alloc, message(alloc, Order::Little, *heard)?)
+            .err();
         print_next(alloc, &mut text, &mut client)?;
         print_next(alloc, &mut text, &mut client)?;
     }
@@ -388,7 +400,12 @@ fn a_put_get_ends_its_put_first(rt: HostRuntime) -> Result<(), Fail> {
     let mut put_get = ask(alloc, Operation::PutGet(word(alloc, "value=9")?))?;
     put_get.atomic = Some(true);
     // `alarm.status.more` lies below `alarm.status`
-    for field in ["alarm.severity", "value", "alarm.status.more", "alarm.status"] {
+    for field in [
+        "alarm.severity",
+        "value",
+        "alarm.status.more",
+        "alarm.status",
+    ] {
         put_get.fields.push(Name::of(alloc, field)?)?;
     }
     assert!(rt; is_said(alloc, put_get, &heard, &output, &[TEXT_9, FINISHED])?);
@@ -574,10 +591,7 @@ const BIG: [Heard<'static>; 4] = [
     (0x0A, b"\x00\x00\x00\x01\x00\xFF\x01\x01\x00\x00\x00\x2A"),
 ];
 
-const BIG_GREETING: Heard<'static> = (
-    0x01,
-    b"\x00\x01\x00\x00\x7F\xFF\x02\x09anonymous\x02ca",
-);
+const BIG_GREETING: Heard<'static> = (0x01, b"\x00\x01\x00\x00\x7F\xFF\x02\x09anonymous\x02ca");
 
 #[test]
 fn a_server_may_use_big_endian_and_ask_for_echoes(rt: HostRuntime) -> Result<(), Fail> {
@@ -593,10 +607,18 @@ fn a_server_may_use_big_endian_and_ask_for_echoes(rt: HostRuntime) -> Result<(),
     };
     let mut text = Vec::new(alloc);
     assert!(rt; client.handle(alloc, order).is_ok());
-    assert!(rt; client.handle(alloc, message(alloc, Order::Big, BIG_GREETING)?).is_ok());
+    assert!(rt;
+        client
+            .handle(alloc, message(alloc, Order::Big, BIG_GREETING)?)
+            .is_ok()
+    );
     assert!(rt; client.handle(alloc, echo).is_ok());
     for heard in BIG {
-        assert!(rt; client.handle(alloc, message(alloc, Order::Big, heard)?).is_ok());
+        assert!(rt;
+            client
+                .handle(alloc, message(alloc, Order::Big, heard)?)
+                .is_ok()
+        );
         print_next(alloc, &mut text, &mut client)?;
         print_next(alloc, &mut text, &mut client)?;
     }

@@ -24,5 +24,5 @@ loop-path-preserved c =
     let more : paths_seen c.push.new.self.items ≡ found ++ rest ∷ [] = ap paths_seen (c.in_ok-push.ensures {u = tt}).items ∙ map-append path_seen c.loop-path.found.items (c.in-Some.rest ∷ []) in
     record {
       rest = went_on path_seen name paths i p found first rest c.loop-path-test.true here is same c.loop-path.invariant.rest (paths_seen c.push.new.self.items) more;
-      go_on = goes_on path_seen name paths i p found first rest c.loop-path-test.true here is same c.loop-path.invariant.rest (paths_seen c.push.new.self.items) more c.loop-path.invariant.go_on (path_has_a_name c.in-Some.rest.now)
+      go_on = goes_on path_seen name paths i p found first rest c.loop-path-test.true here is same c.loop-path.invariant.rest (paths_seen c.push.new.self.items) more c.loop-path.invariant.go_on (path_has_a_name c.in-Some.rest.now);
     }

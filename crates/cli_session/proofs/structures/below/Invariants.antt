@@ -7,5 +7,5 @@ use Rattle.cli_session.proofs.structures.below.Given as goal
 abbrev pub invariant-loop-path : goal.invariant-loop-path
 invariant-loop-path l = record {
   rest : paths_seen l.found.items ++ flat_map (behind l.name) (map path_seen (drop l.path-index l.paths)) ≡ flat_map (behind l.name) (map path_seen l.paths);
-  go_on : list_any is_end (paths_seen l.found.items) ≡ false
+  go_on : list_any is_end (paths_seen l.found.items) ≡ false;
 }
