@@ -1,0 +1,6 @@
+mod Building
+mod Marking
+mod Sending
+mod FittingReplies
+mod Replied
+mod Standing
