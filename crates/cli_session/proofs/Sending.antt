@@ -1,54 +1,70 @@
 -- What was sent for a turn is what its table says.
-use Rattle.std.proofs.Common.{◌≡◌, ◌==◌, ℕ, Bool, true, cond, List, [], ◌∷◌, ◌++◌, Some, Result, Ok, Err, refl, ap, sym, subst, ◌∙◌, append_assoc}
+use Rattle.std.proofs.Common.{◌≡◌, ◌==◌, ◌<◌, ◌^◌, ℕ, Bool, true, cond, List, [], ◌∷◌, ◌++◌, Option, Some, Result, Ok, Err, refl, ap, sym, subst, ◌∙◌, append_assoc}
 use Rattle.std.proofs.lemmas.List.{append-nil}
-use Rattle.std.proofs.lemmas.Result.{on_ok_weaker}
 use Rattle.std.specs.Prelude.{OnOk}
-use Rattle.pva_messages.specs.Fields.{PartData}
+use Rattle.pvd_type.specs.Tree.{Tree}
+use Rattle.pva_messages.specs.Laws.{IsWritable}
 use Rattle.pva_messages.specs.Requests.{Request}
 use Rattle.cli_session.specs.Calls.{Went, Took}
 use Rattle.cli_session.specs.declared.ask.Ask.{Ask}
 use Rattle.cli_session.specs.declared.fault.ClientFault.{ClientFault}
 use Rattle.cli_session.specs.declared.turn.Turn.{Turn}
-use Rattle.cli_session.specs.Messages.{Sent, said, control, spelled, spelled_all}
+use Rattle.cli_session.specs.Messages.{said, control, spelled}
 use Rattle.cli_session.specs.State.{State}
-use Rattle.cli_session.specs.Steps.{Taken, Told, quietly, saying, next, heard_control, bytes_of}
+use Rattle.cli_session.specs.Steps.{Taken, Told, quietly, saying, echoing, next, heard_control}
 
--- one message
-module _ {E : Type 0} (result : Result (Unit {0}) E) (taken : Taken) (new : State) (before after : List ℕ) (m n : Request) (state : new ≡ taken.state) (sent : taken.sent ≡ said n ∷ []) (same : m ≡ n) where
-  one_bytes : after ≡ before ++ spelled new.order new.segment (said m) → after ≡ before ++ bytes_of taken
-  one_bytes more =
-      more ∙ ap (λ (x : Request). before ++ spelled new.order new.segment (said x)) same
-      ∙ ap (λ (xs : List ℕ). before ++ xs) (sym (append-nil (spelled new.order new.segment (said n))))
-      ∙ ap (λ (xs : List Sent). before ++ spelled_all new.order new.segment xs) (sym sent)
-      ∙ ap (λ (s : State). before ++ spelled_all s.order s.segment taken.sent) state
+-- of what a call ensures twice
+on_ok_both : {E A B C : Type 0} (result : Result (Unit {0}) E) → (A → B → C) → OnOk result A → OnOk result B → OnOk result C
+on_ok_both (Ok u) f a b = f a b
+on_ok_both (Err e) f a b = tt
 
-  pub one_said : OnOk result (after ≡ before ++ spelled new.order new.segment (said m)) → OnOk result (Went taken new before after)
-  one_said more = on_ok_weaker result (λ (e : after ≡ before ++ spelled new.order new.segment (said m)). record { state = state; bytes = one_bytes e }) more
+-- a message that was written
+pub said_written : {E : Type 0} (result : Result (Unit {0}) E) (s : State) (before after : List ℕ) (m : Request) → 0 < s.segment
+    → OnOk result (after ≡ before ++ spelled s.order s.segment (said m)) → OnOk result (IsWritable m) → OnOk result (Went (saying s (m ∷ []) []) s before after)
+said_written result s before after m some bytes can =
+    on_ok_both result
+    (λ (is : after ≡ before ++ spelled s.order s.segment (said m)) (writable : IsWritable m). record {
+      state = refl;
+      bytes = is ∙ ap (λ (xs : List ℕ). before ++ xs) (sym (append-nil (spelled s.order s.segment (said m))));
+      written = ((some, writable), tt);
+    })
+    bytes can
 
--- two messages
-module _ {E : Type 0} (result : Result (Unit {0}) E) (taken : Taken) (new : State) (before mid after : List ℕ) (first m n : Request) (state : new ≡ taken.state)
-    (sent : taken.sent ≡ said first ∷ said n ∷ []) (same : m ≡ n) (one : mid ≡ before ++ spelled new.order new.segment (said first)) where
-  two_bytes : after ≡ mid ++ spelled new.order new.segment (said m) → after ≡ before ++ bytes_of taken
-  two_bytes more =
-      let a = spelled new.order new.segment (said first) in
-      let b = spelled new.order new.segment (said n) in
-      more ∙ ap (λ (x : Request). mid ++ spelled new.order new.segment (said x)) same
-      ∙ ap (λ (xs : List ℕ). xs ++ b) one ∙ append_assoc before a b
-      ∙ ap (λ (xs : List ℕ). before ++ (a ++ xs)) (sym (append-nil b))
-      ∙ ap (λ (xs : List Sent). before ++ spelled_all new.order new.segment xs) (sym sent)
-      ∙ ap (λ (s : State). before ++ spelled_all s.order s.segment taken.sent) state
+module _ {E : Type 0} (result : Result (Unit {0}) E) where
+  -- the same of the message and the state that these are
+  pub said_as : (new t : State) (before after : List ℕ) (m n : Request) → m ≡ n → new ≡ t → OnOk result (Went (saying new (m ∷ []) []) new before after)
+      → OnOk result (Went (saying t (n ∷ []) []) new before after)
+  said_as new t before after m n same is went =
+      subst (λ (x : State). OnOk result (Went (saying x (n ∷ []) []) new before after)) is
+      (subst (λ (x : Request). OnOk result (Went (saying new (x ∷ []) []) new before after)) same went)
 
-  pub two_said : OnOk result (after ≡ mid ++ spelled new.order new.segment (said m)) → OnOk result (Went taken new before after)
-  two_said more = on_ok_weaker result (λ (e : after ≡ mid ++ spelled new.order new.segment (said m)). record { state = state; bytes = two_bytes e }) more
+  -- two messages
+  pub two_said : (s : State) (req : Option ℕ) (ty : Option Tree) (before mid after : List ℕ) (a b : Request) → Went (saying s (a ∷ []) []) s before mid
+      → OnOk result (Went (saying (record s { req = req; ty = ty }) (b ∷ []) []) (record s { req = req; ty = ty }) mid after)
+      → OnOk result (Went (saying (record s { req = req; ty = ty }) (a ∷ b ∷ []) []) (record s { req = req; ty = ty }) before after)
+  two_said s req ty before mid after a b first more =
+      let new : State = record s { req = req; ty = ty } in
+      let one = spelled s.order s.segment (said a) in
+      let two = spelled s.order s.segment (said b) ++ [] in
+      on_ok_both result
+      (λ (w : Went (saying new (b ∷ []) []) new mid after) (same : Went (saying new (b ∷ []) []) new mid after). record {
+        state = refl;
+        bytes =
+            w.bytes ∙ ap (λ (xs : List ℕ). xs ++ two) first.bytes ∙ append_assoc before (one ++ []) two
+            ∙ ap (λ (xs : List ℕ). before ++ (xs ++ two)) (append-nil one);
+        written = (first.written.0, (w.written.0, tt));
+      })
+      more more
 
 -- What was told beside it.
 pub told_beside : (s new : State) (ms : List Request) (before after : List ℕ) (told : List Told) → Went (saying s ms []) new before after → Took (Ok (saying s ms told)) new before after told
-told_beside s new ms before after told went = record { taken = saying s ms told; is = refl; went = record { state = went.state; bytes = went.bytes }; told_is = refl }
+told_beside s new ms before after told went =
+    record { taken = saying s ms told; is = refl; went = record { state = went.state; bytes = went.bytes; written = went.written }; told_is = refl }
 
 -- nothing was sent or told
 pub quiet : (outcome : Result Taken ClientFault) (s new : State) (before after : List ℕ) (told : List Told) → outcome ≡ Ok (quietly s) → new ≡ s → after ≡ before → told ≡ [] → Took outcome new before after told
 quiet outcome s new before after told is same none untold =
-    record { taken = quietly s; is = is; went = record { state = same; bytes = none ∙ sym (append-nil before) }; told_is = untold }
+    record { taken = quietly s; is = is; went = record { state = same; bytes = none ∙ sym (append-nil before); written = tt }; told_is = untold }
 
 -- the next message tells nothing
 next_told : (ask : Ask) (s : State) (later : List Turn) → (next ask s later).told ≡ []
@@ -60,18 +76,24 @@ pub went_on : (ask : Ask) (s new : State) (later : List Turn) (before after : Li
 went_on ask s new later before after told went untold = record { taken = next ask s later; is = refl; went = went; told_is = untold ∙ sym (next_told ask s later) }
 
 -- a control message
-pub echoed : (outcome : Result Taken ClientFault) (s new : State) (before after : List ℕ) (told : List Told) (number : ℕ) → outcome ≡ Ok (record { state = s; sent = control 4 number ∷ []; told = [] })
-    → new ≡ s → after ≡ before ++ spelled s.order s.segment (control 4 number) → told ≡ [] → Took outcome new before after told
-echoed outcome s new before after told number is same bytes untold = record {
-  taken = record { state = s; sent = control 4 number ∷ []; told = [] };
-  is = is;
-  went = record { state = same; bytes = bytes ∙ ap (λ (xs : List ℕ). before ++ xs) (sym (append-nil (spelled s.order s.segment (control 4 number)))) };
-  told_is = untold;
-}
+pub echoed : (outcome : Result Taken ClientFault) (s new : State) (before after : List ℕ) (told : List Told) (number : ℕ) → outcome ≡ Ok (echoing s number)
+    → Went (echoing s number) new before after → told ≡ [] → Took outcome new before after told
+echoed outcome s new before after told number is went untold = record { taken = echoing s number; is = is; went = went; told_is = untold }
 
 abbrev pub by_control : State → ℕ → Bool → Bool → Taken
-by_control s number turns asks =
-    cond turns (quietly (record s { order_told = true })) (cond asks (record { state = s; sent = control 4 number ∷ []; told = [] }) (quietly s))
+by_control s number turns asks = cond turns (quietly (record s { order_told = true })) (cond asks (echoing s number) (quietly s))
 
 pub control_of : (s : State) (command number : ℕ) (turns asks : Bool) → (command == 2) ≡ turns → (command == 3) ≡ asks → heard_control s command number ≡ by_control s number turns asks
 control_of s command number turns asks p q = ap (λ (b : Bool). by_control s number b (command == 3)) p ∙ ap (λ (b : Bool). by_control s number turns b) q
+
+-- a control message that was written
+pub control_written : {E : Type 0} (result : Result (Unit {0}) E) (s : State) (before after : List ℕ) (number : ℕ) → number < 2 ^ 32
+    → OnOk result (after ≡ before ++ spelled s.order s.segment (control 4 number)) → OnOk result (Went (echoing s number) s before after)
+control_written result s before after number fits bytes =
+    on_ok_both result
+    (λ (is : after ≡ before ++ spelled s.order s.segment (control 4 number)) (same : after ≡ before ++ spelled s.order s.segment (control 4 number)). record {
+      state = refl;
+      bytes = is ∙ ap (λ (xs : List ℕ). before ++ xs) (sym (append-nil (spelled s.order s.segment (control 4 number))));
+      written = (fits, tt);
+    })
+    bytes bytes

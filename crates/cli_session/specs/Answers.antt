@@ -61,13 +61,9 @@ abbrev pub validation_answer : Turn → ℕ → Result Answer ClientFault
 validation_answer turn.Greeting buffer = Ok (greeted buffer)
 validation_answer other buffer = wrong other (byte_of command.Validation)
 
-abbrev pub validated_answer : Turn → Status → Result Answer ClientFault
-validated_answer turn.Validation status = unless_refused status accepted
-validated_answer other status = wrong other (byte_of command.Validated)
-
-abbrev pub created_answer : Turn → ℕ → Status → Result Answer ClientFault
-created_answer turn.Creation sid status = unless_refused status (created sid)
-created_answer other sid status = wrong other (byte_of command.CreateChannel)
+-- a reply without a subcommand, whose command one turn alone awaits
+abbrev pub at_command : Turn → ℕ → Status → Answer → Result Answer ClientFault
+at_command t command status answer = if awaited t == command then unless_refused status answer else wrong t command
 
 abbrev pub get_answer : Turn → ℕ → Status → Option Tree → Option PartData → Result Answer ClientFault
 get_answer turn.BeginGet sub status ty part = at_beginning (byte_of command.Get) sub status (begun ty)
@@ -102,10 +98,6 @@ monitor_end_answer turn.BeginMonitor sub status = Err (WrongPhase (byte_of comma
 monitor_end_answer turn.Updates sub status = at_sub (byte_of command.Monitor) 0x10 sub status done
 monitor_end_answer other sub status = wrong other (byte_of command.Monitor)
 
-abbrev pub field_answer : Turn → Status → Option Tree → Result Answer ClientFault
-field_answer turn.Field status ty = unless_refused status (described ty)
-field_answer other status ty = wrong other (byte_of command.GetField)
-
 abbrev pub call_answer : Turn → ℕ → Status → Valued → Result Answer ClientFault
 call_answer turn.BeginCall sub status v = at_beginning (byte_of command.Rpc) sub status accepted
 call_answer turn.Call sub status v = at_sub (byte_of command.Rpc) 0x00 sub status (outcome v)
@@ -114,15 +106,15 @@ call_answer other sub status v = wrong other (byte_of command.Rpc)
 -- What a reply is to this turn. The last line is for messages that are passed over before.
 abbrev pub answer_of : Turn → Reply → Result Answer ClientFault
 answer_of t (replies.validation buffer registry methods) = validation_answer t buffer
-answer_of t (replies.validated status) = validated_answer t status
-answer_of t (replies.created cid sid status) = created_answer t sid status
+answer_of t (replies.validated status) = at_command t (byte_of command.Validated) status accepted
+answer_of t (replies.created cid sid status) = at_command t (byte_of command.CreateChannel) status (created sid)
 answer_of t (replies.get req sub status ty part) = get_answer t sub status ty part
 answer_of t (replies.put req sub status ty part) = put_answer t sub status ty part
 answer_of t (replies.put_get req sub status put_ty get_ty part) = put_get_answer t sub status get_ty part
 answer_of t (replies.monitor_begun req sub status ty) = monitor_begun_answer t sub status ty
 answer_of t (replies.monitor_update req sub u) = monitor_update_answer t sub u
 answer_of t (replies.monitor_end req sub status) = monitor_end_answer t sub status
-answer_of t (replies.get_field req status ty) = field_answer t status ty
+answer_of t (replies.get_field req status ty) = at_command t (byte_of command.GetField) status (described ty)
 answer_of t (replies.rpc req sub status v) = call_answer t sub status v
 answer_of t other = wrong t (reply_command other)
 

@@ -28,7 +28,10 @@ use Rattle.cli_session.specs.declared.fault.ClientFault.TheVariants as fails
 use Rattle.cli_session.specs.declared.report.Report.{Report}
 use Rattle.cli_session.specs.declared.report.Telling.{Telling}
 use Rattle.cli_session.specs.State.{State, opening}
-use Rattle.cli_session.specs.Steps.{fault_in, type_for, Taken, Told, bytes_of, step, client_run, client_told, client_bytes, client_fault}
+use Rattle.cli_session.specs.Laws.{CanWrite}
+use Rattle.cli_session.specs.Steps.{fault_in, type_for, Taken, Told, written_of, bytes_of, step, client_run}
+use Rattle.cli_session.specs.Steps.{client_told, client_sent, client_bytes, client_fault}
+use Rattle.cli_session.specs.Text.{text_of, client_text}
 use Rattle.cli_session.specs.Seen.{report_view, reports_view, telling_view}
 use Rattle.cli_session.specs.Views.{View}
 
@@ -73,10 +76,11 @@ Reads whole old new (Err f) = IsFault whole f (reply_in whole old)
 abbrev pub CanSay : Request → Type 0
 CanSay m = CanSend m × CanEach FitsField (request_fields m)
 
--- A message was sent, or several: the state and the bytes behind it.
+-- A message was sent, or several: the state and the bytes behind it. All that is said has a spelling.
 pub record Went (taken : Taken) (new : State) (before after : List ℕ) : Type 0 where
   pub state : new ≡ taken.state
   pub bytes : after ≡ before ++ bytes_of taken
+  pub written : CanEach CanWrite (written_of taken)
 
 -- What was told beside that.
 pub record Took (outcome : Result Taken ClientFault) (new : State) (before after : List ℕ) (told : List Told) : Type 0 where
@@ -108,6 +112,7 @@ pub record Handled (ask : Ask) (old new : View) (e : Event) : Type 0 where
   pub state : new.state ≡ taken.state
   pub told : new.told ≡ old.told ++ taken.told
   pub output : new.output ≡ old.output ++ bytes_of taken
+  pub written : CanEach CanWrite (written_of taken)
   pub fault : new.fault ≡ None
 
 -- It wasn't, or the client had failed before. It has failed then with this fault, and nothing is sent or told for it.
@@ -127,14 +132,20 @@ pub record Gives (old new : View) (given : List Told) : Type 0 where
   pub all : given ≡ [] → old.told ≡ []
   pub others : new ≡ record old { told = new.told }
 
--- The client has heard these events, one after another, and has taken each; this was handed out of what it told, and
--- this was taken of its bytes.
+-- This was handed out of what the client told, and this was taken of its bytes: with what is still to be handed out and
+-- taken it is all that these events have it tell, print and send, and a server can read each message of it.
+pub record Accounts (ask : Ask) (events : List Event) (given : List Told) (taken : List ℕ) (v : View) : Type 0 where
+  pub told : given ++ v.told ≡ client_told ask events
+  pub text : text_of ask (given ++ v.told) ≡ client_text ask events
+  pub bytes : taken ++ v.output ≡ client_bytes ask events
+  pub written : CanEach CanWrite (client_sent ask events)
+
+-- The client has heard these events, one after another, and has taken each.
 pub record Stands (ask : Ask) (events : List Event) (given : List Told) (taken : List ℕ) (v : View) : Type 0 where
   pub unfailed : v.fault ≡ None
   pub readable : client_fault ask events ≡ None
   pub state : v.state ≡ (client_run ask events).state
-  pub told : given ++ v.told ≡ client_told ask events
-  pub bytes : taken ++ v.output ≡ client_bytes ask events
+  pub accounts : Accounts ask events given taken v
 
 -- It has failed at the event behind them: with the first fault of every list that goes on with this event, or for want
 -- of memory. What was told and sent is that of the events before.
@@ -142,10 +153,13 @@ pub record Fell (ask : Ask) (events : List Event) (given : List Told) (taken : L
     (f : ClientFault) : Type 0 where
   pub fault : v.fault ≡ Some f
   pub why : (f ≡ fails.NoMemory) ⊎ ((more : List Event) → client_fault ask (events ++ e ∷ more) ≡ Some f)
-  pub told : given ++ v.told ≡ client_told ask events
-  pub bytes : taken ++ v.output ≡ client_bytes ask events
+  pub accounts : Accounts ask events given taken v
 
 -- Behind a further event.
 abbrev pub Continues : Ask → List Event → List Told → List ℕ → View → Event → Result (Unit {0}) ClientFault → Type 0
 Continues ask events given taken new e (Ok u) = Stands ask (events ++ e ∷ []) given taken new
 Continues ask events given taken new e (Err f) = Fell ask events given taken new e f
+
+-- A client that has failed answers its fault to every further event, and nothing changes.
+abbrev pub Stays : View → View → Result (Unit {0}) ClientFault → Type 0
+Stays old new result = (f : ClientFault) → old.fault ≡ Some f → (result ≡ Err f) × (new ≡ old)

@@ -5,6 +5,7 @@ pub mod Messages
 pub mod Answers
 pub mod Steps
 pub mod Text
+pub mod Laws
 pub mod Fitting
 pub mod Seen
 pub mod Views

@@ -26,9 +26,18 @@ abbrev pub spelled : Order → ℕ → Sent → List ℕ
 spelled order segment (said m) = message_bytes order false (request_command m) (request_payload order m) segment
 spelled order segment (control command number) = control_bytes order false command number
 
-abbrev pub spelled_all : Order → ℕ → List Sent → List ℕ
-spelled_all order segment [] = []
-spelled_all order segment (x ∷ xs) = spelled order segment x ++ spelled_all order segment xs
+-- what was sent, with the order and the size of segments in which it was
+pub record Written : Type 0 where
+  pub order : Order
+  pub segment : ℕ
+  pub sent : Sent
+
+abbrev pub written : Order → ℕ → Sent → Written
+written order segment sent = record { order = order; segment = segment; sent = sent }
+
+abbrev pub written_bytes : List Written → List ℕ
+written_bytes [] = []
+written_bytes (w ∷ ws) = spelled w.order w.segment w.sent ++ written_bytes ws
 
 -- "Connection validation": the method `ca` with a user and a host, else `anonymous`
 abbrev pub validation : Option (List ℕ × List ℕ) → Request
@@ -64,9 +73,9 @@ monitor_beginning fields sid (operation.Monitor queue window count) =
     (Some (request (codes "field") (selected fields) (monitor_options queue window))) window ∷ []
 monitor_beginning fields sid op = []
 
-abbrev pub call_argument : List ℕ → Operation → Valued
-call_argument name (operation.Call op) = Some (uri name op)
-call_argument name op = None
+abbrev pub call_message : List ℕ → ℕ → Operation → List Request
+call_message name sid (operation.Call op) = requests.rpc sid 1 0x00 (Some (uri name op)) ∷ []
+call_message name sid op = []
 
 -- a put and a put-get send what was read from their words
 abbrev pub put_message : ℕ → Option PartData → List Request
@@ -94,7 +103,7 @@ messages ask s turn.BeginMonitor = monitor_beginning ask.fields.items s.sid ask.
 messages ask s turn.Updates = requests.monitor s.sid 1 0x44 None None ∷ []
 messages ask s turn.Field = requests.get_field s.sid 1 [] ∷ []
 messages ask s turn.BeginCall = requests.rpc s.sid 1 0x08 call_request ∷ []
-messages ask s turn.Call = requests.rpc s.sid 1 0x00 (call_argument ask.name ask.operation) ∷ []
+messages ask s turn.Call = call_message ask.name s.sid ask.operation
 
 -- The id under which the message of a turn begins a request, or asks for a field.
 abbrev pub begun_id : Ask → Turn → Option ℕ → Option ℕ

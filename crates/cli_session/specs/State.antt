@@ -30,13 +30,10 @@ pub record State : Type 0 where
   pub put : Option PartData
   pub left : ℕ
 
--- The buffer of a peer that announced this size: at least 1,024 bytes and at most 65,536.
-abbrev pub buffer_for : ℕ → ℕ
-buffer_for size = if nat_lt size 1024 then 1024 else if nat_lt 65536 size then 65536 else size
-
--- The most payload of a frame to this peer: the header of eight bytes stands in its buffer too.
+-- The most payload of a frame to a peer that announced a buffer of this size, of which at least 1,024 bytes and at most
+-- 65,536 are used: the header of eight bytes stands in it too.
 abbrev pub segment_for : ℕ → ℕ
-segment_for size = buffer_for size - 8
+segment_for size = if nat_lt size 1024 then 1024 - 8 else if nat_lt 65536 size then 65536 - 8 else size - 8
 
 -- how many updates a monitor awaits
 abbrev pub updates_of : Operation → ℕ

@@ -34,8 +34,8 @@ use Rattle.cli_session.specs.declared.fault.ClientFault.TheVariants.{UnknownRepl
 use Rattle.cli_session.specs.declared.fault.ClientFault.TheVariants as fails
 use Rattle.cli_session.specs.declared.turn.Turn.{Turn}
 use Rattle.cli_session.specs.State.{State, opening, segment_for}
-use Rattle.cli_session.specs.Messages.{Sent, said, control, spelled_all, messages, asked, last_messages, window_of}
-use Rattle.cli_session.specs.Messages.{acknowledgement}
+use Rattle.cli_session.specs.Messages.{Sent, said, control, Written, written, written_bytes, messages, asked}
+use Rattle.cli_session.specs.Messages.{last_messages, window_of, acknowledgement}
 use Rattle.cli_session.specs.Answers.{Answer, greeted, accepted, created, begun, present, value, described, outcome}
 use Rattle.cli_session.specs.Answers.{done, update, refused, answer_of, foreign_id}
 
@@ -59,6 +59,10 @@ quietly s = record { state = s; sent = []; told = [] }
 
 abbrev pub saying : State → List Request → List Told → Taken
 saying s ms told = record { state = s; sent = map said ms; told = told }
+
+-- an echo is 4, with the same number
+abbrev pub echoing : State → ℕ → Taken
+echoing s number = record { state = s; sent = control 4 number ∷ []; told = [] }
 
 -- The message of a turn is sent.
 abbrev pub asking : Ask → State → Turn → Taken
@@ -187,12 +191,11 @@ heard_whole ask s turn later whole =
     (whole.payload, s.types))
     else Ok (quietly s)
 
--- Control messages: 2 tells the byte order, 3 asks for an echo, which is 4 with the same number (pvAccess Protocol
--- Specification, "Control Messages").
+-- Control messages: 2 tells the byte order, 3 asks for an echo (pvAccess Protocol Specification, "Control Messages").
 abbrev pub heard_control : State → ℕ → ℕ → Taken
 heard_control s c number =
     if c == 2 then quietly (record s { order_told = true })
-    else if c == 3 then record { state = s; sent = control 4 number ∷ []; told = [] }
+    else if c == 3 then echoing s number
     else quietly s
 
 -- What an event brings about. Once the operation has ended, every event is passed over.
@@ -210,22 +213,26 @@ step ask s e = step_at ask s s.turns e
 pub record Run : Type 0 where
   pub state : State
   pub told : List Told
-  pub bytes : List ℕ
+  pub sent : List Written
   pub fault : Option ClientFault
 
+-- what is sent at an event, in the order and the segments of the state behind it, and its bytes
+abbrev pub written_of : Taken → List Written
+written_of t = map (written t.state.order t.state.segment) t.sent
+
 abbrev pub bytes_of : Taken → List ℕ
-bytes_of t = spelled_all t.state.order t.state.segment t.sent
+bytes_of t = written_bytes (written_of t)
 
 -- what an event brings about, and what those behind it do
 abbrev pub and_then : Taken → Run → Run
-and_then t r = record r { told = t.told ++ r.told; bytes = bytes_of t ++ r.bytes }
+and_then t r = record r { told = t.told ++ r.told; sent = written_of t ++ r.sent }
 
 abbrev pub going_on : State → Result Taken ClientFault → (State → Run) → Run
 going_on s (Ok t) more = and_then t (more t.state)
-going_on s (Err f) more = record { state = s; told = []; bytes = []; fault = Some f }
+going_on s (Err f) more = record { state = s; told = []; sent = []; fault = Some f }
 
 abbrev pub run : Ask → State → List Event → Run
-run ask s [] = record { state = s; told = []; bytes = []; fault = None }
+run ask s [] = record { state = s; told = []; sent = []; fault = None }
 run ask s (e ∷ events) = going_on s (step ask s e) (λ t. run ask t events)
 
 -- of a client that hears these events from its beginning on
@@ -235,8 +242,11 @@ client_run ask events = run ask (opening ask) events
 abbrev pub client_told : Ask → List Event → List Told
 client_told ask events = (client_run ask events).told
 
+abbrev pub client_sent : Ask → List Event → List Written
+client_sent ask events = (client_run ask events).sent
+
 abbrev pub client_bytes : Ask → List Event → List ℕ
-client_bytes ask events = (client_run ask events).bytes
+client_bytes ask events = written_bytes (client_sent ask events)
 
 abbrev pub client_fault : Ask → List Event → Option ClientFault
 client_fault ask events = (client_run ask events).fault

@@ -14,5 +14,8 @@ told_text (refusal status) = []
 told_text finish = []
 
 -- The channel's name and a line feed, and then the lines of all that is told.
+abbrev pub text_of : Ask → List Told → List ℕ
+text_of ask told = (ask.name ++ 10 ∷ []) ++ flat_map told_text told
+
 abbrev pub client_text : Ask → List Event → List ℕ
-client_text ask events = (ask.name ++ 10 ∷ []) ++ flat_map told_text (client_told ask events)
+client_text ask events = text_of ask (client_told ask events)

@@ -116,24 +116,22 @@ fn validation_answer(turn: Turn, buffer: u32) -> Result<Answer, ClientFault>
     }
 }
 
-fn validated_answer(turn: Turn, status: Status) -> Result<Answer, ClientFault>
-    ensures answer { answered_view result ≡ rows.validated_answer turn status }
+/// A reply without a subcommand, whose command one turn alone awaits.
+fn at_command(
+    turn: Turn,
+    command: u8,
+    status: Status,
+    answer: Answer,
+) -> Result<Answer, ClientFault>
+    requires { answer_fits (answer_view answer) ≡ true }
+    ensures answer { answered_view result ≡ rows.at_command turn command status (answer_view answer) }
     ensures fits { IfOk result (λ a. answer_fits (answer_view a) ≡ true) }
 {
-    match turn {
-        Turn::Validation => unless_refused(status, Answer::Accepted),
-        _ => wrong(turn, Command::Validated.byte()),
+    if turn.awaited() == command {
+        return unless_refused(status, answer);
     }
-}
-
-fn created_answer(turn: Turn, sid: u32, status: Status) -> Result<Answer, ClientFault>
-    ensures answer { answered_view result ≡ rows.created_answer turn sid status }
-    ensures fits { IfOk result (λ a. answer_fits (answer_view a) ≡ true) }
-{
-    match turn {
-        Turn::Creation => unless_refused(status, Answer::Created(sid)),
-        _ => wrong(turn, Command::CreateChannel.byte()),
-    }
+    discard(answer);
+    wrong(turn, command)
 }
 
 fn get_answer(
@@ -241,16 +239,6 @@ fn monitor_end_answer(turn: Turn, sub: u8, status: Status) -> Result<Answer, Cli
     }
 }
 
-fn field_answer(turn: Turn, status: Status, ty: Option<PvType>) -> Result<Answer, ClientFault>
-    ensures answer { answered_view result ≡ rows.field_answer turn status ty }
-    ensures fits { IfOk result (λ a. answer_fits (answer_view a) ≡ true) }
-{
-    match turn {
-        Turn::Field => unless_refused(status, Answer::Described(ty)),
-        _ => wrong(turn, Command::GetField.byte()),
-    }
-}
-
 fn call_answer(
     turn: Turn,
     sub: u8,
@@ -277,8 +265,15 @@ pub(crate) fn answer_of(turn: Turn, reply: ToClient) -> Result<Answer, ClientFau
 {
     match reply {
         ToClient::Validation { buffer, .. } => validation_answer(turn, buffer),
-        ToClient::Validated { status } => validated_answer(turn, status),
-        ToClient::Created { sid, status, .. } => created_answer(turn, sid, status),
+        ToClient::Validated { status } => {
+            at_command(turn, Command::Validated.byte(), status, Answer::Accepted)
+        }
+        ToClient::Created { sid, status, .. } => at_command(
+            turn,
+            Command::CreateChannel.byte(),
+            status,
+            Answer::Created(sid),
+        ),
         ToClient::Get {
             sub,
             status,
@@ -308,7 +303,12 @@ pub(crate) fn answer_of(turn: Turn, reply: ToClient) -> Result<Answer, ClientFau
         } => monitor_begun_answer(turn, sub, status, ty),
         ToClient::MonitorUpdate { sub, update, .. } => monitor_update_answer(turn, sub, update),
         ToClient::MonitorEnd { sub, status, .. } => monitor_end_answer(turn, sub, status),
-        ToClient::GetField { status, ty, .. } => field_answer(turn, status, ty),
+        ToClient::GetField { status, ty, .. } => at_command(
+            turn,
+            Command::GetField.byte(),
+            status,
+            Answer::Described(ty),
+        ),
         ToClient::Rpc {
             sub,
             status,

@@ -1,4 +1,4 @@
-ghost use Rattle.std.specs.Prelude.{◌≡◌, ◌≤◌, ◌<◌, ◌+◌, ◌++◌, [], true, map, length, drop, List, ℕ, None, Some, Err, IfSome};
+ghost use Rattle.std.specs.Prelude.{◌≡◌, ◌≤◌, ◌<◌, ◌+◌, ◌++◌, [], true, map, length, take, drop, List, ℕ, None, Some, Err, IfSome};
 ghost use Rattle.std.specs.VecDeque.{deque_len, deque_capacity};
 ghost use Rattle.pva_frames.specs.declared.event.Event.{Event};
 ghost use Rattle.cli_session.specs.Fitting.{all_fit, told_fits};
@@ -56,7 +56,7 @@ fn put_report(reports: &mut VecDeque<Report>, report: Option<Report>)
 }
 
 impl Client {
-    ghost use Rattle.cli_session.specs.Calls.{Handles, Keeps, Stands, Continues, Gives};
+    ghost use Rattle.cli_session.specs.Calls.{Handles, Keeps, Stands, Continues, Accounts, Stays, Gives};
     ghost use Rattle.cli_session.specs.State.{opening};
     ghost use Rattle.cli_session.specs.Views.{view_of, ask_of};
 
@@ -83,11 +83,12 @@ impl Client {
     /// A fault is the first that the event has: a message that can't be read; an id that isn't the client's;
     /// a reply of another command than is awaited; one of another subcommand; words that give no value; or
     /// want of memory. The client has then failed for good, and answers the same to every further event;
-    /// nothing was told or said for this one.
+    /// nothing is told or said for this one or a later one.
     pub fn handle(&mut self, alloc: Global, event: Event) -> Result<(), ClientFault>
         ensures handles { Handles (ask_of self.old) (view_of self.old) (view_of self.new) event result }
         ensures ask { ask_of self.new ≡ ask_of self.old }
         ensures stands { (events : List Event) (given : List Told) (taken : List ℕ) → Stands (ask_of self.old) events given taken (view_of self.old) → Continues (ask_of self.old) events given taken (view_of self.new) event result }
+        ensures stays { Stays (view_of self.old) (view_of self.new) result }
     {
         if let Some(fault) = self.fault {
             return Err(fault);
@@ -133,6 +134,7 @@ impl Client {
         ensures gives { Gives (view_of self.old) (view_of self.new) (reports_view result) }
         ensures fits { IfSome result (λ r. told_fits (report_view r) ≡ true) }
         ensures ask { ask_of self.new ≡ ask_of self.old }
+        ensures accounts { (events : List Event) (given : List Told) (taken : List ℕ) → Accounts (ask_of self.old) events given taken (view_of self.old) → Accounts (ask_of self.old) events (given ++ reports_view result) taken (view_of self.new) }
     {
         self.reports.pop_front()
     }
@@ -149,6 +151,7 @@ impl Client {
         requires { count ≤ length (view_of self.old).output }
         ensures view { view_of self.new ≡ record (view_of self.old) { output = drop count (view_of self.old).output } }
         ensures ask { ask_of self.new ≡ ask_of self.old }
+        ensures accounts { (events : List Event) (given : List Told) (taken : List ℕ) → Accounts (ask_of self.old) events given taken (view_of self.old) → Accounts (ask_of self.old) events given (taken ++ take count (view_of self.old).output) (view_of self.new) }
     {
         self.sent += count;
         if self.sent == self.output.len() {

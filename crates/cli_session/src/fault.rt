@@ -3,7 +3,6 @@ use cli_text::PutText;
 use pva_messages::MessageFault;
 use pvd_codec::ValueFault;
 use pvd_type::NoMemory;
-use std::alloc::AllocError;
 
 /// Why a client stops at an event. It has then failed for good.
 #[derive(Clone, Copy, Debug, PartialEq, Eq)]
@@ -30,17 +29,6 @@ impl From<NoMemory> for ClientFault {
     ghost from_gives = { λ _ e. e ≡ fails.NoMemory };
 
     fn from(_: NoMemory) -> Self {
-        ClientFault::NoMemory
-    }
-}
-
-impl From<AllocError> for ClientFault {
-    ghost use Rattle.std.specs.Prelude.{◌≡◌};
-    ghost use Rattle.cli_session.specs.declared.fault.ClientFault.TheVariants as fails;
-
-    ghost from_gives = { λ _ e. e ≡ fails.NoMemory };
-
-    fn from(_: AllocError) -> Self {
         ClientFault::NoMemory
     }
 }

@@ -28,8 +28,6 @@ const SET_BYTE_ORDER: u8 = 2;
 
 const ECHO_REQUEST: u8 = 3;
 
-const ECHO_RESPONSE: u8 = 4;
-
 /// Whether this is the command of a reply that a client awaits. All others are passed over unread.
 fn is_reply(command: u8) -> bool
     ensures { result ≡ is_reply command }
@@ -349,7 +347,7 @@ impl Session {
             return Ok(untold());
         }
         if command == ECHO_REQUEST {
-            self.say_control(out, ECHO_RESPONSE, number)?;
+            self.echo(out, number)?;
             return Ok(untold());
         }
         Ok(untold())

@@ -7,6 +7,7 @@ mod ask;
 mod client;
 mod fault;
 mod hearing;
+mod laws;
 mod report;
 mod session;
 mod structures;
@@ -15,6 +16,7 @@ mod turn;
 pub use ask::{Ask, Operation};
 pub use client::Client;
 pub use fault::ClientFault;
+pub use laws::sent_is_heard;
 pub use report::Report;
 
 #[cfg(test)]

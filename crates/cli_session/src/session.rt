@@ -1,12 +1,12 @@
 // What a client says at each turn.
-ghost use Rattle.std.specs.Prelude.{◌≡◌, ◌<◌, ◌++◌, ◌∷◌, [], true, Some, None, IfOk, OnOk};
+ghost use Rattle.std.specs.Prelude.{◌≡◌, ◌<◌, ◌∷◌, [], Some, None, IfOk, OnOk};
 ghost use Rattle.pva_messages.specs.Requests as requests;
 ghost use Rattle.pva_messages.specs.Views.{part_data, request_view, valued_view};
 ghost use Rattle.pva_messages.specs.Written.{FitsValued};
 ghost use Rattle.pva_messages.specs.declared.part.Part.{Part};
 ghost use Rattle.cli_session.specs.Messages as messages;
 ghost use Rattle.cli_session.specs.Fitting.{CanPut};
-ghost use Rattle.cli_session.specs.State.{buffer_for, segment_for, opening};
+ghost use Rattle.cli_session.specs.State.{segment_for, opening};
 
 use crate::answer::discard;
 use crate::ask::{Ask, Operation};
@@ -32,31 +32,35 @@ const START: u8 = 0x44;
 
 const ACKNOWLEDGE: u8 = 0x80;
 
+/// The answer to a request for an echo (pvAccess Protocol Specification, "Control Messages").
+const ECHO_RESPONSE: u8 = 4;
+
 /// The client's id of its channel.
 const CID: u32 = 1;
 
 /// The id of its requests, but for that which brings the present value for a put-get.
 const REQ: u32 = 1;
 
-/// The buffer of a server that announced this size: at least 1,024 bytes and at most 65,536.
-fn buffer_for(size: u32) -> u32
-    ensures { result ≡ buffer_for size }
-{
-    if size < 1024 {
-        return 1024;
-    }
-    if size > 65536 {
-        return 65536;
-    }
-    size
-}
+/// The least and the most of a server's buffer that a frame to it uses, whatever size the server
+/// announced, and what of that is its header.
+const LEAST: u32 = 1024;
 
-/// The most payload of a frame to this server. The header of eight bytes stands in its buffer too.
+const MOST: u32 = 65536;
+
+const HEADER: u32 = 8;
+
+/// The most payload of a frame to a server that announced a buffer of this size.
 pub(crate) fn segment_for(size: u32) -> u32
     ensures exact { result ≡ segment_for size }
     ensures some { 0 < result }
 {
-    buffer_for(size) - 8
+    if size < LEAST {
+        return LEAST - HEADER;
+    }
+    if size > MOST {
+        return MOST - HEADER;
+    }
+    size - HEADER
 }
 
 /// The method of a validation, and its argument.
@@ -83,19 +87,6 @@ fn monitor_sub(window: Option<u32>) -> u8
     match window {
         None => BEGIN,
         Some(_) => BEGIN | ACKNOWLEDGE,
-    }
-}
-
-/// The argument of a call.
-fn call_argument(alloc: Global, ask: &Ask) -> Result<Option<(PvType, PvValue)>, NoMemory>
-    ensures is { IfOk result (λ v. valued_view v ≡ messages.call_argument ask.now.name ask.now.operation) }
-    ensures fits { IfOk result (λ v. FitsValued (valued_view v)) }
-{
-    match &ask.operation {
-        Operation::Call(operation) => {
-            Ok(Some(uri(alloc, ask.name.as_str(), operation.as_str())?))
-        }
-        _ => Ok(None),
     }
 }
 
@@ -128,8 +119,7 @@ pub(crate) struct Session {
 
 impl Session {
     ghost use Rattle.cli_session.specs.Calls.{CanSay, Went};
-    ghost use Rattle.cli_session.specs.Messages.{spelled, said, control};
-    ghost use Rattle.cli_session.specs.Steps.{asking, next, saying};
+    ghost use Rattle.cli_session.specs.Steps.{asking, next, saying, echoing};
     ghost use Rattle.cli_session.specs.Views.{state_of};
     ghost use Rattle.cli_session.specs.declared.turn.Turn.TheVariants as turn;
 
@@ -140,7 +130,7 @@ impl Session {
         Session {
             order: Order::Little,
             order_told: false,
-            segment: segment_for(65536),
+            segment: segment_for(MOST),
             types: Registry::new(alloc),
             turns: turns_of(&ask.operation),
             cid: None,
@@ -155,23 +145,18 @@ impl Session {
     /// Appends a message.
     fn say(&self, out: &mut Vec<u8>, message: ToServer) -> Result<(), NoMemory>
         requires { CanSay (request_view message) }
-        ensures { OnOk result (out.new.items ≡ out.old.items ++ spelled (state_of self.now).order (state_of self.now).segment (said (request_view message))) }
+        ensures { OnOk result (Went (saying (state_of self.now) (request_view message ∷ []) []) (state_of self.now) out.old.items out.new.items) }
     {
         let written = write_to_server(out, self.order, self.segment, &message);
         discard(message);
         written
     }
 
-    /// Appends a control message.
-    pub(crate) fn say_control(
-        &self,
-        out: &mut Vec<u8>,
-        command: u8,
-        number: u32,
-    ) -> Result<(), NoMemory>
-        ensures { OnOk result (out.new.items ≡ out.old.items ++ spelled (state_of self.now).order (state_of self.now).segment (control command number)) }
+    /// Appends the answer to a request for an echo.
+    pub(crate) fn echo(&self, out: &mut Vec<u8>, number: u32) -> Result<(), NoMemory>
+        ensures { OnOk result (Went (echoing (state_of self.now) number) (state_of self.now) out.old.items out.new.items) }
     {
-        write_control(out, self.order, false, command, number)
+        write_control(out, self.order, false, ECHO_RESPONSE, number)
     }
 
     /// Says who the client is.
@@ -375,12 +360,15 @@ impl Session {
     fn call(&self, alloc: Global, ask: &Ask, out: &mut Vec<u8>) -> Result<(), NoMemory>
         ensures { OnOk result (Went (asking ask.now (state_of self.now) turn.Call) (state_of self.now) out.old.items out.new.items) }
     {
-        let argument = call_argument(alloc, ask)?;
+        let Operation::Call(operation) = &ask.operation else {
+            return Ok(());
+        };
+        let argument = uri(alloc, ask.name.as_str(), operation.as_str())?;
         let message = ToServer::Rpc {
             sid: self.sid,
             req: REQ,
             sub: DO,
-            argument,
+            argument: Some(argument),
         };
         self.say(out, message)
     }
@@ -433,7 +421,7 @@ impl Session {
 
     /// Ends the request of this id.
     fn end_request(&self, out: &mut Vec<u8>, req: u32) -> Result<(), NoMemory>
-        ensures { OnOk result (out.new.items ≡ out.old.items ++ spelled (state_of self.now).order (state_of self.now).segment (said (requests.destroy_request (state_of self.now).sid req))) }
+        ensures { OnOk result (Went (saying (state_of self.now) (requests.destroy_request (state_of self.now).sid req ∷ []) []) (state_of self.now) out.old.items out.new.items) }
     {
         self.say(out, ToServer::DestroyRequest { sid: self.sid, req })
     }

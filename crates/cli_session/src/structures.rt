@@ -178,20 +178,13 @@ fn with_options(
 ) -> Result<(PvType, PvValue), NoMemory>
     ensures { IfOk result (λ r. pair_view r ≡ (spec.structure (field (member_view fields).0 (member_view fields).1 (spec.record_fields (texts_seen options.now))), members (more (view blank) (spec.record_row (texts_seen options.now))))) }
 {
-    let (record, texts) = record_of(alloc, options)?;
-    let shape = structure_of(alloc, "", vec![in alloc; fields, record]?)?;
-    typed(alloc, shape, PvValue::Struct(vec![in alloc; blank, texts]?))
-}
-
-/// The member `record` with options, and its value.
-fn record_of(alloc: Global, options: &[Text<'_>]) -> Result<(Member, PvValue), NoMemory>
-    ensures { IfOk result (λ r. (members_view (r.0 ∷ []) ≡ spec.record_fields (texts_seen options.now)) × (row_view (r.1 ∷ []) ≡ spec.record_row (texts_seen options.now))) }
-{
-    let (shape, value) = texts_of(alloc, options)?;
+    let (shape, texts) = texts_of(alloc, options)?;
     let options = member(alloc, "_options", shape)?;
     let shape = structure_of(alloc, "", vec![in alloc; options]?)?;
     let record = member(alloc, "record", shape)?;
-    Ok((record, PvValue::Struct(vec![in alloc; value]?)))
+    let shape = structure_of(alloc, "", vec![in alloc; fields, record]?)?;
+    let texts = PvValue::Struct(vec![in alloc; texts]?);
+    typed(alloc, shape, PvValue::Struct(vec![in alloc; blank, texts]?))
 }
 
 /// The option of a request that is to be atomic, or isn't.
@@ -247,13 +240,6 @@ pub(crate) fn user_of(alloc: Global, user: &str, host: &str) -> Result<(PvType, 
     typed(alloc, shape, value)
 }
 
-/// A scalar that is a text.
-fn text_member(alloc: Global, name: &str) -> Result<Member, NoMemory>
-    ensures { IfOk result (λ m. member_view m ≡ (name.now, leaf (plain scalar.Text))) }
-{
-    member(alloc, name, Shape::Plain(Scalar::Text))
-}
-
 /// An NTURI that calls the operation of this name (EPICS Normative Types 1.0, "NTURI").
 pub(crate) fn uri(alloc: Global, path: &str, operation: &str) -> Result<(PvType, PvValue), NoMemory>
     ensures is { IfOk result (λ r. pair_view r ≡ spec.uri path.now operation.now) }
@@ -262,8 +248,8 @@ pub(crate) fn uri(alloc: Global, path: &str, operation: &str) -> Result<(PvType,
     let (query, texts) = texts_of(alloc, &[("op", operation)])?;
     let query = member(alloc, "query", query)?;
     let members = vec![in alloc;
-        text_member(alloc, "scheme")?,
-        text_member(alloc, "path")?,
+        member(alloc, "scheme", Shape::Plain(Scalar::Text))?,
+        member(alloc, "path", Shape::Plain(Scalar::Text))?,
         query,
     ]?;
     let shape = structure_of(alloc, "epics:nt/NTURI:1.0", members)?;

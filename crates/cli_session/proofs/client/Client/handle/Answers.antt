@@ -1,4 +1,5 @@
-use Rattle.std.proofs.Common.{◌≡◌, ℕ, List, None, refl, sym, subst}
+use Rattle.std.proofs.Common.{◌≡◌, ◌∙◌, ℕ, List, Option, None, Some, Result, Ok, Err, refl, sym, ap, subst}
+use Rattle.cli_session.specs.declared.fault.ClientFault.{ClientFault}
 use Rattle.cli_session.specs.Calls.{Took, Keeps, Handles}
 use Rattle.cli_session.specs.Seen.{telling_view}
 use Rattle.cli_session.specs.Steps.{step}
@@ -30,3 +31,17 @@ returns-clause-stands c events given taken stands =
     let failed : Handles ask old new c.args.event c.fail.result =
     not_taken ask old new c.args.event (state_of c.hear.new.self) c.in_default.is c.in-Err.fault c.fail.result c.fail.ensures.result (c.in-Err.ensures {u = tt}).takes c.fail.ensures.view in
     continues ask events given taken old new c.args.event stands c.fail.result failed
+
+-- a client that had failed: it is as before
+pub returns-in-Some-clause-stays : goal.returns-in-Some-clause-stays
+returns-in-Some-clause-stays c f failed = (ap (λ (o : Option ClientFault). answer_of o) (sym c.in-Some.is ∙ failed), refl) where
+  answer_of : Option ClientFault → Result (Unit {0}) ClientFault
+  answer_of None = Ok tt
+  answer_of (Some g) = Err g
+
+-- it hadn't
+pub returns-in-Ok-clause-stays : goal.returns-in-Ok-clause-stays
+returns-in-Ok-clause-stays c f failed = let e : Some f ≡ None = sym failed ∙ c.in_default.is in absurd cc
+
+pub returns-clause-stays : goal.returns-clause-stays
+returns-clause-stays c f failed = let e : Some f ≡ None = sym failed ∙ c.in_default.is in absurd cc

@@ -21,8 +21,8 @@ returns-then-command-eq-ECHO_REQUEST-clause-takes c =
     let s = state_of c.args.self.now in
     let other : (c.args.command == 2) ≡ false = grind (arith, nat_tests) in
     let is : (c.args.command == 3) ≡ true = grind (arith, nat_tests) in
-    echoed _ s s c.args.out.now.items c.say_control.new.out.items (telling_view c.untold-then-command-eq-ECHO_REQUEST.result) c.args.number (ap Ok (control_of s c.args.command c.args.number false true other is)) refl
-    (c.in_ok-say_control.ensures {u = tt}) c.untold-then-command-eq-ECHO_REQUEST.ensures
+    echoed _ s s c.args.out.now.items c.echo.new.out.items (telling_view c.untold-then-command-eq-ECHO_REQUEST.result) c.args.number (ap Ok (control_of s c.args.command c.args.number false true other is))
+    (c.in_ok-echo.ensures {u = tt}) c.untold-then-command-eq-ECHO_REQUEST.ensures
 
 pub returns-clause-takes : goal.returns-clause-takes
 returns-clause-takes c =

@@ -19,4 +19,4 @@ returns-clause-takes c =
     let more : Taken = saying fewer (acknowledgement s.sid (window_of c.args.ask.now.operation)) told in
     let went = subst (λ (w : Option ℕ). Went (saying fewer (acknowledgement s.sid w) []) fewer before after) c.window.ensures (c.in_default.ensures {u = tt}) in
     let is_more : updated c.args.ask.now s c.args.turn told ≡ more = ap (λ (b : Bool). cond b more (finished s c.args.turn told)) (lt-ltb 1 s.left (omega arith)) in
-    record { taken = more; is = ap Ok is_more; went = record { state = went.state; bytes = went.bytes }; told_is = append-nil told }
+    record { taken = more; is = ap Ok is_more; went = record { state = went.state; bytes = went.bytes; written = went.written }; told_is = append-nil told }
