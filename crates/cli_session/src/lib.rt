@@ -19,5 +19,3 @@ pub use fault::ClientFault;
 pub use laws::sent_is_heard;
 pub use report::Report;
 
-#[cfg(test)]
-mod tests;
