@@ -68,12 +68,20 @@ impl Session {
         ensures { AnswersBeside (D.seat desk.now) self.old self.new (beginning (D.seat desk.now).seen.base.site (state_of self.old) kind req sub sid (valued_view request.now) (channel_at (state_of self.old).channels sid)) result }
     {
         let Some(channel) = self.channel_at(sid) else {
-            return self.refuse(kind, req, sub, "unknown channel");
+            return self.refuse_channel(kind, req, sub);
         };
         match self.table.reserve(req) {
             Ok(()) => self.begin_on(alloc, kind, sid, channel, req, sub, request, desk),
             Err(answer) => self.refuse_place(kind, req, sub, answer),
         }
+    }
+
+    /// Says that the channel of a request that would begin isn't open, whatever else could be said.
+    fn refuse_channel(&mut self, kind: AskKind, req: u32, sub: u8) -> Result<(), NoMemory>
+        requires { IsServed kind }
+        ensures { AnswersAlone self.old self.new (task.refuse (refused kind req sub (codes "unknown channel"))) result }
+    {
+        self.refuse(kind, req, sub, "unknown channel")
     }
 
     /// Says why there is no place for a request.

@@ -666,10 +666,7 @@ fn the_channel_behind_4096_is_refused(rt: HostRuntime) -> Result<(), Fail> {
 
 const OPEN: &[&[u8]] = &[VALIDATION, CREATE];
 
-/// A monitor that begins, in both orders.
-const BEGIN_MONITOR: &[u8] =
-    b"\xCA\x02\x00\x0D\x0C\x00\x00\x00\x00\x00\x00\x00\x03\x00\x00\x00\x08\x80\x00\x00";
-
+/// The same in big endian.
 const BEGIN_MONITOR_BIG: &[u8] =
     b"\xCA\x02\x80\x0D\x00\x00\x00\x0C\x00\x00\x00\x00\x00\x00\x00\x03\x08\x80\x00\x00";
 

@@ -14,9 +14,9 @@ pub returns-in_default : goal.returns-in_default
 returns-in_default g c legal moment =
     let seat = g.D.Desk.seat c.args.desk.now in
     let s = state_of c.args.self.now in
-    as_task (show seat c.args.self.now) (show seat c.refuse.new.self) moment _ _ c.refuse.result
+    as_task (show seat c.args.self.now) (show seat c.refuse_channel.new.self) moment _ _ c.refuse_channel.result
     (unknown_channel seat.seen.base.site s c.args.kind c.args.req c.args.sub c.args.sid (valued_view c.args.request.now) (channel_at s.channels c.args.sid) (sym c.channel_at.ensures ∙ c.in_default.is))
-    (c.refuse.ensures seat legal moment)
+    (c.refuse_channel.ensures seat legal moment)
 
 pub begin_on-requires-clause-channel : goal.begin_on-requires-clause-channel
 begin_on-requires-clause-channel g c = c.requires.site.channels c.args.sid c.in-Some.channel (sym c.channel_at.ensures ∙ c.in-Some.is)

@@ -1,0 +1,7 @@
+mod Building
+mod Marking
+mod Sending
+mod SentHeard
+mod FittingReplies
+mod Replied
+mod Standing

@@ -1,0 +1,12 @@
+pub mod Turns
+pub mod Structures
+pub mod State
+pub mod Messages
+pub mod Answers
+pub mod Steps
+pub mod Text
+pub mod Laws
+pub mod Fitting
+pub mod Seen
+pub mod Views
+pub mod Calls

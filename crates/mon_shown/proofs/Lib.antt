@@ -1,0 +1,6 @@
+mod Readying
+mod Kept
+mod Least
+mod Listing
+mod Standing
+mod Taking

@@ -1,0 +1,7 @@
+pub mod Channels
+pub mod Keeping
+pub mod Noting
+pub mod Readies
+pub mod Slots
+pub mod Rolls
+pub mod Answers
