@@ -240,7 +240,9 @@ pub record IsStoppedOnTheWay (a : Asked) (done : ℕ) (marks : List Mark) : Type
   pub marks_are : marks ≡ puts ++ gets
   pub put : IsStopped a done puts
   pub got : IsPartOfGet a.site a.channel a.atomic gets
-  pub behind : (gets ≡ []) ⊎ (done ≡ length (entries_or_none (asked_entries a)))
+  pub behind :
+      (gets ≡ [])
+      ⊎ ((entries : List (List (ℕ × Action))) × ((asked_entries a ≡ Ok entries) × (done ≡ length entries)))
 
 -- a put-get that is atomic is one entry; another is a put and then a get
 abbrev pub ArePutGetBy : Bool → Asked → Result (Done × PvValue) PutAnswer → List Mark → Type 0

@@ -194,7 +194,7 @@ module _ (a : Asked) (apart : is_atomic a.site a.channel a.atomic ≡ false) (s 
             done_is = put.named.count_is;
           };
           got = get.named;
-          behind = inr (put.named.count_is ∙ many ∙ sym (ap length asked_are));
+          behind = inr (put.named.entries, (put.named.asked, put.named.count_is ∙ many));
         };
       }) where
         asked_are : entries_or_none (asked_entries a) ≡ put.named.entries

@@ -7,14 +7,6 @@ use std::test::Fail;
 /// A longout.
 const SINGLE: &str = "record(longout, \"X\") { field(VAL, \"42\") }";
 
-/// A longout, and a group of it.
-const GROUPED: &str = "\
-record(longout, \"X\") {
-  field(VAL, \"42\")
-  info(Q:group, {\"G\": {\"v\": {+channel:\"VAL\", +type:\"plain\"}}})
-}
-";
-
 /// The client is validated, and the channel X is open under the ids 1 and 0.
 const OPEN: &[u8] =
     b"\xCA\x02\x00\x01\x13\x00\x00\x00\x00\x00\x01\x00\x00\x00\x00\x00\x09anonymous\xFF\
@@ -182,8 +174,8 @@ const CALL_CHANNELS: &[u8] = b"\xCA\x02\x00\x14\x4E\x00\x00\x00\x01\x00\x00\x00\
       \x80\x12epics:nt/NTURI:1.0\x03\x06scheme\x60\x04path\x60\x05query\x80\x00\x01\x02op\x83\x10\
       \x03pva\x06server\x08channels";
 
-const CHANNELS_TOLD: &[u8] = b"\xCA\x02\x40\x14\x2F\x00\x00\x00\x05\x00\x00\x00\x00\xFF\
-      \x80\x1Aepics:nt/NTScalarArray:1.0\x01\x05value\x68\x02\x01X\x01G";
+const CHANNELS_TOLD: &[u8] = b"\xCA\x02\x40\x14\x2D\x00\x00\x00\x05\x00\x00\x00\x00\xFF\
+      \x80\x1Aepics:nt/NTScalarArray:1.0\x01\x05value\x68\x01\x01X";
 
 const CALL_INFO: &[u8] = b"\xCA\x02\x00\x14\x49\x00\x00\x00\x01\x00\x00\x00\x05\x00\x00\x00\x00\
       \x80\x12epics:nt/NTURI:1.0\x03\x06scheme\x60\x04path\x60\x05query\x80\x00\x01\x02op\x60\
@@ -191,7 +183,7 @@ const CALL_INFO: &[u8] = b"\xCA\x02\x00\x14\x49\x00\x00\x00\x01\x00\x00\x00\x05\
 
 const INFO_TOLD: &[u8] = b"\xCA\x02\x40\x14\x2D\x00\x00\x00\x05\x00\x00\x00\x00\xFF\
       \x80\x00\x03\x07version\x60\x07records\x22\x06groups\x22\
-      \x011\x01\x00\x00\x00\x01\x00\x00\x00";
+      \x011\x01\x00\x00\x00\x00\x00\x00\x00";
 
 const CALL_SNAPSHOT: &[u8] = b"\xCA\x02\x00\x14\x4D\x00\x00\x00\x01\x00\x00\x00\x05\x00\x00\x00\x00\
       \x80\x12epics:nt/NTURI:1.0\x03\x06scheme\x60\x04path\x60\x05query\x80\x00\x01\x02op\x60\
@@ -223,7 +215,7 @@ fn the_service_tells_names_and_counts_and_a_row_for_each_record(
     let alloc = rt.alloc();
     let told = answers(
         alloc,
-        GROUPED,
+        SINGLE,
         &[
             OPEN,
             OPEN_SERVER,
