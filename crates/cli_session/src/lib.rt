@@ -18,4 +18,3 @@ pub use client::Client;
 pub use fault::ClientFault;
 pub use laws::sent_is_heard;
 pub use report::Report;
-
