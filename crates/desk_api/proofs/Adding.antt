@@ -17,7 +17,7 @@ use Rattle.desk_api.specs.Marks.{IsLookOf, least_after, InOrder, IsTrueIn, AllHo
 use Rattle.desk_api.specs.Views.{AreStatesOf}
 use Rattle.desk_api.specs.Calls.{Adds, HaveMoment}
 use Rattle.desk_api.specs.declared.history.Base.{Base}
-use Rattle.desk_api.specs.declared.history.RollItem.{RollItem}
+use Rattle.desk_api.specs.History.{Item}
 use Rattle.desk_api.specs.declared.mark.Mark.{Mark}
 use Rattle.desk_api.specs.declared.mark.Mark.TheVariants.{Read, Entered, Overweight}
 use Rattle.desk_api.specs.declared.mark.Seat.{Seat}
@@ -69,7 +69,7 @@ all_still_hold seat {h} {k} b before marks t = true_weaken (IsTrueIn h seat) (Is
 
 pub deeds_append : (xs ys : List Mark) → deeds_of (xs ++ ys) ≡ deeds_of xs ++ deeds_of ys
 deeds_append [] ys = refl
-deeds_append (x ∷ xs) ys = ap (λ (l : List (Deed Entry RollItem)). deed_of x ++ l) (deeds_append xs ys) ∙ sym (append_assoc (deed_of x) (deeds_of xs) (deeds_of ys))
+deeds_append (x ∷ xs) ys = ap (λ (l : List (Deed Entry Item)). deed_of x ++ l) (deeds_append xs ys) ∙ sym (append_assoc (deed_of x) (deeds_of xs) (deeds_of ys))
 
 pub moments_append : (told : Option (Moment)) (xs ys : List Mark) → HaveMoment told xs → HaveMoment told ys → HaveMoment told (xs ++ ys)
 moments_append told [] ys a b = b
@@ -98,7 +98,7 @@ adds_more {a} {b} {c} {xs} {ys} p q = record {
   true_ = true_append (IsTrueIn c.seen c.number) a.log xs ys
       (all_still_hold c.number q.grows a.log xs (subst (λ (n : ℕ). AllHold n b.seen a.log xs) (sym q.number) p.true_))
       (subst (λ (l : List Mark). AllHold c.number c.seen l ys) p.log q.true_);
-  own = q.own ∙ ap (λ (l : List (Deed Entry RollItem)). l ++ deeds_of ys) p.own
+  own = q.own ∙ ap (λ (l : List (Deed Entry Item)). l ++ deeds_of ys) p.own
       ∙ append_assoc (deeds_by a.number a.seen.deeds) (deeds_of xs) (deeds_of ys)
-      ∙ ap (λ (l : List (Deed Entry RollItem)). deeds_by a.number a.seen.deeds ++ l) (sym (deeds_append xs ys));
+      ∙ ap (λ (l : List (Deed Entry Item)). deeds_by a.number a.seen.deeds ++ l) (sym (deeds_append xs ys));
 }

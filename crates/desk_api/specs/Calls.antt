@@ -18,22 +18,29 @@ use Rattle.rec_fields.specs.declared.puts.FieldAnswer.TheVariants.{Refused}
 use Rattle.journal_core.specs.Moments.{Moment}
 use Rattle.journal_core.specs.declared.entry.Entry.{Entry}
 use Rattle.histories.specs.History.{Begins, deeds_by, tagged}
-use Rattle.desk_api.specs.History.{entries, IsLegal}
+use Rattle.mon_queue.specs.Told.{IsUpdateOf}
+use Rattle.mon_queue.specs.declared.update.Update.{Update}
+use Rattle.desk_api.specs.History.{entries, roll, IsLegal}
+use Rattle.desk_api.specs.Living.{Living, living}
 use Rattle.desk_api.specs.Marks.{InOrder, AllHold, deed_of, deeds_of, next_place, place}
 use Rattle.desk_api.specs.Puts.{actions_of, entries_by, footprint_by, footprint_with}
 use Rattle.desk_api.specs.Sites.{all_records, channel_of, footprint_of, is_atomic}
+use Rattle.desk_api.specs.Types.{type_of}
 use Rattle.desk_api.specs.Views.{value_of, laid, AreStatesOf}
 use Rattle.desk_api.specs.declared.channel.Channel.{Channel}
 use Rattle.desk_api.specs.declared.channel.ChannelKind.TheVariants.{Service}
 use Rattle.desk_api.specs.declared.history.Base.{Base}
 use Rattle.desk_api.specs.declared.history.SiteData.{SiteData}
 use Rattle.desk_api.specs.declared.mark.Mark.{Mark}
-use Rattle.desk_api.specs.declared.mark.Mark.TheVariants.{Read, Entered, Overweight}
+use Rattle.desk_api.specs.declared.mark.Mark.TheVariants.{Read, Entered, Overweight, Begun, Crowded, Popped, Dropped}
 use Rattle.desk_api.specs.declared.mark.Seat.{Seat}
 use Rattle.desk_api.specs.declared.put.Done.{Done}
 use Rattle.desk_api.specs.declared.put.PutAnswer.{PutAnswer}
 use Rattle.desk_api.specs.declared.put.PutAnswer.TheVariants as answers
 use Rattle.desk_api.specs.declared.rows.RecRow.{RecRow}
+use Rattle.desk_api.specs.declared.sub.Sub.{Sub}
+use Rattle.desk_api.specs.declared.sub.SubAnswer.{SubAnswer}
+use Rattle.desk_api.specs.declared.sub.SubAnswer.TheVariants as sub_answers
 
 -- Calls of a desk added these marks: each is true, in order; the history is legal and only grew, by the seat's own
 -- deeds and by those of others.
@@ -287,6 +294,47 @@ pub record IsPartOfSnapshot (site : SiteData) (marks : List Mark) : Type 0 where
 abbrev pub AreSnapshot : {Z : Type 0} → SiteData → Result (Vec RecRow Z) NoMemory → List Mark → Type 0
 AreSnapshot site (Ok rows) marks = IsSnapshot site rows.items marks
 AreSnapshot site (Err e) marks = IsPartOfSnapshot site marks
+
+-- ---- subscriptions
+
+-- A subscription to these leaves of the channel began in this slot.
+pub record HasBegun (channel : Channel) (mask : FinSet nat_cmp) (size slot : ℕ) (marks : List Mark) : Type 0 where
+  pub at : ℕ
+  pub index : ℕ
+  pub marks_are : marks ≡ Begun at index slot channel mask size ∷ []
+
+-- None began, since so many live; the roll that the seat has then seen has just the items that leave them.
+pub record IsCrowded (new : Seat) (count : ℕ) (marks : List Mark) : Type 0 where
+  pub at : ℕ
+  pub index : ℕ
+  pub marks_are : marks ≡ Crowded at index count ∷ []
+  pub roll_is : index ≡ length (roll new.seen)
+
+abbrev pub AreSubscribe : Channel → FinSet nat_cmp → ℕ → Seat → Result Sub SubAnswer → List Mark → Type 0
+AreSubscribe channel mask size new (Ok sub) marks = HasBegun channel mask size sub.slot marks
+AreSubscribe channel mask size new (Err (sub_answers.TooManyMonitors count)) marks = IsCrowded new count marks
+AreSubscribe channel mask size new (Err sub_answers.NoMemory) marks = marks ≡ []
+
+-- the subscription in this slot was popped, and this was taken
+pub record IsPop (slot : ℕ) (update : Option Update) (marks : List Mark) : Type 0 where
+  pub at : ℕ
+  pub marks_are : marks ≡ Popped at slot update ∷ []
+
+-- the subscription in this slot ended
+pub record IsEnding (slot : ℕ) (marks : List Mark) : Type 0 where
+  pub at : ℕ
+  pub index : ℕ
+  pub marks_are : marks ≡ Dropped at index slot ∷ []
+
+-- The update's value fits the type of the channel that is subscribed to in the slot, and its sets hold leaves of it.
+abbrev pub FitsSubscribed : Seat → ℕ → Update → Type 0
+FitsSubscribed s slot update =
+    (l : Living) → living s.log slot ≡ Some l → IsUpdateOf (type_of s.seen.base.site l.channel) update
+
+-- where it isn't that memory ran out
+abbrev pub OnSubscribed : Result Sub SubAnswer → Type 0 → Type 0
+OnSubscribed (Err sub_answers.NoMemory) P = ⊤
+OnSubscribed answer P = P
 
 -- where a put's answer, or a put-get's, is not that memory ran out
 abbrev pub OnTold : {A : Type 0} → Result A PutAnswer → Type 0 → Type 0

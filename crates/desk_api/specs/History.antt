@@ -5,18 +5,27 @@ use Rattle.journal_core.specs.declared.entry.Entry.{Entry}
 use Rattle.journal_core.specs.Histories.{state_at as replayed_at, kept}
 use Rattle.journal_core.specs.Legality.{IsLegal as AreLegal}
 use Rattle.histories.specs.declared.story.Story.{Story}
-use Rattle.histories.specs.History.{entries_of, entries_by_seat}
+use Rattle.histories.specs.History.{entries_of, entries_by_seat, roll_by_seat}
+use Rattle.mon_shown.specs.declared.roll.RollItem.{RollItem}
+use Rattle.desk_api.specs.declared.channel.Channel.{Channel}
 use Rattle.desk_api.specs.declared.history.Base.{Base}
-use Rattle.desk_api.specs.declared.history.RollItem.{RollItem}
+
+-- a beginning or an ending of a subscription to a channel
+abbrev pub Item : Type 0
+Item = RollItem Channel
 
 abbrev pub History : Type 0
-History = Story Base Entry RollItem
+History = Story Base Entry Item
 
 -- the entries, in order, each with the seat that made it
 abbrev pub entries : History → List (ℕ × Entry)
 entries h = entries_by_seat h.deeds
 
--- the same without their seats
+-- the beginnings and endings of subscriptions, in order, each with its seat
+abbrev pub roll : History → List (ℕ × Item)
+roll h = roll_by_seat h.deeds
+
+-- the entries without their seats
 abbrev pub commits : History → List Entry
 commits h = entries_of h.deeds
 

@@ -6,5 +6,7 @@ pub mod Records
 pub mod Types
 pub mod Views
 pub mod Puts
+pub mod Triggers
+pub mod Living
 pub mod Marks
 pub mod Calls

@@ -1,16 +1,20 @@
 // What a session asks of its desk.
-ghost use Rattle.std.specs.Prelude.{◌≡◌, true, IfOk, IsTrue, OnOk, option_map, Some, ◌≤◌, length};
+ghost use Rattle.std.specs.Prelude.{◌≡◌, true, IfOk, IfSome, IsTrue, OnOk, option_map, Some, ◌≤◌, length};
 ghost use Rattle.desk_api.specs.declared.mark.Seat.{Seat};
 ghost use Rattle.desk_api.specs.Sites as sites;
 ghost use Rattle.desk_api.specs.Types as types;
 ghost use Rattle.desk_api.specs.History.{IsLegal};
-ghost use Rattle.desk_api.specs.Calls.{Calls, AreGet, ArePut, ArePutGet, AreSnapshot, OnTold, EndsAtItsMarks};
+ghost use Rattle.desk_api.specs.Calls.{Calls, AreGet, ArePut, ArePutGet, AreSnapshot, AreSubscribe, IsPop, IsEnding, FitsSubscribed, OnTold, OnSubscribed, EndsAtItsMarks};
+ghost use Rattle.desk_api.specs.Living.{lives};
+ghost use Rattle.desk_api.specs.Triggers.{may_be_watched};
 ghost use Rattle.pvd_value.specs.Fits.{fits_of};
 ghost use Rattle.pvd_value.specs.View.{view};
 
 use crate::channel::Channel;
 use crate::put::{Done, PutAnswer};
 use crate::rows::RecRow;
+use crate::sub::{Sub, SubAnswer};
+use mon_queue::Update;
 use pvd_type::{BitSet, Name, NoMemory, PvType};
 use pvd_value::PvValue;
 use rec_kinds::Moment;
@@ -114,5 +118,38 @@ pub trait Desk {
     fn snapshot(&mut self, alloc: Global) -> Result<Vec<RecRow>, NoMemory>
         ensures calls { Calls (seat self.old) (seat self.new) (AreSnapshot (seat self.old).seen.base.site result) }
         ensures ends { OnOk result (EndsAtItsMarks (seat self.old) (seat self.new)) }
+        ensures base { (seat self.new).seen.base ≡ (seat self.old).seen.base };
+
+    /// Begins a subscription to the marked leaves of what the channel shows. Its first update is what the channel shows at the end of
+    /// the history that the seat has then seen; later ones come from the entries that post a marked leaf, and at most `size` wait to be
+    /// popped: further ones are merged into the newest. `TooManyMonitors` exactly where 1,024 live, of this and other seats. One mark,
+    /// and none where memory runs out (pvAccess Protocol Specification, "Channel Monitor").
+    fn subscribe(
+        &mut self,
+        alloc: Global,
+        channel: Channel,
+        mask: &BitSet,
+        size: u32,
+    ) -> Result<Sub, SubAnswer>
+        requires channel { may_be_watched (seat self.old).seen.base.site channel ≡ true }
+        requires leaves { types.HoldsLeaves (types.type_of (seat self.old).seen.base.site channel) mask.now }
+        requires size { (1 ≤ size) × (size ≤ 64) }
+        ensures calls { Calls (seat self.old) (seat self.new) (AreSubscribe channel mask.now size (seat self.new) result) }
+        ensures ends { OnSubscribed result (EndsAtItsMarks (seat self.old) (seat self.new)) }
+        ensures base { (seat self.new).seen.base ≡ (seat self.old).seen.base };
+
+    /// The oldest unread update of a living subscription of this seat; None exactly where none is unread. One mark. It takes no memory.
+    fn pop(&mut self, sub: &Sub) -> Option<Update>
+        requires { lives (seat self.old).log sub.now.slot ≡ true }
+        ensures calls { Calls (seat self.old) (seat self.new) (IsPop sub.now.slot result) }
+        ensures ends { EndsAtItsMarks (seat self.old) (seat self.new) }
+        ensures fits { IfSome result (FitsSubscribed (seat self.old) sub.now.slot) }
+        ensures base { (seat self.new).seen.base ≡ (seat self.old).seen.base };
+
+    /// Ends a living subscription of this seat. One mark. It takes no memory.
+    fn unsubscribe(&mut self, sub: Sub)
+        requires { lives (seat self.old).log sub.slot ≡ true }
+        ensures calls { Calls (seat self.old) (seat self.new) (IsEnding sub.slot) }
+        ensures ends { EndsAtItsMarks (seat self.old) (seat self.new) }
         ensures base { (seat self.new).seen.base ≡ (seat self.old).seen.base };
 }

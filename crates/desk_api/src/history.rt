@@ -22,6 +22,3 @@ pub struct Base {
     /// What the entries of the history may weigh together.
     pub limit: u64,
 }
-
-/// A beginning or an ending of a subscription. There is none so far.
-pub enum RollItem {}

@@ -6,7 +6,9 @@ ghost use Rattle.histories.specs.History.{Begins};
 ghost use Rattle.journal_core.specs.Legality.{AreProcessed, AreValid};
 ghost use Rattle.journal_core.specs.declared.entry.Entry.{Entry};
 ghost use Rattle.desk_api.specs.History.{History, entries, state_at, kept_at, IsLegal};
-ghost use Rattle.desk_api.specs.Marks.{AllHold, IsTrueEntry, IsTrueRead};
+ghost use Rattle.histories.specs.History.{AllTrue};
+ghost use Rattle.desk_api.specs.Living.{Living, living, IsFolded, PopsUpTo};
+ghost use Rattle.desk_api.specs.Marks.{AllHold, IsTrueEntry, IsTrueRead, IsFoldedAtEnd};
 ghost use Rattle.journal_core.specs.Moments.{Moment};
 ghost use Rattle.desk_api.specs.Calls.{Adds, AreFindings, laid_by, looks_of};
 ghost use Rattle.desk_api.specs.Puts.{footprint_by, footprint_with};
@@ -88,3 +90,12 @@ pub fn truth_lasts()
     ensures weights { (h k : History) → Begins h k → (at : ℕ) → at ≤ length (entries h) → kept_at k at ≡ kept_at h at }
     ensures marks { (h k : History) → Begins h k → (seat : ℕ) (before marks : List Mark) → AllHold seat h before marks → AllHold seat k before marks }
 {}
+
+/// What was handed out of a subscription and what is still queued fold to what it is shown, at each place from its last pop on.
+/// Each subscription that ends is folded where it ends.
+pub fn updates_fold()
+    ensures living { (h : History) (seat : ℕ) (before marks : List Mark) → AllHold seat h before marks → (slot : ℕ) (l : Living) → living marks slot ≡ Some l → (n : ℕ) → PopsUpTo l n → IsFolded h l n }
+    ensures ended { (h : History) (seat : ℕ) (before marks : List Mark) → AllHold seat h before marks → AllTrue (IsFoldedAtEnd h) [] marks }
+{
+    mon_queue::updates_fold::<LinkedList<RecState>, Entry>();
+}

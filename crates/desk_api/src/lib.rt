@@ -15,6 +15,7 @@ mod records;
 mod rows;
 mod serving;
 mod site;
+mod sub;
 #[cfg(test)]
 mod tests;
 
@@ -23,14 +24,16 @@ pub use desk::Desk;
 pub use fault::SiteFault;
 pub use group_view::Group;
 pub use histories::{Deed, Story};
-pub use history::{Base, RollItem, SiteData};
+pub use history::{Base, SiteData};
 pub use journal_core::Entry;
 pub use laws::{
     calls_in_turn, entries_write_inside, footprints_rise, found_channels, gets_show_their_place,
     looks_show_states, put_gets_show_their_entry, snapshots_show_their_place, truth_lasts,
-    values_fit,
+    updates_fold, values_fit,
 };
 pub use mark::{Mark, Seat};
+pub use mon_queue::Update;
+pub use mon_shown::{RollItem, Views};
 pub use put::{Done, PutAnswer};
 pub use pvd_type::{NoMemory, PvType};
 pub use pvd_value::PvValue;
@@ -38,3 +41,4 @@ pub use rec_fields::FieldAnswer;
 pub use rec_kinds::{Action, Moment, PutRefusal, RecState};
 pub use rows::RecRow;
 pub use site::{Site, is_record_name};
+pub use sub::{Sub, SubAnswer};

@@ -11,7 +11,7 @@ use Rattle.desk_api.specs.History.{History, entries, commits, state_at, IsLegal}
 use Rattle.desk_api.specs.Marks.{place, least_after, IsTrueIn, deed_of, next_place}
 use Rattle.desk_api.specs.Calls.{Adds, with_mark, now, EndsAtLastMark}
 use Rattle.desk_api.specs.declared.history.Base.{Base}
-use Rattle.desk_api.specs.declared.history.RollItem.{RollItem}
+use Rattle.desk_api.specs.History.{Item}
 use Rattle.desk_api.specs.declared.mark.Mark.{Mark}
 use Rattle.desk_api.specs.declared.mark.Seat.{Seat}
 use Rattle.desk_core.specs.Standing.{Stands}
@@ -21,7 +21,7 @@ next_place-push : (low : ℕ) (marks : List Mark) (mark : Mark) → next_place l
 next_place-push low [] mark = refl
 next_place-push low (x ∷ marks) mark = next_place-push (least_after x) marks mark
 
-abbrev with_deeds : History → List (ℕ × Deed Entry RollItem) → History
+abbrev with_deeds : History → List (ℕ × Deed Entry Item) → History
 with_deeds h ds = record { base = h.base; deeds = ds }
 
 module _ (s : Seat) (mark : ℕ → Mark) where
@@ -42,7 +42,7 @@ module _ (s : Seat) (mark : ℕ → Mark) where
     legal = legal;
     order = (omega (arith, at), after);
     true_ = (holds, tt);
-    own = own_more s.number s.seen.deeds (deed_of m) ∙ ap (λ (l : List (Deed Entry RollItem)). deeds_by s.number s.seen.deeds ++ l) (sym (append-nil (deed_of m)));
+    own = own_more s.number s.seen.deeds (deed_of m) ∙ ap (λ (l : List (Deed Entry Item)). deeds_by s.number s.seen.deeds ++ l) (sym (append-nil (deed_of m)));
   }
 
   pub ends_at : least_after m ≡ now t → EndsAtLastMark t
@@ -51,7 +51,7 @@ module _ (s : Seat) (mark : ℕ → Mark) where
   -- a mark without an entry
   module _ (none : deed_of m ≡ []) where
     same_deeds : t.seen.deeds ≡ s.seen.deeds
-    same_deeds = ap (λ (es : List (Deed Entry RollItem)). s.seen.deeds ++ tagged s.number es) none ∙ append-nil s.seen.deeds
+    same_deeds = ap (λ (es : List (Deed Entry Item)). s.seen.deeds ++ tagged s.number es) none ∙ append-nil s.seen.deeds
 
     pub same_seen : t.seen ≡ s.seen
     same_seen = ap (with_deeds s.seen) same_deeds
@@ -66,7 +66,7 @@ module _ (s : Seat) (mark : ℕ → Mark) where
     pub still : {base : Base} {cells : List RecState} {journal : Journal} → Stands base cells journal s → Stands base cells journal t
     still {base} {cells} {journal} x = record {
       base_is = x.base_is;
-      own = subst (λ (ds : List (ℕ × Deed Entry RollItem)). ds ≡ tagged s.number (deeds_by s.number ds)) (sym same_deeds) x.own;
+      own = subst (λ (ds : List (ℕ × Deed Entry Item)). ds ≡ tagged s.number (deeds_by s.number ds)) (sym same_deeds) x.own;
       opening_is = x.opening_is;
       entries_are = x.entries_are ∙ ap commits (sym same_seen);
       cells_are = x.cells_are ∙ ap (λ (h : History). state_at h (length (entries h))) (sym same_seen);

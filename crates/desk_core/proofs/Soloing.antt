@@ -25,7 +25,7 @@ use Rattle.desk_api.specs.Views.{AreStatesOf}
 use Rattle.desk_api.specs.Calls.{Adds, Calls, first_seat, with_mark, now, EndsAtLastMark}
 use Rattle.desk_api.proofs.Adding.{as_many, adds_nothing}
 use Rattle.desk_api.specs.declared.history.Base.{Base}
-use Rattle.desk_api.specs.declared.history.RollItem.{RollItem}
+use Rattle.desk_api.specs.History.{Item}
 use Rattle.desk_api.specs.declared.history.SiteData.{SiteData}
 use Rattle.desk_api.specs.declared.mark.Mark.{Mark}
 use Rattle.desk_api.specs.declared.mark.Mark.TheVariants.{Entered, Overweight}
@@ -157,7 +157,7 @@ module _ {base : Base} {cells : List RecState} {journal : Journal} (s t : Seat) 
   entered_stands after new after_is opening_is entries_is =
       subst (Stands base after new) (sym same) (record {
         base_is = x.base_is;
-        own = ap (λ (ds : List (ℕ × Deed Entry RollItem)). ds ++ tagged s.number (deeds.Entry entry ∷ [])) x.own
+        own = ap (λ (ds : List (ℕ × Deed Entry Item)). ds ++ tagged s.number (deeds.Entry entry ∷ [])) x.own
             ∙ sym (tagged_append s.number (deeds_by s.number s.seen.deeds) (deeds.Entry entry ∷ []))
             ∙ ap (tagged s.number) (sym (own_more s.number s.seen.deeds (deeds.Entry entry ∷ [])));
         opening_is = opening_is ∙ x.opening_is;
