@@ -15,7 +15,7 @@ use Rattle.desk_api.specs.declared.mark.Mark.{Mark}
 use Rattle.desk_api.specs.declared.mark.Seat.{Seat}
 use Rattle.srv_session.specs.State.{State}
 use Rattle.srv_session.specs.Tasks.{Hearing, asks, unreadable, over_range, heard}
-use Rattle.mon_window.specs.declared.fault.WindowFault.TheVariants.{OverRange}
+use Rattle.mon_window.specs.declared.window.WindowFault.TheVariants.{OverRange}
 use Rattle.srv_session.specs.Steps.{Step, hears, bytes_of, after_step, IsStep, AreSteps, state_after, events_of, marks_of, out_of, PartOf, EventPart}
 use Rattle.srv_session.specs.Replies.{Sent}
 use Rattle.srv_session.specs.declared.stop.SessionStop.{SessionStop}
