@@ -1,7 +1,11 @@
 pub mod Tables
+pub mod Slots
+pub mod Rising
+pub mod Lives
 pub mod Rows
 pub mod OnSite
 pub mod Steps
+pub mod Pops
 pub mod Determined
 pub mod Replying
 pub mod Heeding
@@ -12,3 +16,5 @@ pub mod Places
 pub mod Parts
 pub mod Validating
 pub mod Typed
+pub mod Ending
+pub mod Monitoring

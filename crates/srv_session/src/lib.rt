@@ -4,10 +4,13 @@
 mod asking;
 mod calls;
 mod channels;
+mod endings;
 mod fields;
 mod gets;
 mod handling;
+mod listing;
 mod monitors;
+mod pumping;
 mod put_gets;
 mod puts;
 mod requests;
