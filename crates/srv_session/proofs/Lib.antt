@@ -2,8 +2,10 @@ pub mod Tables
 pub mod Slots
 pub mod Rising
 pub mod Lives
+pub mod Owning
 pub mod Rows
 pub mod OnSite
+pub mod Kept
 pub mod Steps
 pub mod Pops
 pub mod Determined
