@@ -1,7 +1,6 @@
 pub mod Tables
 pub mod Slots
 pub mod Rising
-pub mod Lives
 pub mod Owning
 pub mod Rows
 pub mod OnSite

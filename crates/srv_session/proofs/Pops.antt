@@ -1,5 +1,5 @@
 -- Pops, and pumps, which are pops of all monitors that are due.
-use Rattle.std.proofs.Common.{◌≡◌, ◌≢◌, ◌==◌, ℕ, suc, ◌+◌, ◌-◌, ◌<◌, Bool, true, false, ◌&&◌, ◌||◌, not, cond, List, [], ◌∷◌, ◌++◌, drop, length, Option, None, Some, Result, Ok, Err, refl, sym, ◌∙◌, ap, subst, arith, inl, inr, append_assoc}
+use Rattle.std.proofs.Common.{◌≡◌, ◌≢◌, ◌==◌, ℕ, zero, suc, ◌+◌, ◌-◌, ◌<◌, Bool, true, false, ◌&&◌, ◌||◌, not, cond, List, [], ◌∷◌, ◌++◌, drop, length, Option, None, Some, Result, Ok, Err, refl, sym, ◌∙◌, ap, subst, arith, inl, inr, append_assoc}
 use Rattle.std.specs.Prelude.{◌⊎◌, is_some, nat_lt}
 use Rattle.std.specs.List.{filter, list_all, list_any}
 use Rattle.std.specs.FinMap.{get as at, insert}
@@ -12,26 +12,23 @@ use Rattle.mon_queue.specs.declared.update.Update.{Update}
 use Rattle.desk_api.proofs.Adding.{adds_nothing, adds_more}
 use Rattle.desk_api.specs.Calls.{Adds, Calls, IsPop}
 use Rattle.desk_api.specs.History.{IsLegal}
-use Rattle.desk_api.specs.Living.{Living, living}
-use Rattle.desk_api.specs.Sites.{is_channel, has_values}
-use Rattle.desk_api.specs.Types.{type_of}
 use Rattle.desk_api.specs.declared.channel.Channel.{Channel}
 use Rattle.desk_api.specs.declared.history.SiteData.{SiteData}
 use Rattle.desk_api.specs.declared.mark.Mark.{Mark}
 use Rattle.desk_api.specs.declared.mark.Mark.TheVariants.{Popped}
 use Rattle.desk_api.specs.declared.mark.Seat.{Seat}
 use Rattle.desk_api.specs.declared.sub.Sub.{Sub}
-use Rattle.srv_session.specs.State.{State, Requests, Asked, channel_at, is_due, due, slot_of_sub, slots_of}
+use Rattle.srv_session.specs.State.{State, Requests, Asked, is_due, due, slot_of_sub, slots_of}
 use Rattle.srv_session.specs.Replies.{Sent, said, spelled, spelled_all, updated}
 use Rattle.srv_session.specs.Rising.{is_rising}
 use Rattle.srv_session.specs.Steps.{Step, pops, IsDue, IsPopOf, PopRow, PopPart, one_sent, with_sent, after_pop, after_step, AreSteps, state_after, marks_of, sent_in, out_of, update_sent}
-use Rattle.srv_session.specs.Calls.{IsOf, Holds, AreLiving, ArePopsOf, is_some_sent, sends, Pumps, Pumped, PumpedSome, PumpStopped}
+use Rattle.srv_session.specs.Calls.{IsOf, Holds, ArePopsOf, is_some_sent, sends, Pumps, Pumped, PumpedSome, PumpStopped}
 use Rattle.srv_session.specs.Views.{state_of, output_of, show}
 use Rattle.srv_session.specs.Watching.{HasPopped, HasFailed, Pops, PopsDue, Idles}
 use Rattle.srv_session.specs.declared.session.Session.{Session}
 use Rattle.srv_session.proofs.Tables.{got_beside}
 use Rattle.srv_session.proofs.Slots.{slots_insert}
-use Rattle.srv_session.proofs.Lives.{holds_on, holds_changed, holds_living, had_same, popped_lives}
+use Rattle.srv_session.proofs.Kept.{pop_holds}
 use Rattle.srv_session.proofs.OnSite.{pop_on_site}
 use Rattle.srv_session.proofs.Rows.{shown}
 use Rattle.srv_session.proofs.Steps.{after_append, steps_append, marks_append, out_append}
@@ -103,21 +100,7 @@ module _ (here there : Seat) (s : State) (req : ℕ) (marks : List Mark) (sent :
       by_case (Some update) = by_place (at s.requests req)
 
   pub popped_holds : Adds here there marks → Holds here.log s → Holds there.log (after_pop s req marks)
-  popped_holds adds ok =
-      subst (λ (ms : List Mark). Holds there.log (after_pop s req ms)) (sym row.is_pop.marks_are) (by_case row.update (adds.log ∙ ap (λ (ms : List Mark). here.log ++ ms) row.is_pop.marks_are))
-    where
-      by_case : (o : Option Update) → there.log ≡ here.log ++ Popped row.is_pop.place row.is_pop.sub.slot o ∷ [] → Holds there.log (after_pop s req (Popped row.is_pop.place row.is_pop.sub.slot o ∷ []))
-      by_case None log =
-          subst (λ (l : List Mark). Holds l s) (sym log)
-          (holds_on here.log (here.log ++ Popped row.is_pop.place row.is_pop.sub.slot None ∷ []) s s ok
-          (λ q ask sub is has. (had_same s s q ask sub is has (λ c e. e), popped_lives here.log row.is_pop.place row.is_pop.sub.slot None sub.slot)))
-      by_case (Some update) log =
-          let ask = row.is_pop.ask in
-          let here_is = row.is_pop.is_due.here in
-          subst (λ (o : Option Asked). Holds there.log (record s { requests = with_sent req o s.requests })) (sym here_is)
-          (subst (λ (l : List Mark). Holds l (record s { requests = insert s.requests req (one_sent ask) })) (sym log)
-          (holds_changed here.log s ok (here.log ++ Popped row.is_pop.place row.is_pop.sub.slot (Some update) ∷ []) req ask (one_sent ask) here_is refl refl refl refl
-          (λ slot l is. popped_lives here.log row.is_pop.place row.is_pop.sub.slot (Some update) slot l is)))
+  popped_holds adds ok = subst (λ (l : List Mark). Holds l (after_pop s req marks)) (sym adds.log) (pop_holds here.log marks s req row.channel row.update row.is_pop ok)
 
 -- Pops, one after another.
 
@@ -246,9 +229,9 @@ module _ (here : Seat) (s : State) (out : List ℕ) (now : Seat) (old : Session)
             ∙ ap (λ (l : List ℕ). l ++ spelled_all old.order old.segment p.sent) g.output
             ∙ append_assoc out (out_of site_ s g.steps) (spelled_all old.order old.segment p.sent)
             ∙ ap (λ (l : List ℕ). out ++ l)
-              (ap (λ (z : State). out_of site_ s g.steps ++ spelled_all z.order z.segment p.sent) g.state
-              ∙ ap (λ (l : List ℕ). out_of site_ s g.steps ++ l) (sym (append-nil (spelled_all (state_after site_ s g.steps).order (state_after site_ s g.steps).segment p.sent)))
-              ∙ sym (out_append site_ s g.steps (step_ ∷ [])));
+            (ap (λ (z : State). out_of site_ s g.steps ++ spelled_all z.order z.segment p.sent) g.state
+            ∙ ap (λ (l : List ℕ). out_of site_ s g.steps ++ l) (sym (append-nil (spelled_all (state_after site_ s g.steps).order (state_after site_ s g.steps).segment p.sent)))
+            ∙ sym (out_append site_ s g.steps (step_ ∷ [])));
         sent_is =
             p.now_is ∙ ap (λ (b : Bool). b || is_some_sent p.sent) g.sent_is ∙ ap (λ (b : Bool). sends g.steps || b) (sym (or_false (is_some_sent p.sent)))
             ∙ sym (sends_more g.steps (step_ ∷ []));
@@ -287,21 +270,6 @@ module _ (here : Seat) (s : State) (out : List ℕ) (now : Seat) (old : Session)
         part_at (inl e) = inl e
         part_at (inr part) = inr (subst (λ (z : State). PopPart z f.next) g.state part)
 
-    -- the subscriptions live all the same
-    pub stopped_living : HasFailed now there old new → AreLiving there.log (slots_of (state_of new).requests)
-    stopped_living f = subst (AreLiving there.log) (sym f.subscribed) (by_next f.next f.next_is f.adds.log)
-      where
-        by_next : (next : List Mark) → (next ≡ []) ⊎ PopPart (state_of old) next → there.log ≡ now.log ++ next → AreLiving there.log (slots_of (state_of old).requests)
-        by_next next (inl e) log =
-            subst (λ (l : List Mark). AreLiving l (slots_of (state_of old).requests)) (sym (log ∙ ap (λ (l : List Mark). now.log ++ l) e ∙ append-nil now.log))
-            (holds_living now.log (state_of old) g.holds)
-        by_next next (inr (req, (channel, (update, pop)))) log =
-            let mark = Popped pop.place pop.sub.slot update in
-            subst (λ (l : List Mark). AreLiving l (slots_of (state_of old).requests)) (sym (log ∙ ap (λ (l : List Mark). now.log ++ l) pop.marks_are))
-            (holds_living (now.log ++ mark ∷ []) (state_of old)
-            (holds_on now.log (now.log ++ mark ∷ []) (state_of old) (state_of old) g.holds
-            (λ q ask sub is has. (had_same (state_of old) (state_of old) q ask sub is has (λ c e. e), popped_lives now.log pop.place pop.sub.slot update sub.slot))))
-
 -- all were looked at
 pub gone : (here : Seat) (s : State) (out : List ℕ) (now : Seat) (t : State) (after : List ℕ) (sent : Bool) → Going here s out now t after [] sent → Pumped (shown here s out) (shown now t after) sent
 gone here s out now t after sent g = record {
@@ -315,3 +283,28 @@ gone here s out now t after sent g = record {
   state = g.state;
   more_is = g.sent_is;
 }
+
+-- One step of a pump, by its answer.
+module _ (here : Seat) (s : State) (out : List ℕ) (now there : Seat) (old new : Session) (ids : List ℕ) (sent : Bool) (g : Going here s out now (state_of old) (output_of old) ids sent) (id : ℕ) (later : List ℕ) (ids_are : ids ≡ id ∷ later)
+    (rising : is_rising ids ≡ true) where
+  pub going_next : (more : Bool) → PopsDue now there old new id sent (Ok more) → Going here s out there (state_of new) (output_of new) later more
+  going_next more p = by_test (is_due (at (state_of old).requests id)) refl
+    where
+      by_test : (b : Bool) → is_due (at (state_of old).requests id) ≡ b → Going here s out there (state_of new) (output_of new) later more
+      by_test true is = going_on here s out now old ids sent g there new id later more ids_are rising is (p.due is)
+      by_test false is = going_idle here s out now old ids sent g there new id later more ids_are is (p.idle is)
+
+  pub going_failed : (e : NoMemory) → PopsDue now there old new id sent (Err e) → PumpStopped (shown here s out) (show there new)
+  going_failed e p = by_test (is_due (at (state_of old).requests id)) refl
+    where
+      err_ok : {x : NoMemory} {y : Bool} → Err x ≡ Ok y → ⊥
+      err_ok e = cc
+
+      by_test : (b : Bool) → is_due (at (state_of old).requests id) ≡ b → PumpStopped (shown here s out) (show there new)
+      by_test true is = going_stopped here s out now old ids sent g there new (p.due is)
+      by_test false is = absurd (err_ok (p.idle is).result_is)
+
+pub rising_drop : (n : ℕ) (ids : List ℕ) → is_rising ids ≡ true → is_rising (drop n ids) ≡ true
+rising_drop zero ids rising = rising
+rising_drop (suc n) [] rising = refl
+rising_drop (suc n) (id ∷ ids) rising = rising_drop n ids (both_true (list_all (λ x. nat_lt id x) ids) (is_rising ids) rising).1

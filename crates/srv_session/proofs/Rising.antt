@@ -342,14 +342,18 @@ listed_without ids m k listed q ask is has = by_id (same_or_not q k)
     by_id (inl same) = absurd (none-some ask (sym (got_removed m k) ∙ ap (get (remove m k)) (sym same) ∙ is))
     by_id (inr apart) = listed q ask (sym (got_left m k q apart) ∙ is) has
 
-pub listed_unlisted : (ids : List ℕ) (m : Requests) (k : ℕ) → AreListed ids (remove m k) → AreListed (without_id k ids) (remove m k)
-listed_unlisted ids m k listed q ask is has = by_id (same_or_not q k)
+pub listed_unlisted : (ids : List ℕ) (m : Requests) (k : ℕ) → get m k ≡ None → AreListed ids m → AreListed (without_id k ids) m
+listed_unlisted ids m k gone listed q ask is has = by_id (same_or_not q k)
   where
     by_id : (q ≡ k) ⊎ (q ≢ k) → is_among q (without_id k ids) ≡ true
-    by_id (inl same) = absurd (none-some ask (sym (got_removed m k) ∙ ap (get (remove m k)) (sym same) ∙ is))
+    by_id (inl same) = absurd (none-some ask (sym gone ∙ ap (get m) (sym same) ∙ is))
     by_id (inr apart) =
-        let test : (q == k) ≡ false = grind (arith, nat_tests) in
+        let test : (q == k) ≡ false = by_test (q == k) refl in
         among_filter q (λ x. not (x == k)) ids ∙ ap (λ (b : Bool). not b && is_among q ids) test ∙ listed q ask is has
+      where
+        by_test : (b : Bool) → (q == k) ≡ b → b ≡ false
+        by_test false e = refl
+        by_test true e = absurd (apart (grind (arith, nat_tests)))
 
 -- one that is no monitor, or whose id is among them
 pub listed_insert : (ids : List ℕ) (m : Requests) (k : ℕ) (v : Asked) → AreListed ids m → (is_some v.sub ≡ true → is_among k ids ≡ true) → AreListed ids (insert m k v)
@@ -371,11 +375,11 @@ module _ (id : ℕ) (ids : List ℕ) (i : ℕ) (lt : i < length ids) where
   pub place_goes_on : nat_lt (get_or ids i 0) id ≡ true → (i + 1) + prefix_len (below id) (drop (i + 1) ids) ≡ i + prefix_len (below id) (drop i ids)
   place_goes_on is =
       let next : prefix_len (below id) (drop i ids) ≡ 1 + prefix_len (below id) (drop (i + 1) ids) =
-          at_drop_more (prefix_len (below id)) ids i 0 lt ∙ ap (λ (b : Bool). cond b (1 + prefix_len (below id) (drop (i + 1) ids)) 0) is in
+      at_drop_more (prefix_len (below id)) ids i 0 lt ∙ ap (λ (b : Bool). cond b (1 + prefix_len (below id) (drop (i + 1) ids)) 0) is in
       omega (arith, next)
 
   pub place_is_here : nat_lt (get_or ids i 0) id ≡ false → i ≡ i + prefix_len (below id) (drop i ids)
   place_is_here is =
       let none : prefix_len (below id) (drop i ids) ≡ 0 =
-          at_drop_more (prefix_len (below id)) ids i 0 lt ∙ ap (λ (b : Bool). cond b (1 + prefix_len (below id) (drop (i + 1) ids)) 0) is in
+      at_drop_more (prefix_len (below id)) ids i 0 lt ∙ ap (λ (b : Bool). cond b (1 + prefix_len (below id) (drop (i + 1) ids)) 0) is in
       omega (arith, none)

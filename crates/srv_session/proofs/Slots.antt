@@ -1,8 +1,8 @@
 -- The slots of requests, by the rising ids of the requests.
-use Rattle.std.proofs.Common.{◌≡◌, ◌≢◌, ℕ, zero, suc, ◌+◌, ◌<◌, ◌≤◌, Bool, true, false, cond, not, T, List, [], ◌∷◌, ◌++◌, length, Option, None, Some, map, refl, sym, ◌∙◌, ap, subst, arith, inl, inr, append_assoc}
-use Rattle.std.specs.Prelude.{◌⊎◌, is_some, IsSome}
+use Rattle.std.proofs.Common.{◌≡◌, ◌≢◌, ℕ, zero, suc, ◌+◌, ◌<◌, ◌≤◌, Bool, true, false, cond, not, T, List, [], ◌∷◌, ◌++◌, length, Option, None, Some, Result, Ok, Err, map, refl, sym, ◌∙◌, ap, subst, arith, inl, inr, append_assoc}
+use Rattle.std.specs.Prelude.{◌⊎◌, OnErr}
 use Rattle.std.specs.List.{flat_map}
-use Rattle.std.specs.FinMap.{get, insert, remove, retain_keys, entries, entries_sorted, entries-insert, find, put, is_sorted, get-entries, same_map, nat_cmp-IsAntisymmetric}
+use Rattle.std.specs.FinMap.{get, insert, remove, retain_keys, entries, entries_sorted, entries-insert, find, put, is_sorted, get-entries, get-retain_keys, same_map, nat_cmp-IsAntisymmetric}
 use Rattle.std.specs.FinMap.Entries.{below_all, by_order, where_key}
 use Rattle.std.specs.Ordering.{nat_cmp, eq_by_cmp, is_lt}
 use Rattle.std.specs.declared.cmp.Ordering.{Ordering}
@@ -11,7 +11,8 @@ use Rattle.std.proofs.lemmas.Bool.{false≢true}
 use Rattle.std.proofs.lemmas.Cmp.{nat_cmp_total, ranked}
 use Rattle.std.proofs.lemmas.Option.{none-some}
 use Rattle.std.proofs.lemmas.List.{append-nil}
-use Rattle.srv_session.specs.State.{Asked, Requests, is_on, on_only, without_channel, slot_of_sub, slot_of, slots_of}
+use Rattle.pvd_type.specs.declared.memory.NoMemory.{NoMemory}
+use Rattle.srv_session.specs.State.{State, Asked, Requests, is_on, on_only, without_channel, slot_of_sub, slot_of, slots_of}
 use Rattle.srv_session.proofs.Tables.{tied, untied, same_or_not, got_inserted, got_beside, got_removed, got_left, nothing_removed, both_parts, AllFrom, above, weaker, missing, all_from_zero}
 
 -- the slots of the requests in a list of entries
@@ -144,6 +145,38 @@ module _ (m : Requests) (k : ℕ) where
 pub slots_none : (m : Requests) → ((q : ℕ) → get m q ≡ None) → slots_of m ≡ []
 slots_none m none = slots_entries m ∙ no_slots (entries m) (λ q. sym (get-entries m q) ∙ none q)
 
+-- The requests on a channel.
+
+pub got_only : (sid : ℕ) (m : Requests) (req : ℕ) → get (on_only sid m) req ≡ cond (is_on sid (get m req)) (get m req) None
+got_only sid m req =
+    get-retain_keys m (λ q. is_on sid (get m q)) req (λ x ties. ap (λ (k : ℕ). is_on sid (get m k)) (sym (nat_cmp-IsAntisymmetric req x ties)))
+
+pub none_only : (sid : ℕ) (m : Requests) → ((req : ℕ) → is_on sid (get m req) ≡ false) → slots_of (on_only sid m) ≡ []
+none_only sid m off = slots_none (on_only sid m) (λ q. got_only sid m q ∙ ap (λ (b : Bool). cond b (get m q) None) (off q))
+
+-- the first of them
+module _ (sid : ℕ) (m : Requests) (id : ℕ) (ask : Asked) (here : get m id ≡ Some ask) (on : is_on sid (get m id) ≡ true) (least : (q : ℕ) → q < id → is_on sid (get m q) ≡ false) where
+  first_here : get (on_only sid m) id ≡ Some ask
+  first_here = got_only sid m id ∙ ap (λ (b : Bool). cond b (get m id) None) on ∙ here
+
+  rest_only : remove (on_only sid m) id ≡ on_only sid (remove m id)
+  rest_only = same_map nat_cmp_total nat_cmp-IsAntisymmetric (remove (on_only sid m) id) (on_only sid (remove m id)) (λ q. alike q (same_or_not q id))
+    where
+      kept : Option Asked → Option Asked
+      kept o = cond (is_on sid o) o None
+
+      alike : (q : ℕ) → (q ≡ id) ⊎ (q ≢ id) → get (remove (on_only sid m) id) q ≡ get (on_only sid (remove m id)) q
+      alike q (inl same) =
+          ap (get (remove (on_only sid m) id)) same ∙ got_removed (on_only sid m) id
+          ∙ sym (got_only sid (remove m id) q ∙ ap kept (ap (get (remove m id)) same ∙ got_removed m id))
+      alike q (inr apart) =
+          got_left (on_only sid m) id q apart ∙ got_only sid m q ∙ ap kept (sym (got_left m id q apart)) ∙ sym (got_only sid (remove m id) q)
+
+  pub slots_first_on : slots_of (on_only sid m) ≡ slot_of_sub ask.sub ++ slots_of (on_only sid (remove m id))
+  slots_first_on =
+      slots_first (on_only sid m) id ask first_here (λ q lt. got_only sid m q ∙ ap (λ (b : Bool). cond b (get m q) None) (least q lt))
+      ∙ ap (λ (r : Requests). slot_of_sub ask.sub ++ slots_of r) rest_only
+
 -- Where the requests on a channel have no slots, the others have all.
 
 nothing_in : {xs ys : List ℕ} → xs ++ ys ≡ [] → (xs ≡ []) × (ys ≡ [])
@@ -171,3 +204,11 @@ others_slots sid m none =
     slots_entries (without_channel sid m) ∙ ap slots_in (retained m (λ q. not (test q)))
     ∙ kept_slots test (entries m) (ap slots_in (sym (retained m test)) ∙ sym (slots_entries (on_only sid m)) ∙ none)
     ∙ sym (slots_entries m)
+
+-- Where the state is as before, the subscriptions are.
+pub still : {s t : State} → t ≡ s → slots_of t.requests ≡ slots_of s.requests
+still is = ap (λ (z : State). slots_of z.requests) is
+
+pub on_err : {A : Type 0} (result : Result (Unit {0}) NoMemory) → A → OnErr result A
+on_err (Ok u) a = tt
+on_err (Err e) a = a

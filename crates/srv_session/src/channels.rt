@@ -29,6 +29,7 @@ impl Session {
     fn open<D: Desk>(&mut self, cid: u32, name: &Name, desk: &D) -> Result<(), NoMemory>
         ensures state { OnOk result (state_of self.new ≡ record (state_of self.old) { channels = opened (state_of self.old).channels cid (channel_named (D.seat desk.now).seen.base.site name.now) }) }
         ensures ok { OnOk result (output_of self.new ≡ output_of self.old ++ spelled self.old.order self.old.segment (said (created (state_of self.old).channels cid (channel_named (D.seat desk.now).seen.base.site name.now)))) }
+        ensures requests { (state_of self.new).requests ≡ (state_of self.old).requests }
         ensures keeps { Keeps self.old self.new }
     {
         let Some(channel) = desk.find(name.as_str()) else {
@@ -47,6 +48,7 @@ impl Session {
     fn open_all<D: Desk>(&mut self, names: &[(u32, Name)], desk: &D) -> Result<(), NoMemory>
         ensures state { OnOk result (state_of self.new ≡ record (state_of self.old) { channels = all_opened (D.seat desk.now).seen.base.site (state_of self.old).channels names.now }) }
         ensures ok { OnOk result (output_of self.new ≡ output_of self.old ++ spelled_all self.old.order self.old.segment (all_created (D.seat desk.now).seen.base.site (state_of self.old).channels names.now)) }
+        ensures requests { (state_of self.new).requests ≡ (state_of self.old).requests }
         ensures keeps { Keeps self.old self.new }
     {
         for name in names {

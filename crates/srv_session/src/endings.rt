@@ -17,6 +17,7 @@ fn subscription_of(ask: Ask<Sub>) -> Option<Sub>
 }
 
 impl Session {
+    ghost use Rattle.std.specs.Prelude.{None};
     ghost use Rattle.std.specs.FinMap.{get as at, remove};
     ghost use Rattle.desk_api.specs.Calls.{Calls};
     ghost use Rattle.srv_session.specs.State.{on_only, slot_of, slot_of_sub, slots_of, without_channel};
@@ -28,7 +29,8 @@ impl Session {
 
     /// Ends the subscription of a request that was taken out of the table, if it has one. It takes no memory.
     fn end_taken<D: Desk>(&mut self, req: u32, ask: Ask<Sub>, desk: &mut D)
-        requires { AreLiving (D.seat desk.old).log (slot_of_sub ask.sub) }
+        requires gone { at (state_of self.old).requests req ≡ None }
+        requires living { AreLiving (D.seat desk.old).log (slot_of_sub ask.sub) }
         ensures calls { Calls (D.seat desk.old) (D.seat desk.new) (AreEndingsOf (slot_of_sub ask.sub)) }
         ensures base { (D.seat desk.new).seen.base ≡ (D.seat desk.old).seen.base }
         ensures state { state_of self.new ≡ state_of self.old }
@@ -83,8 +85,8 @@ impl Session {
         ensures output { output_of self.new ≡ output_of self.old }
     {
         desk.has_legal_history();
-        while let Some((req, ask)) = self.table.take_of(sid) {
-            self.end_taken(req, ask, desk);
+        while let Some(taken) = self.table.take_of(sid) {
+            self.end_taken(taken.0, taken.1, desk);
         }
     }
 

@@ -84,7 +84,7 @@ impl Session {
         }
         match self.find(AskKind::Monitor, sid, req) {
             Ok(_found) => self.steer(req, sub, count, desk),
-            Err(_) => stopping(self.pass_over()),
+            Err(_text) => stopping(self.pass_over()),
         }
     }
 
@@ -277,9 +277,8 @@ impl Session {
         ensures { (ask : Asked) → at (state_of self.old).requests req ≡ Some ask → HeedsAnytime (D.seat desk.old) (D.seat desk.new) self.old self.new (steering (state_of self.old).types req sub count ask) result }
     {
         desk.has_legal_history();
-        let window = match acknowledged(self.window_of(req), count) {
-            Ok(window) => window,
-            Err(fault) => return Err(SessionStop::Window(fault)),
+        let Ok(window) = acknowledged(self.window_of(req), count) else {
+            return Err(SessionStop::Window(WindowFault::OverRange));
         };
         if ends(sub) {
             self.end_request(req, desk);

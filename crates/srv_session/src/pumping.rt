@@ -49,7 +49,7 @@ impl Session {
         ensures { result ≡ is_due (at (state_of self.now).requests req) }
     {
         match self.table.ask(req) {
-            Some(ask) => ask.sub.is_some() && ask.started && is_open(ask.window),
+            Some(ask) => ask.sub.is_some() && (ask.started && is_open(ask.window)),
             None => false,
         }
     }
@@ -157,7 +157,10 @@ impl Session {
         let mut sent = false;
         for i in 0..self.monitors.len() {
             let req = self.monitors[i];
-            sent = self.pop_due(req, sent, desk)?;
+            let Ok(more) = self.pop_due(req, sent, desk) else {
+                return Err(NoMemory);
+            };
+            sent = more;
         }
         Ok(sent)
     }
