@@ -34,6 +34,9 @@ popped_too at update l = record {
   pops = l.pops ++ (at, update) ∷ [];
 }
 
+abbrev pub at_first : Living → Living
+at_first l = record { place = l.place; channel = l.channel; mask = l.mask; size = l.size; pops = [] }
+
 -- The living subscription in a slot, behind one mark more of its seat and behind all of these marks.
 
 abbrev pub living_with : ℕ → Option Living → Mark → Option Living
@@ -56,6 +59,14 @@ living log slot = living_after slot None log
 
 abbrev pub lives : List Mark → ℕ → Bool
 lives log slot = is_some (living log slot)
+
+-- The log has the beginning of this subscription in this slot, and the marks behind it lead from there to how it is now.
+pub record BeganIn (log : List Mark) (slot : ℕ) (l : Living) : Type 0 where
+  pub before : List Mark
+  pub after : List Mark
+  pub index : ℕ
+  pub log_is : log ≡ before ++ Begun l.place index slot l.channel l.mask l.size ∷ after
+  pub since : living_after slot (Some (at_first l)) after ≡ Some l
 
 -- The subscription in a history: what it watches there, and the states at its place.
 abbrev pub subscription : History → Living → Subscription (List RecState) Entry

@@ -7,7 +7,7 @@ ghost use Rattle.journal_core.specs.Legality.{AreProcessed, AreValid};
 ghost use Rattle.journal_core.specs.declared.entry.Entry.{Entry};
 ghost use Rattle.desk_api.specs.History.{History, entries, state_at, kept_at, IsLegal};
 ghost use Rattle.histories.specs.History.{AllTrue};
-ghost use Rattle.desk_api.specs.Living.{Living, living, IsFolded, PopsUpTo};
+ghost use Rattle.desk_api.specs.Living.{Living, BeganIn, living, IsFolded, PopsUpTo};
 ghost use Rattle.desk_api.specs.Marks.{AllHold, IsTrueEntry, IsTrueRead, IsFoldedAtEnd};
 ghost use Rattle.journal_core.specs.Moments.{Moment};
 ghost use Rattle.desk_api.specs.Calls.{Adds, AreFindings, laid_by, looks_of};
@@ -96,6 +96,9 @@ pub fn truth_lasts()
 pub fn updates_fold()
     ensures living { (h : History) (seat : ℕ) (before marks : List Mark) → AllHold seat h before marks → (slot : ℕ) (l : Living) → living marks slot ≡ Some l → (n : ℕ) → PopsUpTo l n → IsFolded h l n }
     ensures ended { (h : History) (seat : ℕ) (before marks : List Mark) → AllHold seat h before marks → AllTrue (IsFoldedAtEnd h) [] marks }
-{
-    mon_queue::updates_fold::<LinkedList<RecState>, Entry>();
-}
+{}
+
+/// A living subscription began in the log, with its channel, its leaves and its size; the marks behind that tell its pops.
+pub fn subscriptions_begin()
+    ensures { (log : List Mark) (slot : ℕ) (l : Living) → living log slot ≡ Some l → BeganIn log slot l }
+{}
