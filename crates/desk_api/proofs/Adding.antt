@@ -12,7 +12,7 @@ use Rattle.histories.specs.History.{entries_by_seat, entries_of, roll_by_seat, B
 use Rattle.histories.proofs.Prefixes.{same_element, element_within}
 use Rattle.histories.proofs.Stories.{begins_self, begins_trans, more_entries, more_by_seat, roll_by_seat_append, grown_length as commits_grow, as_many as counted}
 use Rattle.histories.proofs.Judged.{true_append, true_weaken}
-use Rattle.mon_queue.specs.Runs.{Run, oldest_of}
+use Rattle.mon_queue.specs.Runs.{oldest_of}
 use Rattle.mon_queue.specs.Course.{Subscription, Course, begun, unread_at, after_pops}
 use Rattle.mon_queue.specs.Told.{told_by}
 use Rattle.mon_queue.specs.declared.update.Update.{Update}

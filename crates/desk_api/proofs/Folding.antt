@@ -5,12 +5,11 @@ use Rattle.std.proofs.lemmas.Bool.{eqb-true}
 use Rattle.std.proofs.lemmas.List.{append-nil, map-append}
 use Rattle.std.proofs.lemmas.Option.{none-some}
 use Rattle.histories.specs.History.{AllTrue}
-use Rattle.rec_kinds.specs.declared.state.RecState.{RecState}
 use Rattle.journal_core.specs.declared.entry.Entry.{Entry}
 use Rattle.mon_queue.proofs.Courses.{folds}
 use Rattle.mon_queue.specs.Runs.{Run, Told, update_of, oldest_of, folded}
 use Rattle.mon_queue.specs.Shown.{blank}
-use Rattle.mon_queue.specs.Course.{Subscription, Course, begun, taken_with, unread_at, shown_at, popped_at, after_pops}
+use Rattle.mon_queue.specs.Course.{Subscription, Course, begun, taken_with, popped_at, after_pops}
 use Rattle.mon_queue.specs.declared.update.Update.{Update}
 use Rattle.desk_api.specs.History.{History, commits}
 use Rattle.desk_api.specs.Living.{Living, BeganIn, at_first, popped_too, living_with, living_after, living, subscription, pop_places, course, unread_of, told_of, given, IsFolded, IsOldest, PopsUpTo}
@@ -156,8 +155,8 @@ ends_fold_after h seat own past [] kept all = tt
 ends_fold_after h seat own past (mark ∷ marks) kept all = (
   folds_here h seat mark own past kept all.0,
   ends_fold_after h seat (own ++ mark ∷ []) (past ++ mark ∷ []) marks
-  (λ slot. subst (λ (x : Option Living). IsKept h x (living (past ++ mark ∷ []) slot)) (sym (living_append own (mark ∷ []) slot)) (kept_next h seat slot (living own slot) mark past all.0 (kept slot)))
-  all.1,
+      (λ slot. subst (λ (x : Option Living). IsKept h x (living (past ++ mark ∷ []) slot)) (sym (living_append own (mark ∷ []) slot)) (kept_next h seat slot (living own slot) mark past all.0 (kept slot)))
+      all.1,
 )
 
 pub ends_fold : (h : History) (seat : ℕ) (before marks : List Mark) → AllHold seat h before marks → AllTrue (IsFoldedAtEnd h) [] marks
