@@ -26,7 +26,7 @@ same_some a b is = ap (some_or a) is
 
 -- ---- what lives after marks and more marks
 
-living_after_append : (slot : ℕ) (o : Option Living) (xs ys : List Mark) → living_after slot o (xs ++ ys) ≡ living_after slot (living_after slot o xs) ys
+pub living_after_append : (slot : ℕ) (o : Option Living) (xs ys : List Mark) → living_after slot o (xs ++ ys) ≡ living_after slot (living_after slot o xs) ys
 living_after_append slot o [] ys = refl
 living_after_append slot o (x ∷ xs) ys = living_after_append slot (living_with slot o x) xs ys
 

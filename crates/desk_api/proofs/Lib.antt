@@ -14,3 +14,4 @@ pub mod Strict
 pub mod Telling
 pub mod Lasting
 pub mod Folding
+pub mod Staying
