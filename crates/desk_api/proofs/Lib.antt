@@ -12,3 +12,6 @@ pub mod Reading
 pub mod Acting
 pub mod Strict
 pub mod Telling
+pub mod Lasting
+pub mod Folding
+pub mod Staying
