@@ -3,6 +3,7 @@ pub mod Recording
 pub mod Stating
 pub mod Adding
 pub mod Showing
+pub mod Watching
 pub mod Rising
 pub mod Noting
 pub mod Holding

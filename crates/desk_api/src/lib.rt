@@ -18,6 +18,9 @@ mod site;
 mod sub;
 #[cfg(test)]
 mod tests;
+mod views;
+#[cfg(test)]
+mod views_tests;
 
 pub use channel::{Channel, ChannelKind};
 pub use desk::Desk;
