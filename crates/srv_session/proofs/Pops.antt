@@ -21,7 +21,7 @@ use Rattle.desk_api.specs.declared.sub.Sub.{Sub}
 use Rattle.srv_session.specs.State.{State, Requests, Asked, is_due, due, slot_of_sub, slots_of}
 use Rattle.srv_session.specs.Replies.{Sent, said, spelled, spelled_all, updated}
 use Rattle.srv_session.specs.Rising.{is_rising}
-use Rattle.srv_session.specs.Steps.{Step, pops, IsDue, IsPopOf, PopRow, PopPart, one_sent, with_sent, after_pop, after_step, AreSteps, state_after, marks_of, sent_in, out_of, update_sent}
+use Rattle.srv_session.specs.Steps.{Step, hears, pops, IsDue, IsPopOf, PopRow, PopPart, one_sent, with_sent, after_pop, after_step, AreSteps, state_after, marks_of, sent_in, out_of, update_sent}
 use Rattle.srv_session.specs.Calls.{IsOf, Holds, ArePopsOf, is_some_sent, sends, Pumps, Pumped, PumpedSome, PumpStopped}
 use Rattle.srv_session.specs.Views.{state_of, output_of, show}
 use Rattle.srv_session.specs.Watching.{HasPopped, HasFailed, Pops, PopsDue, Idles}
@@ -49,6 +49,12 @@ is_there (Some ask) is = (ask, (refl, by_sub ask.sub (both_true (is_some ask.sub
 
 -- One pop.
 
+abbrev oks : Bool → Result Bool NoMemory
+oks more = Ok more
+
+abbrev fails : NoMemory → Result Bool NoMemory
+fails e = Err e
+
 module _ (here there : Seat) (s : State) (req : ℕ) (ask : Asked) (channel : Channel) (sub : Sub) (is : IsDue s req ask channel sub) (update : Option Update) (calls : Calls here there (IsPop sub.slot update)) where
   pop_of : IsPopOf s req channel update calls.marks
   pop_of = record { ask = ask; sub = sub; is_due = is; place = calls.named.at; marks_are = calls.named.marks_are }
@@ -57,7 +63,7 @@ module _ (here there : Seat) (s : State) (req : ℕ) (ask : Asked) (channel : Ch
   popped_row = record { channel = channel; update = update; is_pop = pop_of; sent_is = refl }
 
   pub popped_part : PopPart s calls.marks
-  popped_part = (req, (channel, (update, pop_of)))
+  popped_part = (req, channel, update, pop_of)
 
   -- the state behind it
   pub after_popped : after_pop s req calls.marks ≡ after_pop s req (Popped calls.named.at sub.slot update ∷ [])
@@ -108,6 +114,7 @@ are_more : (reqs : List ℕ) (steps : List Step) (req : ℕ) (marks : List Mark)
 are_more [] [] req marks sent are = (refl, tt)
 are_more [] (step ∷ steps) req marks sent are = absurd are
 are_more (r ∷ reqs) [] req marks sent are = absurd are
+are_more (r ∷ reqs) (hears e m t ∷ steps) req marks sent are = absurd are
 are_more (r ∷ reqs) (pops q m t ∷ steps) req marks sent are = (are.0, are_more reqs steps req marks sent are.1)
 
 sends_more : (xs ys : List Step) → sends (xs ++ ys) ≡ (sends xs || sends ys)
@@ -199,7 +206,7 @@ module _ (here : Seat) (s : State) (out : List ℕ) (now : Seat) (old : Session)
           on_site = g.on_site;
         }))))
       where
-        same_ok : {x y : Bool} → Ok {E = NoMemory} x ≡ Ok y → x ≡ y
+        same_ok : {x y : Bool} → oks x ≡ oks y → x ≡ y
         same_ok e = cc
 
     -- one that is was popped
@@ -297,7 +304,7 @@ module _ (here : Seat) (s : State) (out : List ℕ) (now there : Seat) (old new 
   pub going_failed : (e : NoMemory) → PopsDue now there old new id sent (Err e) → PumpStopped (shown here s out) (show there new)
   going_failed e p = by_test (is_due (at (state_of old).requests id)) refl
     where
-      err_ok : {x : NoMemory} {y : Bool} → Err x ≡ Ok y → ⊥
+      err_ok : {x : NoMemory} {y : Bool} → fails x ≡ oks y → ⊥
       err_ok e = cc
 
       by_test : (b : Bool) → is_due (at (state_of old).requests id) ≡ b → PumpStopped (shown here s out) (show there new)

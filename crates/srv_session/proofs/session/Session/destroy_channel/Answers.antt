@@ -1,4 +1,4 @@
-use Rattle.std.proofs.Common.{◌≡◌, true, Bool, ℕ, List, Option, refl, sym, ◌∙◌, ap}
+use Rattle.std.proofs.Common.{◌≡◌, true, Ok, refl, sym, ◌∙◌, ap}
 use Rattle.std.specs.Prelude.{option_map}
 use Rattle.std.specs.FinMap.{get, remove}
 use Rattle.chan_table.specs.Tables.{Tables}
@@ -20,8 +20,8 @@ returns-then-not-has_channel g c moment =
     let s = state_of c.args.self.now in
     let old = show seat c.args.self.now in
     let here = sym (open_test c.args.self.now.table c.args.sid c.args.cid) ∙ sym c.has_channel.ensures ∙ c.if-not-has_channel.true in
-    heeds_so old old moment _ (asks pass_over s.types) _ (ap (λ (t : Task). asks t s.types) (end_task s c.args.sid c.args.cid _ here))
-    (heeds_as old old moment pass_over _ _ refl (nothing_said seat moment s s (output_of c.args.self.now) (output_of c.args.self.now) pass_over c.has_legal_history.ensures (says_this _) refl refl))
+    heeds_so old old moment _ (asks pass_over s.types) (Ok tt) (ap (λ (t : Task). asks t s.types) (end_task s c.args.sid c.args.cid _ here))
+    (heeds_as old old moment pass_over (Ok tt) (Ok tt) refl (nothing_said seat moment s s (output_of c.args.self.now) (output_of c.args.self.now) pass_over c.has_legal_history.ensures (says_this _) refl refl))
 
 pub end_requests_on-requires : goal.end_requests_on-requires
 end_requests_on-requires g c = channel_lives (g.D.Desk.seat c.args.desk.now).log (state_of c.args.self.now) c.args.sid c.requires
