@@ -1,6 +1,6 @@
 -- Channels that are opened and ended.
 use Rattle.std.proofs.Common.{◌≡◌, ◌==◌, ℕ, ◌<◌, Bool, true, false, cond, List, ◌∷◌, ◌++◌, drop, take, length, ◌+◌, Option, None, Some, Result, Ok, Err, refl, sym, ◌∙◌, ap, arith, append_assoc}
-use Rattle.std.specs.Prelude.{IfOk, OnErr, OnSome, is_some, get_or, codes}
+use Rattle.std.specs.Prelude.{IfNone, IfOk, OnErr, OnSome, is_some, get_or, codes}
 use Rattle.std.specs.FinMap.{get, insert, len}
 use Rattle.std.proofs.Math.Seq.{take-append_seam}
 use Rattle.std.proofs.lemmas.Bool.{false≢true}
@@ -137,3 +137,7 @@ pub cut_back : (old new : Session) (n : ℕ) (cut : List ℕ) → Keeps old new 
 cut_back old new n cut keeps n_is cut_is =
     ap (λ (k : ℕ). drop k cut) keeps.sent
     ∙ ap (drop old.sent) (cut_is ∙ ap (take n) keeps.output ∙ ap (λ (k : ℕ). take k (old.output.items ++ keeps.more)) n_is ∙ take-append_seam old.output.items keeps.more)
+
+pub closed_asks : (old new : Tables Channel Sub) (sid : ℕ) (result : Option Channel) → OnSome result (new ≡ less_channel old sid) → IfNone result (new ≡ old) → new.asks ≡ old.asks
+closed_asks old new sid (Some channel) removed none = ap (λ (t : Tables Channel Sub). t.asks) removed
+closed_asks old new sid None removed none = ap (λ (t : Tables Channel Sub). t.asks) none

@@ -1,6 +1,8 @@
 -- The ids of monitors, which are kept rising.
 use Rattle.std.proofs.Common.{◌≡◌, ◌≢◌, ◌==◌, ℕ, zero, suc, ◌+◌, ◌<◌, ◌≤◌, Bool, true, false, ◌&&◌, ◌||◌, not, cond, List, [], ◌∷◌, ◌++◌, Option, None, Some, take, drop, map, length, refl, sym, ◌∙◌, ap, subst, arith, inl, inr, T}
-use Rattle.std.specs.Prelude.{◌⊎◌, get_or, is_some, nat_lt, slice_get}
+use Rattle.std.specs.Prelude.{◌⊎◌, IfNone, IfSome, get_or, is_some, nat_lt, slice_get}
+use Rattle.chan_table.specs.Tables.{Tables, without_ask}
+use Rattle.desk_api.specs.declared.channel.Channel.{Channel}
 use Rattle.desk_api.specs.declared.sub.Sub.{Sub}
 use Rattle.std.specs.List.{filter, flat_map, list_all, list_any, prefix_len, insert as put_in, remove as taken_out}
 use Rattle.std.specs.FinMap.{get, insert, remove, keys, entries, entries_sorted, get-entries, find, is_sorted}
@@ -474,3 +476,8 @@ listed_sent ids m req (Some ask) here listed = listed_insert ids m req (one_sent
 pub listed_steered : (ids : List ℕ) (m : Requests) (req sub : ℕ) (window : Option ℕ) (o : Option Asked) → get m req ≡ o → AreListed ids m → AreListed ids (with_steered req sub window o m)
 listed_steered ids m req sub window None here listed = listed
 listed_steered ids m req sub window (Some ask) here listed = listed_insert ids m req _ listed (λ has. listed req ask here has)
+
+-- one of a channel is taken out, if there is one
+pub listed_taken : (ids : List ℕ) (old new : Tables Channel Sub) (result : Option (ℕ × Asked)) → IfSome result (λ taken. new ≡ without_ask old taken.0) → IfNone result (new ≡ old) → AreListed ids old.asks → AreListed ids new.asks
+listed_taken ids old new (Some taken) rest none listed = subst (λ (t : Tables Channel Sub). AreListed ids t.asks) (sym rest) (listed_without ids old.asks taken.0 listed)
+listed_taken ids old new None rest none listed = subst (λ (t : Tables Channel Sub). AreListed ids t.asks) (sym none) listed

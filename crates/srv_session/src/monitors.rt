@@ -6,7 +6,7 @@ ghost use Rattle.srv_session.specs.Watching.{with_steered};
 
 use crate::asking::{root_for, type_on, unfit};
 use crate::handling::stopping;
-use crate::listing::list;
+use crate::listing::{list, make_room};
 use crate::session::Session;
 use crate::stop::SessionStop;
 use crate::subcommand::{ends, started_by};
@@ -246,8 +246,7 @@ impl Session {
         ensures table { self.new.table ≡ self.old.table }
         ensures room { OnOk result (vec_len self.new.monitors < vec_capacity self.new.monitors) }
     {
-        self.monitors.reserve(1)?;
-        Ok(())
+        make_room(&mut self.monitors)
     }
 
     /// Says why no subscription began.
