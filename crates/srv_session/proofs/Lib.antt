@@ -3,7 +3,10 @@ pub mod Owning
 pub mod Rows
 pub mod OnSite
 pub mod Kept
+pub mod Covered
+pub mod Windowed
 pub mod Steps
+pub mod Drained
 pub mod Determined
 pub mod Replying
 pub mod Heeding
