@@ -464,12 +464,14 @@ same_pop site s log a b m n k l x y holds p q e =
     let update : p.update ≡ q.update = ap update_in one.0 in
     let req : a ≡ b = holds.apart a b u.ask v.ask u.sub v.sub u.is_due.here v.is_due.here u.is_due.subscribed v.is_due.subscribed slot in
     let ask : u.ask ≡ v.ask = same_some (sym u.is_due.here ∙ ap (λ (r : ℕ). at s.requests r) req ∙ v.is_due.here) in
-    let channel : p.channel ≡ q.channel = same_some (sym u.is_due.open_ ∙ ap (λ (z : Asked). channel_at s.channels z.sid) ask ∙ v.is_due.open_) in
-    (req, record {
-      marks = one.1.0;
-      later = one.1.1;
-      sent = p.sent_is ∙ (λ i. update_sent site (req i) (channel i) (update i)) ∙ sym q.sent_is;
-    })
+    let channel : p.channel ≡ q.channel = same_some (sym u.is_due.open_ ∙ ap (λ (z : Asked). channel_at s.channels z.sid) ask ∙ v.is_due.open_) in (
+      req,
+      record {
+        marks = one.1.0;
+        later = one.1.1;
+        sent = p.sent_is ∙ (λ i. update_sent site (req i) (channel i) (update i)) ∙ sym q.sent_is;
+      },
+    )
 
 abbrev pub turn_or : Event → List (Option Event) → Event
 turn_or a [] = a

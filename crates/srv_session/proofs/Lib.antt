@@ -1,4 +1,6 @@
 pub mod Tables
+pub mod Slots
+pub mod Rising
 pub mod Owning
 pub mod Rows
 pub mod OnSite
@@ -7,6 +9,7 @@ pub mod Covered
 pub mod Windowed
 pub mod Steps
 pub mod Drained
+pub mod Pops
 pub mod Determined
 pub mod Replying
 pub mod Heeding
@@ -17,3 +20,5 @@ pub mod Places
 pub mod Parts
 pub mod Validating
 pub mod Typed
+pub mod Ending
+pub mod Monitoring

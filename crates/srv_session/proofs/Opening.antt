@@ -9,6 +9,7 @@ use Rattle.pva_messages.specs.Replies as reply
 use Rattle.chan_table.specs.Numbers.{IsLeastAbsent}
 use Rattle.chan_table.specs.Tables.{Tables, limit, of_cid, channel_of, without_channel as less_channel}
 use Rattle.desk_api.specs.declared.channel.Channel.{Channel}
+use Rattle.desk_api.specs.declared.sub.Sub.{Sub}
 use Rattle.srv_session.specs.State.{State, Channels, is_full, is_open, has_cid, least_free}
 use Rattle.desk_api.specs.Sites.{channel_named}
 use Rattle.desk_api.specs.declared.history.SiteData.{SiteData}
@@ -29,14 +30,14 @@ cid_test cid (Some x) = by_test (x.0 == cid)
     by_test true = refl
     by_test false = refl
 
-pub open_test : (t : Tables Channel (Unit {0})) (sid cid : ℕ) → is_some (channel_of t sid cid) ≡ is_open t.channels sid cid
+pub open_test : (t : Tables Channel Sub) (sid cid : ℕ) → is_some (channel_of t sid cid) ≡ is_open t.channels sid cid
 open_test t sid cid = cid_test cid (get t.channels sid)
 
 pub end_task : (s : State) (sid cid : ℕ) (b : Bool) → is_open s.channels sid cid ≡ b → asked_end s sid cid ≡ cond b (destroy_channel sid cid) pass_over
 end_task s sid cid b is = ap (λ (x : Bool). cond x (destroy_channel sid cid) pass_over) is
 
 -- a channel that was there was taken out
-pub taken_out : (t u : Tables Channel (Unit {0})) (sid cid : ℕ) (result : Option Channel) → result ≡ channel_of t sid cid → is_open t.channels sid cid ≡ true
+pub taken_out : (t u : Tables Channel Sub) (sid cid : ℕ) (result : Option Channel) → result ≡ channel_of t sid cid → is_open t.channels sid cid ≡ true
     → OnSome result (u ≡ less_channel t sid) → u ≡ less_channel t sid
 taken_out t u sid cid result is here removed = by_result result is removed
   where

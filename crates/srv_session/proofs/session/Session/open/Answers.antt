@@ -4,6 +4,7 @@ use Rattle.pva_messages.specs.Replies.{Reply}
 use Rattle.chan_table.specs.Tables.{Tables}
 use Rattle.desk_api.specs.Sites.{channel_named}
 use Rattle.desk_api.specs.declared.channel.Channel.{Channel}
+use Rattle.desk_api.specs.declared.sub.Sub.{Sub}
 use Rattle.srv_session.specs.State.{State, Channels}
 use Rattle.srv_session.specs.Replies.{spelled, said}
 use Rattle.srv_session.specs.Views.{state_of, output_of}
@@ -17,7 +18,7 @@ returns-in-Ok-clause-state g c =
     let site = (g.D.Desk.seat c.args.desk.now).seen.base.site in
     let is : channel_named site c.args.name.now ≡ Some c.in-Some.channel = ap (channel_named site) (sym c.as_str.ensures.text) ∙ sym c.find.ensures ∙ c.in-Some.is in
     let added = c.in-Ok.ensures {u = tt} in
-    let after : Tables Channel (Unit {0}) → State = λ (t : Tables Channel (Unit {0})). record s { channels = t.channels; requests = t.asks } in
+    let after : Tables Channel Sub → State = λ (t : Tables Channel Sub). record s { channels = t.channels; requests = t.asks } in
     on_ok c.say_created-in-Ok.result
     (c.say_created-in-Ok.ensures.state ∙ ap after added.ok
     ∙ ap (λ (x : Channels). record s { channels = x }) (opens s.channels c.args.cid c.in-Some.channel (channel_named site c.args.name.now) is c.in-Ok.sid added.few added.least))
