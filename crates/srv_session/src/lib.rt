@@ -22,7 +22,8 @@ mod validation;
 mod writing;
 
 pub use laws::{
-    a_worked_window, one_output, pumps_drain, subscriptions_are_held, subscriptions_end, windows_hold,
+    a_worked_window, one_output, pumps_drain, subscriptions_are_held, subscriptions_end,
+    windows_hold,
 };
 pub use pvd_type::NoMemory;
 pub use session::Session;
