@@ -6,3 +6,4 @@ pub mod Soloing
 pub mod Beginning
 pub mod Reading
 pub mod Combining
+pub mod Keeping
