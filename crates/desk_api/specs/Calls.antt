@@ -303,17 +303,28 @@ pub record HasBegun (channel : Channel) (mask : FinSet nat_cmp) (size slot : ℕ
   pub index : ℕ
   pub marks_are : marks ≡ Begun at index slot channel mask size ∷ []
 
--- None began, since so many live; the roll that the seat has then seen has just the items that leave them.
-pub record IsCrowded (new : Seat) (count : ℕ) (marks : List Mark) : Type 0 where
+-- None began, since so many live.
+pub record IsCrowded (count : ℕ) (marks : List Mark) : Type 0 where
   pub at : ℕ
   pub index : ℕ
   pub marks_are : marks ≡ Crowded at index count ∷ []
-  pub roll_is : index ≡ length (roll new.seen)
 
-abbrev pub AreSubscribe : Channel → FinSet nat_cmp → ℕ → Seat → Result Sub SubAnswer → List Mark → Type 0
-AreSubscribe channel mask size new (Ok sub) marks = HasBegun channel mask size sub.slot marks
-AreSubscribe channel mask size new (Err (sub_answers.TooManyMonitors count)) marks = IsCrowded new count marks
-AreSubscribe channel mask size new (Err sub_answers.NoMemory) marks = marks ≡ []
+abbrev pub AreSubscribe : Channel → FinSet nat_cmp → ℕ → Result Sub SubAnswer → List Mark → Type 0
+AreSubscribe channel mask size (Ok sub) marks = HasBegun channel mask size sub.slot marks
+AreSubscribe channel mask size (Err (sub_answers.TooManyMonitors count)) marks = IsCrowded count marks
+AreSubscribe channel mask size (Err sub_answers.NoMemory) marks = marks ≡ []
+
+-- The seat's last mark is that so many live, and the roll that it has then seen has just the items that leave them.
+pub record EndsCrowded (s : Seat) (count : ℕ) : Type 0 where
+  pub before : List Mark
+  pub at : ℕ
+  pub index : ℕ
+  pub log_is : s.log ≡ before ++ Crowded at index count ∷ []
+  pub roll_is : index ≡ length (roll s.seen)
+
+abbrev pub TellsCrowd : Seat → SubAnswer → Type 0
+TellsCrowd s (sub_answers.TooManyMonitors count) = EndsCrowded s count
+TellsCrowd s sub_answers.NoMemory = ⊤
 
 -- the subscription in this slot was popped, and this was taken
 pub record IsPop (slot : ℕ) (update : Option Update) (marks : List Mark) : Type 0 where

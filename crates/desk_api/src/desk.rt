@@ -1,10 +1,10 @@
 // What a session asks of its desk.
-ghost use Rattle.std.specs.Prelude.{◌≡◌, true, IfOk, IfSome, IsTrue, OnOk, option_map, Some, ◌≤◌, length};
+ghost use Rattle.std.specs.Prelude.{◌≡◌, true, IfErr, IfOk, IfSome, IsTrue, OnOk, option_map, Some, ◌≤◌, length};
 ghost use Rattle.desk_api.specs.declared.mark.Seat.{Seat};
 ghost use Rattle.desk_api.specs.Sites as sites;
 ghost use Rattle.desk_api.specs.Types as types;
 ghost use Rattle.desk_api.specs.History.{IsLegal};
-ghost use Rattle.desk_api.specs.Calls.{Calls, AreGet, ArePut, ArePutGet, AreSnapshot, AreSubscribe, IsPop, IsEnding, FitsSubscribed, OnTold, OnSubscribed, EndsAtItsMarks};
+ghost use Rattle.desk_api.specs.Calls.{Calls, AreGet, ArePut, ArePutGet, AreSnapshot, AreSubscribe, TellsCrowd, IsPop, IsEnding, FitsSubscribed, OnTold, OnSubscribed, EndsAtItsMarks};
 ghost use Rattle.desk_api.specs.Living.{lives};
 ghost use Rattle.desk_api.specs.Triggers.{may_be_watched};
 ghost use Rattle.pvd_value.specs.Fits.{fits_of};
@@ -134,7 +134,8 @@ pub trait Desk {
         requires channel { may_be_watched (seat self.old).seen.base.site channel ≡ true }
         requires leaves { types.HoldsLeaves (types.type_of (seat self.old).seen.base.site channel) mask.now }
         requires size { (1 ≤ size) × (size ≤ 64) }
-        ensures calls { Calls (seat self.old) (seat self.new) (AreSubscribe channel mask.now size (seat self.new) result) }
+        ensures calls { Calls (seat self.old) (seat self.new) (AreSubscribe channel mask.now size result) }
+        ensures crowded { IfErr result (TellsCrowd (seat self.new)) }
         ensures ends { OnSubscribed result (EndsAtItsMarks (seat self.old) (seat self.new)) }
         ensures base { (seat self.new).seen.base ≡ (seat self.old).seen.base };
 

@@ -1,5 +1,6 @@
 -- What the calls of a session do.
-use Rattle.std.specs.Prelude.{◌≡◌, ◌≢◌, ℕ, Bool, false, List, ◌++◌, Some, Result, Ok, Err, IsTrue}
+use Rattle.std.specs.Prelude.{◌≡◌, ◌≢◌, ◌⊎◌, ℕ, Bool, false, not, is_nil, List, [], ◌∷◌, ◌++◌, Some, Result, Ok, Err, IsTrue, ⊤}
+use Rattle.std.specs.List.{list_any}
 use Rattle.std.specs.FinMap.{get as at}
 use Rattle.std.specs.FinSet as set
 use Rattle.pva_frames.specs.declared.event.Event.{Event}
@@ -11,12 +12,14 @@ use Rattle.desk_api.specs.Types.{type_of, HoldsLeaves}
 use Rattle.desk_api.specs.declared.channel.Channel.{Channel}
 use Rattle.desk_api.specs.declared.history.SiteData.{SiteData}
 use Rattle.desk_api.specs.declared.mark.Mark.{Mark}
+use Rattle.desk_api.specs.Living.{Living, living}
 use Rattle.desk_api.specs.declared.mark.Seat.{Seat}
-use Rattle.srv_session.specs.State.{State, Channels, Asked, channel_at}
+use Rattle.desk_api.specs.declared.sub.Sub.{Sub}
+use Rattle.srv_session.specs.State.{State, Channels, Asked, channel_at, due, slots_of}
 use Rattle.srv_session.specs.Replies.{Sent, spelled_all, is_call}
-use Rattle.srv_session.specs.Tasks.{Task, Hearing, not_built, unreadable, heard}
+use Rattle.srv_session.specs.Tasks.{Task, Hearing, unreadable, over_range, heard}
 use Rattle.srv_session.specs.Rows.{Row, Part, after_task}
-use Rattle.srv_session.specs.Steps.{IsAnswer, PartOf, AreEndings, after_hearing}
+use Rattle.srv_session.specs.Steps.{Step, pops, IsAnswer, PartOf, PopPart, AreSteps, AreEndings, after_hearing, state_after, marks_of, sent_in, out_of}
 use Rattle.srv_session.specs.declared.stop.SessionStop.{SessionStop}
 use Rattle.srv_session.specs.declared.stop.SessionStop.TheVariants as stops
 
@@ -39,6 +42,21 @@ pub record IsOf (site : SiteData) (s : State) : Type 0 where
       → IsTrue (is_channel site channel)
   pub requests : (req : ℕ) (ask : Asked) → at s.requests req ≡ Some ask → IsAskOf site s.channels ask
 
+-- A session holds its subscriptions: each lives by the log of its desk's seat, on its request's channel with its request's leaves, and
+-- no other request has it.
+
+pub record IsHeld (log : List Mark) (channels : Channels) (ask : Asked) (slot : ℕ) : Type 0 where
+  pub subscribed : Living
+  pub there : living log slot ≡ Some subscribed
+  pub channel_is : channel_at channels ask.sid ≡ Some subscribed.channel
+  pub mask_is : subscribed.mask ≡ ask.mask
+
+pub record Holds (log : List Mark) (s : State) : Type 0 where
+  pub held : (req : ℕ) (ask : Asked) (sub : Sub) → at s.requests req ≡ Some ask → ask.sub ≡ Some sub
+      → IsHeld log s.channels ask sub.slot
+  pub apart : (a b : ℕ) (one other : Asked) (x y : Sub) → at s.requests a ≡ Some one → at s.requests b ≡ Some other
+      → one.sub ≡ Some x → other.sub ≡ Some y → x.slot ≡ y.slot → a ≡ b
+
 -- what a session and its desk show
 pub record Shown : Type 0 where
   pub seat : Seat
@@ -58,18 +76,20 @@ pub record Answered (old new : Shown) (moment : Moment) (task : Task) : Type 0 w
   pub state : new.state ≡ after_task (site_of old) old.state task marks
   pub output : new.output ≡ old.output ++ spelled_all old.state.order old.state.segment sent
 
--- Memory ran out in it.
-pub record GaveUp (old new : Shown) (moment : Moment) (part : List Mark → Type 0) : Type 0 where
+-- Memory ran out in it. The session then has the subscriptions that it has behind the marks.
+pub record GaveUp (old new : Shown) (moment : Moment) (part : List Mark → Type 0) (after : List Mark → State) : Type 0 where
   pub marks : List Mark
   pub part_is : part marks
   pub adds : Adds old.seat new.seat marks
   pub moments : HaveMoment (Some moment) marks
+  pub subscribed : slots_of new.state.requests ≡ slots_of (after marks).requests
   pub output : new.output ≡ old.output
 
 -- One call of a row's function, by its answer.
 abbrev pub Takes : Shown → Shown → Moment → Task → Result (Unit {0}) NoMemory → Type 0
 Takes old new moment task (Ok u) = Answered old new moment task
-Takes old new moment task (Err e) = GaveUp old new moment (Part (site_of old) old.state task)
+Takes old new moment task (Err e) =
+    GaveUp old new moment (Part (site_of old) old.state task) (after_task (site_of old) old.state task)
 
 -- What was heard was answered.
 pub record Replied (old new : Shown) (moment : Moment) (hearing : Hearing) : Type 0 where
@@ -89,9 +109,10 @@ pub record Stopped (old new : Shown) (hearing without : Hearing) : Type 0 where
 
 abbrev pub Heeds : Shown → Shown → Moment → Hearing → Result (Unit {0}) SessionStop → Type 0
 Heeds old new moment hearing (Ok u) = Replied old new moment hearing
-Heeds old new moment hearing (Err stops.NotBuilt) = Stopped old new hearing not_built
 Heeds old new moment hearing (Err (stops.Message fault)) = Stopped old new hearing (unreadable fault)
-Heeds old new moment hearing (Err stops.NoMemory) = GaveUp old new moment (PartOf (site_of old) old.state hearing)
+Heeds old new moment hearing (Err (stops.Window fault)) = Stopped old new hearing over_range
+Heeds old new moment hearing (Err stops.NoMemory) =
+    GaveUp old new moment (PartOf (site_of old) old.state hearing) (after_hearing (site_of old) old.state hearing)
 
 -- what is heard in an event
 abbrev pub heard_by : Shown → Event → Hearing
@@ -104,15 +125,49 @@ Handled old new moment e = Replied old new moment (heard_by old e)
 -- An event that always has an answer was answered, or memory ran out in it.
 abbrev pub Responds : Shown → Shown → Moment → Event → Result (Unit {0}) NoMemory → Type 0
 Responds old new moment e (Ok u) = Handled old new moment e
-Responds old new moment e (Err no_memory) = GaveUp old new moment (PartOf (site_of old) old.state (heard_by old e))
+Responds old new moment e (Err no_memory) = Heeds old new moment (heard_by old e) (Err stops.NoMemory)
 
 abbrev pub Handles : Shown → Shown → Moment → Event → Result (Unit {0}) SessionStop → Type 0
 Handles old new moment e result = Heeds old new moment (heard_by old e) result
 
--- A pump popped nothing and says so: no request is a monitor so far.
-pub record Pumped (old new : Shown) (more : Result Bool NoMemory) : Type 0 where
-  pub none : more ≡ Ok false
-  pub same : new ≡ old
+-- Pumps.
+
+-- each step in turn is a pop of one of these requests
+abbrev pub ArePopsOf : List ℕ → List Step → Type 0
+ArePopsOf [] [] = ⊤
+ArePopsOf (req ∷ reqs) (pops r marks sent ∷ steps) = (r ≡ req) × ArePopsOf reqs steps
+ArePopsOf reqs steps = ⊥
+
+-- whether some of them sent an update
+abbrev pub sends : List Step → Bool
+sends steps = list_any (λ x. not (is_nil (sent_in x))) steps
+
+-- So many of the monitors that were due were popped once each, by the rising ids of their requests, and their updates were added.
+pub record PumpedSome (old new : Shown) (reqs : List ℕ) (steps : List Step) (more : List Mark) : Type 0 where
+  pub are : ArePopsOf reqs steps
+  pub rules : AreSteps (site_of old) old.state steps
+  pub adds : Adds old.seat new.seat (marks_of steps ++ more)
+  pub output : new.output ≡ old.output ++ out_of (site_of old) old.state steps
+
+-- All of them were. It tells whether one had an update.
+pub record Pumped (old new : Shown) (more : Bool) : Type 0 where
+  pub steps : List Step
+  pub some : PumpedSome old new (due old.state.requests) steps []
+  pub state : new.state ≡ state_after (site_of old) old.state steps
+  pub more_is : more ≡ sends steps
+
+-- Memory ran out behind some of them, and maybe behind a pop of the next whose update wasn't added.
+pub record PumpStopped (old new : Shown) : Type 0 where
+  pub reqs : List ℕ
+  pub steps : List Step
+  pub next : List Mark
+  pub some : PumpedSome old new reqs steps next
+  pub next_is : (next ≡ []) ⊎ PopPart (state_after (site_of old) old.state steps) next
+  pub subscribed : slots_of new.state.requests ≡ slots_of old.state.requests
+
+abbrev pub Pumps : Shown → Shown → Result Bool NoMemory → Type 0
+Pumps old new (Ok more) = Pumped old new more
+Pumps old new (Err e) = PumpStopped old new
 
 -- The session has ended, and its subscriptions with it: the marks are their endings.
 pub record Finished (old : Shown) (seat : Seat) : Type 0 where

@@ -8,13 +8,15 @@ use Rattle.pva_wire.specs.declared.status.StatusKind.TheVariants.{Error}
 use Rattle.pva_wire.specs.Status.{good}
 use Rattle.pvd_type.specs.Tree.{Tree}
 use Rattle.pvd_value.specs.Data.{Data}
+use Rattle.pvd_value.specs.View.{view}
+use Rattle.mon_queue.specs.declared.update.Update.{Update}
 use Rattle.pvd_codec.specs.Written.{CanEach}
 use Rattle.pva_frames.specs.Spelling.{message_bytes, control_bytes}
 use Rattle.pva_messages.specs.declared.command.Command.{Command}
 use Rattle.pva_messages.specs.declared.command.Command.TheVariants as commands
 use Rattle.pva_messages.specs.Fields.{PartData}
 use Rattle.pva_messages.specs.Replies as reply
-use Rattle.pva_messages.specs.Replies.{Reply, CanReply, reply_command, reply_fields}
+use Rattle.pva_messages.specs.Replies.{Reply, CanReply, reply_command, reply_fields, update_reply}
 use Rattle.pva_messages.specs.Written.{FitsField, canonical}
 use Rattle.chan_table.specs.declared.ask.AskKind.{AskKind}
 use Rattle.chan_table.specs.declared.ask.AskKind.TheVariants as kinds
@@ -60,21 +62,14 @@ outcome (Some text) = error text
 
 -- A reply to a message about a request: its kind, the id of the request and the subcommand are those of the message;
 -- the status; the type, where the request has begun; the part of a value. A put-get has its type twice, as what is put and
--- as what is got; a call has neither a type nor a part. Monitors aren't replied to so far.
-
-abbrev pub IsServed : AskKind → Type 0
-IsServed kinds.Get = Unit {0}
-IsServed kinds.Put = Unit {0}
-IsServed kinds.PutGet = Unit {0}
-IsServed kinds.Rpc = Unit {0}
-IsServed kinds.Monitor = ⊥
+-- as what is got; a call has neither a type nor a part; a monitor has no part here.
 
 abbrev pub reply_to : AskKind → ℕ → ℕ → Status → Option Tree → Option PartData → Reply
 reply_to kinds.Get req sub status ty part = reply.get req sub status ty part
 reply_to kinds.Put req sub status ty part = reply.put req sub status ty part
 reply_to kinds.PutGet req sub status ty part = reply.put_get req sub status ty ty part
 reply_to kinds.Rpc req sub status ty part = reply.rpc req sub status None
-reply_to kinds.Monitor req sub status ty part = reply.skipped 0
+reply_to kinds.Monitor req sub status ty part = reply.monitor_begun req sub status ty
 
 -- whether requests of a kind are calls of the service, which select no leaves
 abbrev pub is_call : AskKind → Bool
@@ -119,3 +114,8 @@ command_of_kind kinds.Put = commands.Put
 command_of_kind kinds.PutGet = commands.PutGet
 command_of_kind kinds.Rpc = commands.Rpc
 command_of_kind kinds.Monitor = commands.Monitor
+
+-- an update of a monitor: its changed leaves, and which of them had changed more than once
+abbrev pub updated : ℕ → Tree → Update → Reply
+updated req ty update =
+    update_reply req (record { ty = ty; mask = update.changed; value = view update.value }) update.overrun

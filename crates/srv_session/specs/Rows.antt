@@ -1,7 +1,7 @@
 -- What a session says to what it is asked: one row for each task, which names the marks of its desk and the replies;
 -- and the state that it leaves (pvAccess Protocol Specification, "Application Messages").
-use Rattle.std.specs.Prelude.{◌≡◌, ℕ, pos, map, option_map, true, false, List, [], ◌∷◌, Option, None, Some, Result, Ok, Err, codes, if◌then◌else◌}
-use Rattle.std.specs.FinMap.{insert, remove}
+use Rattle.std.specs.Prelude.{◌≡◌, ℕ, pos, map, option_map, true, false, List, [], ◌∷◌, Option, None, Some, Result, Ok, Err, codes, ⊤, if◌then◌else◌}
+use Rattle.std.specs.FinMap.{get as at, insert, remove}
 use Rattle.std.specs.FinSet.{FinSet}
 use Rattle.std.specs.Ordering.{nat_cmp}
 use Rattle.journal_core.specs.Moments.{Moment}
@@ -19,7 +19,7 @@ use Rattle.chan_table.specs.declared.ask.AskKind.TheVariants as kinds
 use Rattle.rec_kinds.specs.declared.put.PutRefusal.{PutRefusal}
 use Rattle.rec_kinds.specs.declared.put.PutRefusal.TheVariants as refusals
 use Rattle.desk_api.specs.Calls as calls
-use Rattle.desk_api.specs.Calls.{IsGet, IsPartOfGet, ArePut, ArePutGet, IsSnapshot, IsPartOfSnapshot}
+use Rattle.desk_api.specs.Calls.{IsGet, IsPartOfGet, ArePut, ArePutGet, IsSnapshot, IsPartOfSnapshot, AreSubscribe, IsEnding}
 use Rattle.desk_api.specs.Sites.{channel_named}
 use Rattle.desk_api.specs.Types.{type_of}
 use Rattle.desk_api.specs.declared.channel.Channel.{Channel}
@@ -28,12 +28,16 @@ use Rattle.desk_api.specs.declared.mark.Mark.{Mark}
 use Rattle.desk_api.specs.declared.put.Done.{Done}
 use Rattle.desk_api.specs.declared.put.PutAnswer.{PutAnswer}
 use Rattle.desk_api.specs.declared.put.PutAnswer.TheVariants as answers
+use Rattle.desk_api.specs.declared.mark.Mark.TheVariants.{Begun}
 use Rattle.desk_api.specs.declared.rows.RecRow.{RecRow}
+use Rattle.desk_api.specs.declared.sub.Sub.{Sub}
+use Rattle.desk_api.specs.declared.sub.SubAnswer.{SubAnswer}
+use Rattle.desk_api.specs.declared.sub.SubAnswer.TheVariants as sub_answers
 use Rattle.rpc_services.specs.Answers.{snapshot_tree, snapshot_data}
-use Rattle.srv_session.specs.State.{State, Channels, Requests, Asked, segment_for, is_full, least_free, without_channel}
-use Rattle.srv_session.specs.Replies.{Sent, said, control, error, answered, begun, got, called}
-use Rattle.srv_session.specs.Tasks.{Task, pass_over, echo_control, refuse, tell, validate, echo, create, destroy_channel}
-use Rattle.srv_session.specs.Tasks.{begin, get, put, put_get, respond, snapshot, destroy_request}
+use Rattle.srv_session.specs.State.{State, Channels, Requests, Asked, segment_for, is_full, least_free, without_channel, on_only, slot_of, slots_of}
+use Rattle.srv_session.specs.Replies.{Sent, said, control, error, answered, begun, got, called, refused}
+use Rattle.srv_session.specs.Tasks.{Task, acknowledged, pass_over, echo_control, refuse, tell, validate, echo, create, destroy_channel}
+use Rattle.srv_session.specs.Tasks.{begin, get, put, put_get, respond, snapshot, subscribe, steer, destroy_request}
 
 -- Channels that are created.
 
@@ -137,6 +141,35 @@ pub record SnapshotRow (site : SiteData) (req sub : ℕ) (marks : List Mark) (se
   pub is_snapshot : IsSnapshot site rows marks
   pub sent_is : sent ≡ said (called req sub snapshot_tree (rows_data rows)) ∷ []
 
+-- Monitors.
+
+-- each mark in turn ends the subscription in one of these slots
+abbrev pub AreEndingsOf : List ℕ → List Mark → Type 0
+AreEndingsOf [] [] = ⊤
+AreEndingsOf (slot ∷ slots) (mark ∷ marks) = IsEnding slot (mark ∷ []) × AreEndingsOf slots marks
+AreEndingsOf slots marks = ⊥
+
+-- What is said where a subscription began, or where too many live. Where memory ran out nothing is said.
+abbrev pub subscribed_reply : SiteData → ℕ → ℕ → Channel → Result Sub SubAnswer → Option Reply
+subscribed_reply site req sub channel (Ok living) = Some (begun kinds.Monitor req sub (type_of site channel))
+subscribed_reply site req sub channel (Err (sub_answers.TooManyMonitors count)) =
+    Some (refused kinds.Monitor req sub (codes "too many monitors"))
+subscribed_reply site req sub channel (Err sub_answers.NoMemory) = None
+
+-- what became of a subscription to the leaves that were asked for
+pub record SubscribeRow (site : SiteData) (req sub : ℕ) (channel : Channel) (wanted : Wanted) (marks : List Mark)
+    (sent : List Sent) : Type 0 where
+  pub answer : Result Sub SubAnswer
+  pub told : Reply
+  pub is_subscribe : AreSubscribe channel wanted.mask wanted.queue answer marks
+  pub told_is : subscribed_reply site req sub channel answer ≡ Some told
+  pub sent_is : sent ≡ said told ∷ []
+
+-- these subscriptions end, and this is sent
+pub record EndsThese (slots : List ℕ) (these : List Sent) (marks : List Mark) (sent : List Sent) : Type 0 where
+  pub endings : AreEndingsOf slots marks
+  pub sent_is : sent ≡ these
+
 -- What the session says to this task.
 abbrev pub Row : SiteData → State → Task → List Mark → List Sent → Type 0
 Row site s pass_over = Says []
@@ -146,14 +179,17 @@ Row site s (tell r) = Says (said r ∷ [])
 Row site s (validate buffer registry user host) = Says (said (reply.validated good) ∷ [])
 Row site s (echo payload) = Says (said (reply.echo payload) ∷ [])
 Row site s (create names) = Says (all_created site s.channels names)
-Row site s (destroy_channel sid cid) = Says (said (reply.channel_destroyed sid cid) ∷ [])
+Row site s (destroy_channel sid cid) =
+    EndsThese (slots_of (on_only sid s.requests)) (said (reply.channel_destroyed sid cid) ∷ [])
 Row site s (begin kind req sub sid channel wanted) = Says (said (begun kind req sub (type_of site channel)) ∷ [])
 Row site s (get kind req sub ask channel) = GetRow site kind req sub ask channel
 Row site s (put req sub ask channel mask value) = PutRow site req sub ask channel mask value
 Row site s (put_get req sub ask channel mask value) = PutGetRow site req sub ask channel mask value
 Row site s (respond req sub r) = Says (said r ∷ [])
 Row site s (snapshot req sub) = SnapshotRow site req sub
-Row site s (destroy_request req) = Says []
+Row site s (subscribe req sub sid channel wanted count) = SubscribeRow site req sub channel wanted
+Row site s (steer req count started ask) = Says []
+Row site s (destroy_request req) = EndsThese (slot_of (at s.requests req)) []
 
 -- The marks that may stand where memory ran out in a row.
 
@@ -170,7 +206,13 @@ PutGetPart site ask channel mask value marks =
     (moment : Moment) × (answer : Result (Done × PvValue) PutAnswer)
     × ArePutGet (asked site ask channel mask value moment) answer marks
 
+abbrev pub SubscribePart : Channel → Wanted → List Mark → Type 0
+SubscribePart channel wanted marks =
+    (answer : Result Sub SubAnswer) × AreSubscribe channel wanted.mask wanted.queue answer marks
+
 abbrev pub Part : SiteData → State → Task → List Mark → Type 0
+Part site s (destroy_channel sid cid) = AreEndingsOf (slots_of (on_only sid s.requests))
+Part site s (subscribe req sub sid channel wanted count) = SubscribePart channel wanted
 Part site s (get kind req sub ask channel) = IsPartOfGet site channel ask.atomic
 Part site s (put req sub ask channel mask value) = PutPart site ask channel mask value
 Part site s (put_get req sub ask channel mask value) = PutGetPart site ask channel mask value
@@ -191,6 +233,21 @@ ask_of kind sid wanted = record {
   started = false;
 }
 
+-- a monitor that has begun, with its subscription and its window
+abbrev pub monitor_of : ℕ → Wanted → ℕ → Option ℕ → Asked
+monitor_of sid wanted slot window =
+    record (ask_of kinds.Monitor sid wanted) { sub = Some (record { slot = slot }); window = window }
+
+-- a monitor that goes on
+abbrev pub steered : Option ℕ → Bool → Asked → Asked
+steered count started ask = record ask { window = acknowledged count ask.window; started = started }
+
+-- the requests, with a monitor where its subscription began
+abbrev pub subscribed : ℕ → ℕ → Wanted → Option ℕ → List Mark → Requests → Requests
+subscribed req sid wanted window (Begun place index slot channel mask size ∷ []) requests =
+    insert requests req (monitor_of sid wanted slot window)
+subscribed req sid wanted window marks requests = requests
+
 -- the requests behind a message about one of them, which ends it by a bit of its subcommand
 abbrev pub behind : ℕ → ℕ → Requests → Requests
 behind req sub requests = if ends sub then remove requests req else requests
@@ -208,5 +265,9 @@ after_task site s (put req sub ask channel mask value) marks = record s { reques
 after_task site s (put_get req sub ask channel mask value) marks = record s { requests = behind req sub s.requests }
 after_task site s (respond req sub r) marks = record s { requests = behind req sub s.requests }
 after_task site s (snapshot req sub) marks = record s { requests = behind req sub s.requests }
+after_task site s (subscribe req sub sid channel wanted count) marks =
+    record s { requests = subscribed req sid wanted count marks s.requests }
+after_task site s (steer req count started ask) marks =
+    record s { requests = insert s.requests req (steered count started ask) }
 after_task site s (destroy_request req) marks = record s { requests = remove s.requests req }
 after_task site s task marks = s

@@ -1,6 +1,7 @@
 -- What a session keeps from message to message (pvAccess Protocol Specification, "Connection Validation" and
 -- "Channel Life-cycle").
-use Rattle.std.specs.Prelude.{ℕ, ◌-◌, ◌+◌, ◌==◌, Bool, false, not, List, [], ◌∷◌, Option, None, Some, nat_lt, nat_le, option_map, if◌then◌else◌}
+use Rattle.std.specs.Prelude.{ℕ, ◌-◌, ◌+◌, ◌==◌, ◌&&◌, Bool, true, false, not, List, [], ◌∷◌, Option, None, Some, is_some, nat_lt, nat_le, option_map, if◌then◌else◌}
+use Rattle.std.specs.List.{filter, flat_map}
 use Rattle.std.specs.FinMap.{FinMap, empty, get, keys, len, retain_keys}
 use Rattle.std.specs.Ordering.{nat_cmp}
 use Rattle.pva_wire.specs.declared.order.Order.{Order}
@@ -8,14 +9,15 @@ use Rattle.pvd_desc.specs.Types.{Types}
 use Rattle.chan_table.specs.Tables.{limit}
 use Rattle.chan_table.specs.declared.ask.Ask.{Ask}
 use Rattle.desk_api.specs.declared.channel.Channel.{Channel}
+use Rattle.desk_api.specs.declared.sub.Sub.{Sub}
 
 -- The open channels under the server's ids, each with the client's id.
 abbrev pub Channels : Type 0
 Channels = FinMap nat_cmp (ℕ × Channel)
 
--- a request; none has a subscription so far
+-- a request; that of a monitor has a subscription of the desk
 abbrev pub Asked : Type 0
-Asked = Ask (Unit {0})
+Asked = Ask Sub
 
 -- The requests that have begun, under the client's ids.
 abbrev pub Requests : Type 0
@@ -99,3 +101,37 @@ on_channel sid channel ask = None
 
 abbrev pub request_on : State → ℕ → ℕ → Option (Asked × Channel)
 request_on s sid req = on_channel sid (channel_at s.channels sid) (get s.requests req)
+
+-- Monitors.
+
+-- whether one more update may be sent: a window is open while it isn't spent, and a monitor without one always
+abbrev pub is_window_open : Option ℕ → Bool
+is_window_open None = true
+is_window_open (Some free) = nat_lt 0 free
+
+-- whether a request is a monitor that is started and may be sent an update
+abbrev pub is_due : Option Asked → Bool
+is_due None = false
+is_due (Some ask) = is_some ask.sub && (ask.started && is_window_open ask.window)
+
+-- the ids of these, rising
+abbrev pub due : Requests → List ℕ
+due requests = filter (λ req. is_due (get requests req)) (keys requests)
+
+-- the slot of a request's subscription, if it has one
+
+abbrev pub slot_of_sub : Option Sub → List ℕ
+slot_of_sub None = []
+slot_of_sub (Some sub) = sub.slot ∷ []
+
+abbrev pub slot_of : Option Asked → List ℕ
+slot_of None = []
+slot_of (Some ask) = slot_of_sub ask.sub
+
+-- the slots of the subscriptions of these requests, by the rising ids of the requests
+abbrev pub slots_of : Requests → List ℕ
+slots_of requests = flat_map (λ req. slot_of (get requests req)) (keys requests)
+
+-- the requests that are on the channel of this id
+abbrev pub on_only : ℕ → Requests → Requests
+on_only sid requests = retain_keys requests (λ req. is_on sid (get requests req))

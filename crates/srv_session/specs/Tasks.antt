@@ -1,6 +1,6 @@
 -- What an event asks of a session, with all that it names looked up (pvAccess Protocol Specification, "Message Header"
 -- and "Application Messages"). Of the reasons for which a message may be refused the first that holds decides.
-use Rattle.std.specs.Prelude.{ℕ, ◌+◌, ◌-◌, Bool, false, true, ◌||◌, ◌==◌, List, [], ◌∷◌, ◌++◌, length, drop, Option, None, Some, Result, Ok, Err, bytes_eq, codes, if◌then◌else◌}
+use Rattle.std.specs.Prelude.{ℕ, ◌+◌, ◌-◌, Bool, false, true, ◌||◌, ◌==◌, List, [], ◌∷◌, ◌++◌, length, drop, nat_lt, Option, None, Some, Result, Ok, Err, bytes_eq, codes, if◌then◌else◌}
 use Rattle.std.specs.FinMap.{get as at, contains_key}
 use Rattle.std.specs.FinSet.{FinSet, empty as no_leaves}
 use Rattle.std.specs.Option.{option_and_then}
@@ -22,7 +22,9 @@ use Rattle.pva_messages.specs.Replies as reply
 use Rattle.pva_messages.specs.Replies.{Reply}
 use Rattle.pva_messages.specs.Requests as said
 use Rattle.pva_messages.specs.Requests.{Request, part_place}
-use Rattle.pva_messages.specs.Subcommands.{begins, asks_back, counts}
+use Rattle.pvd_type.specs.Sets.{bit}
+use Rattle.pva_messages.specs.Subcommands.{begins, ends, asks_back, counts}
+use Rattle.mon_window.specs.Windows.{greatest}
 use Rattle.pva_messages.specs.declared.fault.MessageFault.{MessageFault}
 use Rattle.pvd_request.specs.Requests.{request_of, part_at as node_at}
 use Rattle.pvd_request.specs.declared.request.Request.{Request as Wanted}
@@ -75,15 +77,20 @@ pub data Task : Type 0 where
   respond : ℕ → ℕ → Reply → Task
   -- a request asks for all records: its id, the subcommand
   snapshot : ℕ → ℕ → Task
+  -- a monitor begins: its id, the subcommand, the server's id of its channel and this, what it asks of it, and how many updates it may
+  -- be sent before it acknowledges some, if it is pipelined
+  subscribe : ℕ → ℕ → ℕ → Channel → Wanted → Option ℕ → Task
+  -- a monitor goes on: its id, how many updates are acknowledged, whether it is started from now on, and the request that it was
+  steer : ℕ → Option ℕ → Bool → Asked → Task
   -- the request of this id ends
   destroy_request : ℕ → Task
 
--- What a session hears in an event: a task, and the client's types behind it; a message that isn't served so far; or a
--- message that can't be read.
+-- What a session hears in an event: a task, and the client's types behind it; a message that can't be read; or one by which a monitor
+-- might be sent more updates than a window may count.
 pub data Hearing : Type 0 where
   asks : Task → Types → Hearing
-  not_built : Hearing
   unreadable : MessageFault → Hearing
+  over_range : Hearing
 
 -- Control command 3 is an echo request. The others ask nothing of a server.
 abbrev pub heard_control : State → ℕ → ℕ → Hearing
@@ -276,6 +283,47 @@ asked_call site s sid req sub v =
     if begins sub then beginning site s kinds.Rpc req sub sid v (channel_at s.channels sid)
     else calling site req sub v (found_for s kinds.Rpc sid req)
 
+-- Monitors (pvAccess Protocol Specification, "Channel Monitor").
+
+-- whether a window that is asked for would be above the greatest
+abbrev pub is_over : Option ℕ → Bool
+is_over None = false
+is_over (Some free) = nat_lt greatest free
+
+-- A monitor that would begin is pipelined where its message has a count.
+abbrev pub windowed : Types → Option ℕ → Task → Hearing
+windowed types count (begin kind req sub sid channel wanted) =
+    if is_over count then over_range else asks (subscribe req sub sid channel wanted count) types
+windowed types count task = asks task types
+
+-- what is free with this acknowledged; without a window an acknowledgement has no effect
+abbrev pub acknowledged : Option ℕ → Option ℕ → Option ℕ
+acknowledged (Some count) (Some free) = Some (free + count)
+acknowledged count window = window
+
+abbrev pub starts_or_stops : ℕ → Bool
+starts_or_stops sub = bit sub 2
+
+-- Bit 04 starts a monitor where bit 40 stands too, and else stops it.
+abbrev pub started_by : ℕ → Bool → Bool
+started_by sub was = if starts_or_stops sub then asks_back sub else was
+
+-- The bits are looked at in this order: 80, then 04 with or without 40, then 10.
+abbrev pub steering : Types → ℕ → ℕ → Option ℕ → Asked → Hearing
+steering types req sub count ask =
+    if is_over (acknowledged count ask.window) then over_range
+    else if ends sub then asks (destroy_request req) types
+    else asks (steer req count (started_by sub ask.started) ask) types
+
+abbrev pub steering_found : Types → ℕ → ℕ → Option ℕ → Result (Asked × Channel) (List ℕ) → Hearing
+steering_found types req sub count (Ok found) = steering types req sub count found.0
+steering_found types req sub count (Err why) = asks pass_over types
+
+abbrev pub heard_monitor : SiteData → State → Types → ℕ → ℕ → ℕ → Valued → Option ℕ → Hearing
+heard_monitor site s types sid req sub v count =
+    if begins sub then windowed types count (beginning site s kinds.Monitor req sub sid v (channel_at s.channels sid))
+    else steering_found types req sub count (found_for s kinds.Monitor sid req)
+
 -- What ends, where it is there.
 
 abbrev pub asked_end : State → ℕ → ℕ → Task
@@ -303,7 +351,7 @@ heard_message site s whole types (said.put_get sid req sub v part) = heard_put_g
 heard_message site s whole types (said.get_field sid req path) =
     asks (asked_field site req path (channel_at s.channels sid)) types
 heard_message site s whole types (said.rpc sid req sub v) = asks (asked_call site s sid req sub v) types
-heard_message site s whole types (said.monitor sid req sub v count) = not_built
+heard_message site s whole types (said.monitor sid req sub v count) = heard_monitor site s types sid req sub v count
 
 abbrev pub heard_read : SiteData → State → Whole → Read Source Request → Hearing
 heard_read site s whole (Ok (request, (rest, types))) = heard_message site s whole types request

@@ -20,7 +20,6 @@ abbrev pub TellsEnd : (site : SiteData) (order : Order) (start end : Wire) (turn
 TellsEnd site order start end turns read written log ends.Closed a = ⊤
 TellsEnd site order start end turns read written log (ends.Truncated place) a = ⊤
 TellsEnd site order start end turns read written log (ends.Bad fault place) a = ⊥
-TellsEnd site order start end turns read written log (ends.NotBuilt command place) a = ⊥
 TellsEnd site order start end turns read written log ends.NoMemory a = ⊤
 TellsEnd site order start end turns read written log ends.ReadFault a = ⊥
 TellsEnd site order start end turns read written log ends.WriteFault a = IsProperPrefixOf written a.out
@@ -39,8 +38,6 @@ TellsTrouble site order start end turns read written log trouble ends.Closed a =
 TellsTrouble site order start end turns read written log trouble (ends.Truncated place) a = ⊥
 TellsTrouble site order start end turns read written log trouble (ends.Bad fault place) a =
     ends.Bad fault place ≡ trouble
-TellsTrouble site order start end turns read written log trouble (ends.NotBuilt command place) a =
-    ends.NotBuilt command place ≡ trouble
 TellsTrouble site order start end turns read written log trouble ends.NoMemory a = ⊤
 TellsTrouble site order start end turns read written log trouble ends.ReadFault a = ⊥
 TellsTrouble site order start end turns read written log trouble ends.WriteFault a = IsProperPrefixOf written a.out

@@ -8,12 +8,14 @@ use Rattle.pva_frames.specs.Assembled.{rest_from}
 use Rattle.pva_frames.specs.declared.event.Event.{Event}
 use Rattle.histories.specs.History.{IsPrefixOf}
 use Rattle.desk_api.specs.Calls.{Adds, HaveMoment}
+use Rattle.desk_api.specs.Marks.{AllFold}
 use Rattle.desk_api.specs.declared.history.SiteData.{SiteData}
 use Rattle.desk_api.specs.declared.mark.Mark.{Mark}
 use Rattle.desk_api.specs.declared.mark.Seat.{Seat}
 use Rattle.srv_session.specs.State.{opening}
 use Rattle.srv_session.specs.Replies.{greeting}
-use Rattle.srv_session.specs.Steps.{Step, AreSteps, state_after, events_of, marks_of, out_of, AreEndings, NextPart, after_next}
+use Rattle.srv_session.specs.Steps.{Step, AreSteps, state_after, events_of, marks_of, out_of, IsDrained, AreEndings, NextPart, after_part}
+use Rattle.srv_session.specs.Windowing.{WindowsHold}
 use Rattle.srv_stream.specs.Streams.{Stands, stop_of}
 use Rattle.srv_stream.specs.Moves.{Moves, IsAll}
 use Rattle.srv_stream.specs.declared.ended.Ended.{Ended}
@@ -21,7 +23,7 @@ use Rattle.srv_stream.specs.declared.ended.Ended.TheVariants as ends
 use Rattle.journal_core.specs.Moments.{Moment}
 
 -- A dialogue that goes on: on this site, in this byte order, these events and marks give these bytes, the greeting
--- first.
+-- first. At every step of it each pipelined monitor is within its acknowledged window.
 pub record Talk (site : SiteData) (order : Order) (events : List Event) (marks : List Mark)
     (out : List ℕ) : Type 0 where
   pub steps : List Step
@@ -29,6 +31,12 @@ pub record Talk (site : SiteData) (order : Order) (events : List Event) (marks :
   pub events_are : events_of steps ≡ events
   pub marks_are : marks_of steps ≡ marks
   pub out_is : greeting order ++ out_of site (opening order) steps ≡ out
+  pub windows : WindowsHold site (opening order) steps
+
+-- Behind its last event each started monitor with an open window was popped until nothing was unread.
+abbrev pub IsPumpedOut : (site : SiteData) (order : Order) (events : List Event) (marks : List Mark) (out : List ℕ)
+    → Talk site order events marks out → Type 0
+IsPumpedOut site order events marks out talk = IsDrained site (opening order) talk.steps
 
 -- A dialogue that has ended: its last marks end the subscriptions, and give no bytes.
 pub record Dialogue (site : SiteData) (order : Order) (events : List Event) (marks : List Mark)
@@ -49,7 +57,8 @@ pub record Whole (site : SiteData) (order : Order) (read : List ℕ) (log : List
   pub stands : Stands site (state_after site (opening order) dialogue.talk.steps) remaining (left_from 0 None read)
       trouble
 
--- What is written begins with the output of a dialogue of all that was read but the last piece, of at most 4,096 bytes.
+-- What is written begins with the output of a dialogue of all that was read but the last piece, of at most 4,096 bytes, in which every
+-- monitor was popped until nothing was unread.
 pub record Settled (site : SiteData) (order : Order) (read written : List ℕ) (log : List Mark) : Type 0 where
   pub before : List ℕ
   pub piece : List ℕ
@@ -60,6 +69,7 @@ pub record Settled (site : SiteData) (order : Order) (read written : List ℕ) (
   pub small : length piece ≤ 4096
   pub log_is : log ≡ said ++ later
   pub talk : Talk site order (events_from 0 None before) said out
+  pub drained : IsPumpedOut site order (events_from 0 None before) said out talk
   pub begins : IsPrefixOf out written
 
 pub record IsProperPrefixOf (xs ys : List ℕ) : Type 0 where
@@ -73,6 +83,7 @@ pub record IsProperPrefixOf (xs ys : List ℕ) : Type 0 where
 pub record AtEnd (site : SiteData) (order : Order) (start end : Wire) (read written : List ℕ) (log : List Mark)
     (rest : Option ℕ) : Type 0 where
   pub whole : Whole site order read log written None
+  pub drained : IsDrained site (opening order) whole.dialogue.talk.steps
   pub rest_is : rest_from 0 None read ≡ rest
   pub all : IsAll start.left read
   pub ends : Rose start.ends end.ends
@@ -90,6 +101,7 @@ pub record AtTrouble (site : SiteData) (order : Order) (start end : Wire) (read 
 pub record AtReadFault (site : SiteData) (order : Order) (start end : Wire) (read written : List ℕ)
     (log : List Mark) : Type 0 where
   pub whole : Whole site order read log written None
+  pub drained : IsDrained site (opening order) whole.dialogue.talk.steps
   pub ends : end.ends ≡ start.ends
   pub faults : Rose start.faults end.faults
 
@@ -118,8 +130,8 @@ pub record AtSpent (site : SiteData) (order : Order) (start end : Wire) (turns :
   pub bound : end.idles + 1 < 2 ^ 64 → start.idles + calls ≤ end.idles + length read + length written + 1
   pub faults : end.faults ≡ start.faults
 
--- Memory ran out: some events were answered, and marks of the row of the next, where it has an answer, may stand before
--- the endings. These are of the state that those marks leave.
+-- Memory ran out: some events were answered, and marks of the row of the next, where it has an answer, or the pop of a monitor, may stand
+-- before the endings. These are of the state that those marks leave.
 pub record AtNoMemory (site : SiteData) (order : Order) (start end : Wire) (read written : List ℕ)
     (log : List Mark) : Type 0 where
   pub events : List Event
@@ -130,7 +142,7 @@ pub record AtNoMemory (site : SiteData) (order : Order) (start end : Wire) (read
   pub talk : Talk site order events said out
   pub front : IsPrefixOf events (events_from 0 None read)
   pub part : NextPart site (state_after site (opening order) talk.steps) front.rest more
-  pub ends : AreEndings (after_next site (state_after site (opening order) talk.steps) front.rest more) endings
+  pub ends : AreEndings (after_part site (state_after site (opening order) talk.steps) front.rest more) endings
   pub log_is : (said ++ more) ++ endings ≡ log
   pub begins : IsPrefixOf written out
   pub faults : end.faults ≡ start.faults
@@ -141,8 +153,6 @@ HasCause site order start end turns read written log (ends.Truncated place) =
     AtEnd site order start end read written log (Some place)
 HasCause site order start end turns read written log (ends.Bad fault place) =
     AtTrouble site order start end read written log (ends.Bad fault place)
-HasCause site order start end turns read written log (ends.NotBuilt command place) =
-    AtTrouble site order start end read written log (ends.NotBuilt command place)
 HasCause site order start end turns read written log ends.ReadFault = AtReadFault site order start end read written log
 HasCause site order start end turns read written log ends.WriteFault =
     AtWriteFault site order start end read written log
@@ -172,7 +182,8 @@ Completes site order start end turns read written log result =
     IsSmooth site order start end turns read written log → (result ≡ ends.Closed) ⊎ (result ≡ ends.NoMemory)
 
 -- One connection: what was read and written, the marks of the desk, and why it ended. The entries of the seat are those
--- of its marks (`adds.own`), each at the moment that the clock tells.
+-- of its marks (`adds.own`), each at the moment that the clock tells. Each subscription has ended, and the updates that were handed out of
+-- it and those that were still queued fold to every requested field as of the last entry that posted it (`folds`).
 pub record Served (old new : Seat) (start end : Wire) (told : Option Moment) (order : Order) (turns : ℕ)
     (result : Ended) : Type 0 where
   pub log : List Mark
@@ -180,6 +191,7 @@ pub record Served (old new : Seat) (start end : Wire) (told : Option Moment) (or
   pub written : List ℕ
   pub adds : Adds old new log
   pub moments : HaveMoment told log
+  pub folds : AllFold new.seen log
   pub moves : Moves start end read written
   pub settled : (read ≡ []) ⊎ Settled old.seen.base.site order read written log
   pub answer : HasCause old.seen.base.site order start end turns read written log result

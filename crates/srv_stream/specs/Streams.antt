@@ -14,8 +14,10 @@ use Rattle.desk_api.specs.declared.history.SiteData.{SiteData}
 use Rattle.desk_api.specs.declared.mark.Mark.{Mark}
 use Rattle.desk_api.specs.declared.mark.Seat.{Seat}
 use Rattle.srv_session.specs.State.{State}
-use Rattle.srv_session.specs.Tasks.{Hearing, asks, not_built, unreadable, heard}
-use Rattle.srv_session.specs.Steps.{Step, bytes_of, after_step, IsStep, AreSteps, state_after, events_of, marks_of, out_of, PartOf, NextPart}
+use Rattle.srv_session.specs.Tasks.{Hearing, asks, unreadable, over_range, heard}
+use Rattle.mon_window.specs.declared.window.WindowFault.TheVariants.{OverRange}
+use Rattle.srv_session.specs.Steps.{Step, hears, bytes_of, after_step, IsStep, AreSteps, state_after, events_of, marks_of, out_of, PartOf, EventPart}
+use Rattle.srv_session.specs.Replies.{Sent}
 use Rattle.srv_session.specs.declared.stop.SessionStop.{SessionStop}
 use Rattle.srv_session.specs.declared.stop.SessionStop.TheVariants as stops
 use Rattle.srv_stream.specs.declared.ended.StreamFault.TheVariants as faults
@@ -36,8 +38,8 @@ is_sound (Err fault) = true
 -- how a message that has no answer ends the connection
 abbrev pub stop_at : Whole → Hearing → Option Ended
 stop_at whole (asks task types) = None
-stop_at whole not_built = Some (ends.NotBuilt whole.command whole.place)
 stop_at whole (unreadable fault) = Some (ends.Bad (faults.Message fault) whole.place)
+stop_at whole over_range = Some (ends.Bad (faults.Window OverRange) whole.place)
 
 -- the same of every event; control messages always have an answer
 abbrev pub stop_of : SiteData → State → Event → Option Ended
@@ -100,16 +102,14 @@ pub record FedPart (old new : Seat) (told : Option Moment) (v w : View) (bytes :
   pub more : List Mark
   pub rules : AreSteps old.seen.base.site v.state steps
   pub front : IsPrefixOf (events_of steps) (fed v.stream bytes).events
-  pub part : NextPart old.seen.base.site (state_after old.seen.base.site v.state steps) front.rest more
+  pub part : EventPart old.seen.base.site (state_after old.seen.base.site v.state steps) front.rest more
   pub adds : Adds old new (marks_of steps ++ more)
   pub moments : HaveMoment told (marks_of steps ++ more)
   pub out : w.pending ≡ v.pending ++ out_of old.seen.base.site v.state steps
 
--- whether a feeding ends so: at a fault of the stream, or at a message that isn't served so far
+-- whether a feeding ends so: at a fault of the stream
 abbrev pub FedErr : Seat → Seat → Option Moment → View → View → List ℕ → Ended → Type 0
 FedErr old new told v w bytes (ends.Bad fault place) = FedUpTo old new told v w bytes (ends.Bad fault place)
-FedErr old new told v w bytes (ends.NotBuilt command place) =
-    FedUpTo old new told v w bytes (ends.NotBuilt command place)
 FedErr old new told v w bytes ends.NoMemory = FedPart old new told v w bytes
 FedErr old new told v w bytes ended = ⊥
 
@@ -130,18 +130,18 @@ TakesSome old new told v w piece (Err ended) = FedErr old new told v w piece end
 -- One event, which the stream brought, was answered or wasn't. The stream is as before.
 
 abbrev pub stop_as : ℕ → ℕ → SessionStop → Ended
-stop_as command place stops.NotBuilt = ends.NotBuilt command place
 stop_as command place (stops.Message fault) = ends.Bad (faults.Message fault) place
+stop_as command place (stops.Window fault) = ends.Bad (faults.Window fault) place
 stop_as command place stops.NoMemory = ends.NoMemory
 
 pub record AnsweredEvent (old new : Seat) (moment : Moment) (v w : View) (e : Event) : Type 0 where
-  pub step : Step
-  pub rule : IsStep old.seen.base.site v.state step
-  pub event : step.event ≡ e
-  pub state : w.state ≡ after_step old.seen.base.site v.state step
-  pub adds : Adds old new step.marks
-  pub moments : HaveMoment (Some moment) step.marks
-  pub out : w.pending ≡ v.pending ++ bytes_of v.state step
+  pub marks : List Mark
+  pub sent : List Sent
+  pub rule : IsStep old.seen.base.site v.state (hears e marks sent)
+  pub state : w.state ≡ after_step old.seen.base.site v.state (hears e marks sent)
+  pub adds : Adds old new marks
+  pub moments : HaveMoment (Some moment) marks
+  pub out : w.pending ≡ v.pending ++ bytes_of v.state (hears e marks sent)
   pub stream : w.stream ≡ v.stream
 
 pub record UnansweredEvent (old new : Seat) (v w : View) (e : Event) (ended : Ended) : Type 0 where

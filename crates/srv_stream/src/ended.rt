@@ -1,5 +1,6 @@
 // Why a connection ends.
 use pva_frames::FrameFault;
+use mon_window::WindowFault;
 use pva_messages::MessageFault;
 
 /// What is wrong with a stream.
@@ -9,6 +10,8 @@ pub enum StreamFault {
     Frame(FrameFault),
     /// A message can't be read.
     Message(MessageFault),
+    /// A monitor's window would be above the greatest.
+    Window(WindowFault),
 }
 
 /// Why a connection ended. Places are numbers of bytes from the start of what was read.
@@ -20,8 +23,6 @@ pub enum Ended {
     Truncated(u64),
     /// The stream is at fault, in the header or in the message that begins at this place. All before it was answered.
     Bad(StreamFault, u64),
-    /// A message of this command, which begins at this place, isn't served so far. All before it was answered.
-    NotBuilt(u8, u64),
     /// A read failed.
     ReadFault,
     /// A write failed.
