@@ -15,7 +15,7 @@ use Rattle.journal_core.specs.declared.entry.Entry.{Entry}
 use Rattle.mon_queue.specs.Shown.{seen}
 use Rattle.mon_queue.specs.Told.{IsUpdateOf}
 use Rattle.mon_queue.specs.declared.update.Update.{Update}
-use Rattle.mon_shown.specs.Keeping.{tree_of}
+use Rattle.mon_shown.specs.Keeping.{tree_of, watch_of}
 use Rattle.mon_shown.specs.Rolls.{alive}
 use Rattle.mon_shown.specs.Slots.{slot_in, SlotsStay, Stand}
 use Rattle.mon_shown.specs.declared.roll.RollItem.TheVariants as items
@@ -25,7 +25,7 @@ use Rattle.mon_shown.specs.declared.watching.Watching.{Watching}
 use Rattle.desk_api.specs.History.{History, Item, roll, state_at, IsLegal}
 use Rattle.desk_api.specs.Living.{Living, living, lives}
 use Rattle.desk_api.specs.Marks.{deed_of, IsTrueBegun, IsTrueCrowded, IsTrueDropped, IsTruePopped}
-use Rattle.desk_api.specs.Calls.{Adds, Calls, AreSubscribe, IsEnding, IsPop, FitsSubscribed, EndsAtItsMarks, EndsAtLastMark, OnSubscribed, first_seat, now, with_mark}
+use Rattle.desk_api.specs.Calls.{Adds, Calls, AreSubscribe, IsEnding, IsPop, FitsSubscribed, EndsAtItsMarks, EndsAtLastMark, OnSubscribed, TellsCrowd, first_seat, now, with_mark}
 use Rattle.desk_api.specs.Triggers.{channel_view, may_be_watched}
 use Rattle.desk_api.specs.Types.{type_of}
 use Rattle.desk_api.proofs.Adding.{adds_nothing, as_many}
@@ -81,10 +81,10 @@ module _ (site : SiteData) (after : List RecState) (entry : Entry) (subs more : 
   abbrev enters : ℕ → Mark
   enters at = Entered at entry looked found
 
-  abbrev u : Seat
-  u = with_mark s enters
+  abbrev entered : Seat
+  entered = with_mark s enters
 
-  commits_one : Commits s.seen u.seen s.number entry
+  commits_one : Commits s.seen entered.seen s.number entry
   commits_one = record {
     goes_on = record { base = refl; deeds = record { rest = tagged s.number (deeds.Entry entry ∷ []); whole = refl } };
     commits_are = entries_append s.seen.deeds (tagged s.number (deeds.Entry entry ∷ []));
@@ -96,8 +96,8 @@ module _ (site : SiteData) (after : List RecState) (entry : Entry) (subs more : 
 
   pub entered_kept : Kept more t
   entered_kept = subst (Kept more) (sym marked)
-      (subst (λ (n : ℕ). KeepsSeat u.seen more s.number (s.log ++ Entered n entry looked found ∷ [])) (sym (as_many s.seen))
-      (posts s.seen u.seen s.number s.log looked found site_is commits_one (λ slot x is n wanted. ap (λ (z : List RecState). seen _ z n) after_there) k).own)
+      (subst (λ (n : ℕ). KeepsSeat entered.seen more s.number (s.log ++ Entered n entry looked found ∷ [])) (sym (as_many s.seen))
+      (posts s.seen entered.seen s.number s.log looked found site_is commits_one (λ slot x is n wanted. ap (λ (z : List RecState). seen (watch_of (channel_view s.seen.base.site) x) z n) after_there) k).own)
 
 -- where no entry is added
 module _ (keep : MarksKeep) (subs more : Subs) (same : more ≡ subs) (entry : Entry) (looked : List ℕ) (found : List RecState) (limit done : ℕ) (old new : Journal) (s t : Seat) (k : Kept subs s) where
@@ -116,24 +116,24 @@ module _ (site : SiteData) (subs more : Subs) (slot : ℕ) (channel : Channel) (
   abbrev begins : ℕ → Mark
   begins = begun_in s slot channel mask size
 
-  abbrev u : Seat
-  u = with_mark s begins
+  abbrev begun : Seat
+  begun = with_mark s begins
 
   abbrev item : Item
   item = items.Begins slot channel mask size
 
-  both : KeepsAll s.seen u.seen subs more s.number s.log (Begun (hub.now s.seen) (length (roll s.seen)) slot channel mask size ∷ []) × IsTrueBegun u.seen s.number s.log (hub.now s.seen) (length (roll s.seen)) slot channel mask size
-  both = subst (λ (m : FinSet nat_cmp). Starts site subs slot channel m size states more) mask_is starts s.seen u.seen s.number s.log site_is (item_rolls s begins item refl) (ap (state_at s.seen) (sym (as_many s.seen)) ∙ sym states_are) k
+  both : KeepsAll s.seen begun.seen subs more s.number s.log (Begun (hub.now s.seen) (length (roll s.seen)) slot channel mask size ∷ []) × IsTrueBegun begun.seen s.number s.log (hub.now s.seen) (length (roll s.seen)) slot channel mask size
+  both = subst (λ (m : FinSet nat_cmp). Starts site subs slot channel m size states more) mask_is starts s.seen begun.seen s.number s.log site_is (item_rolls s begins item refl) (ap (state_at s.seen) (sym (as_many s.seen)) ∙ sym states_are) k
 
-  begun_true : IsTrueBegun u.seen s.number s.log (now s) (length (roll s.seen)) slot channel mask size
-  begun_true = subst (λ (n : ℕ). IsTrueBegun u.seen s.number s.log n (length (roll s.seen)) slot channel mask size) (sym (as_many s.seen)) both.1
+  begun_true : IsTrueBegun begun.seen s.number s.log (now s) (length (roll s.seen)) slot channel mask size
+  begun_true = subst (λ (n : ℕ). IsTrueBegun begun.seen s.number s.log n (length (roll s.seen)) slot channel mask size) (sym (as_many s.seen)) both.1
 
   pub begun_kept : Kept more t
   begun_kept = subst (Kept more) (sym marked)
-      (subst (λ (n : ℕ). KeepsSeat u.seen more s.number (s.log ++ Begun n (length (roll s.seen)) slot channel mask size ∷ [])) (sym (as_many s.seen)) both.0.own)
+      (subst (λ (n : ℕ). KeepsSeat begun.seen more s.number (s.log ++ Begun n (length (roll s.seen)) slot channel mask size ∷ [])) (sym (as_many s.seen)) both.0.own)
 
-  pub begun_calls : Calls s t (AreSubscribe channel mask size t (Ok (record { slot = slot })))
-  begun_calls = subst (λ (z : Seat). Calls s z (AreSubscribe channel mask size z (Ok (record { slot = slot })))) (sym marked) (record {
+  pub begun_calls : Calls s t (AreSubscribe channel mask size (Ok (record { slot = slot })))
+  begun_calls = subst (λ (z : Seat). Calls s z (AreSubscribe channel mask size (Ok (record { slot = slot })))) (sym marked) (record {
     marks = begins (now s) ∷ [];
     adds = item_adds s begins item refl refl refl begun_true legal;
     named = record { at = now s; index = length (roll s.seen); marks_are = refl };
@@ -177,15 +177,26 @@ module _ (keep : MarksKeep) (subs more : Subs) (s t : Seat) (k : Kept subs s) (s
   left_kept TooMany answer n a = subst (Kept more) (sym a.1) (aside_kept keep more s crowds refl (λ slot o. refl) (same_slots s.seen subs more s.number s.log stand n.0 k))
   left_kept NoMemory answer n a = subst (Kept more) (sym a.1) (same_slots s.seen subs more s.number s.log stand n k)
 
-  pub left_calls : (channel : Channel) (mask : FinSet nat_cmp) (size : ℕ) (cause : NotBegun) (answer : SubAnswer) → StartsNot subs more cause → IsNotBegunNow s t cause answer → Calls s t (AreSubscribe channel mask size t (Err answer))
+  pub left_calls : (channel : Channel) (mask : FinSet nat_cmp) (size : ℕ) (cause : NotBegun) (answer : SubAnswer) → StartsNot subs more cause → IsNotBegunNow s t cause answer → Calls s t (AreSubscribe channel mask size (Err answer))
   left_calls channel mask size TooMany answer n a =
-      subst (λ (z : Seat × SubAnswer). Calls s z.0 (AreSubscribe channel mask size z.0 (Err z.1))) (λ i. (sym a.1 i, sym a.0 i)) (record {
+      subst (λ (z : Seat × SubAnswer). Calls s z.0 (AreSubscribe channel mask size (Err z.1))) (λ i. (sym a.1 i, sym a.0 i)) (record {
         marks = crowds (now s) ∷ [];
         adds = looks s crowds refl refl refl (crowded_true n) legal;
-        named = record { at = now s; index = length (roll s.seen); marks_are = refl; roll_is = ap (λ (h : History). length (roll h)) (sym (same_seen s crowds refl)) };
+        named = record { at = now s; index = length (roll s.seen); marks_are = refl };
       })
   left_calls channel mask size NoMemory answer n a =
-      subst (λ (z : Seat × SubAnswer). Calls s z.0 (AreSubscribe channel mask size z.0 (Err z.1))) (λ i. (sym a.1 i, sym a.0 i)) (record { marks = []; adds = adds_nothing s legal; named = refl })
+      subst (λ (z : Seat × SubAnswer). Calls s z.0 (AreSubscribe channel mask size (Err z.1))) (λ i. (sym a.1 i, sym a.0 i)) (record { marks = []; adds = adds_nothing s legal; named = refl })
+
+  pub left_crowded : (cause : NotBegun) (answer : SubAnswer) → IsNotBegunNow s t cause answer → TellsCrowd t answer
+  left_crowded TooMany answer a =
+      subst (λ (z : Seat × SubAnswer). TellsCrowd z.0 z.1) (λ i. (sym a.1 i, sym a.0 i)) (record {
+        before = s.log;
+        at = now s;
+        index = length (roll s.seen);
+        log_is = refl;
+        roll_is = ap (λ (h : History). length (roll h)) (sym (same_seen s crowds refl));
+      })
+  left_crowded NoMemory answer a = subst (TellsCrowd t) (sym a.0) tt
 
   pub left_ends : (cause : NotBegun) (answer : SubAnswer) → IsNotBegunNow s t cause answer → OnSubscribed (Err answer) (EndsAtItsMarks s t)
   left_ends TooMany answer a = subst (λ (z : Seat × SubAnswer). OnSubscribed (Err z.1) (EndsAtItsMarks s z.0)) (λ i. (sym a.1 i, sym a.0 i)) (inr (looks_end s crowds refl refl))
@@ -200,7 +211,7 @@ module _ (keep : MarksKeep) (subs more : Subs) (s t : Seat) (k : Kept subs s) (s
   left_stands {base} {cells} {journal} x NoMemory answer a = subst (Stands base cells journal) (sym a.1) x
 
 -- memory ran out before
-pub unbegun_calls : (s : Seat) → IsLegal s.seen → (channel : Channel) (mask : FinSet nat_cmp) (size : ℕ) → Calls s s (AreSubscribe channel mask size s (Err answers.NoMemory))
+pub unbegun_calls : (s : Seat) → IsLegal s.seen → (channel : Channel) (mask : FinSet nat_cmp) (size : ℕ) → Calls s s (AreSubscribe channel mask size (Err answers.NoMemory))
 unbegun_calls s legal channel mask size = record { marks = []; adds = adds_nothing s legal; named = refl }
 
 -- ---- a pop
@@ -259,20 +270,20 @@ module _ (site : SiteData) (subs more : Subs) (slot : ℕ) (ends : Ends site sub
   abbrev drops : ℕ → Mark
   drops = dropped s slot
 
-  abbrev v : Seat
-  v = with_mark s drops
+  abbrev left : Seat
+  left = with_mark s drops
 
   abbrev end : Item
   end = items.Ends slot
 
-  ended : KeepsAll s.seen v.seen subs more s.number s.log (Dropped (hub.now s.seen) (length (roll s.seen)) slot ∷ []) × IsTrueDropped v.seen s.number s.log (hub.now s.seen) (length (roll s.seen)) slot
-  ended = ends s.seen v.seen s.number s.log site_is (item_rolls s drops end refl) k living_
+  ended : KeepsAll s.seen left.seen subs more s.number s.log (Dropped (hub.now s.seen) (length (roll s.seen)) slot ∷ []) × IsTrueDropped left.seen s.number s.log (hub.now s.seen) (length (roll s.seen)) slot
+  ended = ends s.seen left.seen s.number s.log site_is (item_rolls s drops end refl) k living_
 
-  ended_true : IsTrueDropped v.seen s.number s.log (now s) (length (roll s.seen)) slot
-  ended_true = subst (λ (n : ℕ). IsTrueDropped v.seen s.number s.log n (length (roll s.seen)) slot) (sym (as_many s.seen)) ended.1
+  ended_true : IsTrueDropped left.seen s.number s.log (now s) (length (roll s.seen)) slot
+  ended_true = subst (λ (n : ℕ). IsTrueDropped left.seen s.number s.log n (length (roll s.seen)) slot) (sym (as_many s.seen)) ended.1
 
   pub ended_kept : Kept more t
-  ended_kept = subst (Kept more) (sym marked) (subst (λ (n : ℕ). KeepsSeat v.seen more s.number (s.log ++ Dropped n (length (roll s.seen)) slot ∷ [])) (sym (as_many s.seen)) ended.0.own)
+  ended_kept = subst (Kept more) (sym marked) (subst (λ (n : ℕ). KeepsSeat left.seen more s.number (s.log ++ Dropped n (length (roll s.seen)) slot ∷ [])) (sym (as_many s.seen)) ended.0.own)
 
   pub ended_calls : Calls s t (IsEnding slot)
   ended_calls = subst (λ (z : Seat). Calls s z (IsEnding slot)) (sym marked) (record {

@@ -1,3 +1,4 @@
+pub mod Props
 pub mod Listing
 pub mod Ported
 pub mod Marking

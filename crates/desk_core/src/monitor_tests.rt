@@ -155,7 +155,8 @@ impl Watched {
 
     /// Ends the subscription.
     fn end(self) -> SoloDesk<MemoryPort> {
-        let Watched { mut desk, sub } = self;
+        let Watched { desk, sub } = self;
+        let mut desk = desk;
         desk.unsubscribe(sub);
         desk
     }
@@ -205,12 +206,13 @@ fn members_told(update: Option<Update>, changed: &[u16]) -> Option<[Reading; 2]>
     };
     let as_told = has_just(&update.changed, changed) && has_just(&update.overrun, &[]);
     let members = update.value.members();
-    let shown = (reading(members.get(0)), reading(members.get(1)));
+    let first = reading(members.get(0));
+    let second = reading(members.get(1));
     discard(update);
-    match shown {
-        (Some(a), Some(b)) if as_told => Some([a, b]),
-        _ => None,
+    if !as_told {
+        return None;
     }
+    Some([first?, second?])
 }
 
 /// All leaves of a record, and of a group of three.

@@ -1,9 +1,10 @@
 // A desk that nobody shares.
-ghost use Rattle.std.specs.Prelude.{◌≡◌, ◌<◌, ◌≤◌, [], ◌∷◌, false, length, map, option_map, slice_get, Some, true, IfOk, IfSome, IsTrue, OnOk};
+ghost use Rattle.std.specs.Prelude.{◌≡◌, ◌<◌, ◌≤◌, [], ◌∷◌, false, length, map, option_map, slice_get, Some, true, IfErr, IfOk, IfSome, IsTrue, OnOk};
 ghost use Rattle.std.specs.List.{AllByRecursion};
 ghost use Rattle.desk_api.specs.History.{IsLegal, commits};
 ghost use Rattle.desk_api.specs.Calls.{first_seat, Calls, OnTold, EndsAtItsMarks};
 ghost use Rattle.desk_core.specs.Ports.{ports_there, ports_wanted};
+ghost use Rattle.desk_core.proofs.Props.{stands_prop};
 ghost use Rattle.desk_core.specs.Standing.{Stands, answer_of, base_of};
 ghost use Rattle.desk_core.specs.Subscribing.{IsNotBegunNow};
 ghost use Rattle.desk_hub.proofs.Props.{seat_prop};
@@ -42,7 +43,7 @@ pub struct SoloDesk<P> {
     /// Its seat, which takes no bytes: the history and the marks of its calls.
     pub log: Log,
     /// The history is the one that the desk keeps, the cells are its last states, and every entry is the desk's own.
-    pub ghost stands: { Stands (base_of terms) cells.states.items history log },
+    pub ghost stands: { Stands (base_of terms) cells.states.items history log } by { stands_prop (base_of terms) cells.states.items history log },
     /// The history is legal.
     ghost legal: { IsLegal log.seen } by { are_legal_prop log.seen.base.site.configs log.seen.base.site.opening (commits log.seen) },
     /// Each record is in a state that is valid for it.
@@ -332,7 +333,7 @@ impl<P: Port> SoloDesk<P> {
 }
 
 impl<P: Port> Desk for SoloDesk<P> {
-    ghost use Rattle.desk_api.specs.Calls.{AreGet, ArePut, ArePutGet, AreSnapshot, AreSubscribe, FitsSubscribed, IsEnding, IsPop, OnSubscribed, now};
+    ghost use Rattle.desk_api.specs.Calls.{AreGet, ArePut, ArePutGet, AreSnapshot, AreSubscribe, FitsSubscribed, IsEnding, IsPop, OnSubscribed, TellsCrowd, now};
     ghost use Rattle.desk_api.specs.Living.{lives};
     ghost use Rattle.desk_api.specs.Sites as sites;
     ghost use Rattle.desk_api.specs.Triggers.{may_be_watched};
@@ -484,7 +485,8 @@ impl<P: Port> Desk for SoloDesk<P> {
         requires channel { may_be_watched self.old.log.seen.base.site channel ≡ true }
         requires leaves { types.HoldsLeaves (types.type_of self.old.log.seen.base.site channel) mask.now }
         requires size { (1 ≤ size) × (size ≤ 64) }
-        ensures calls { Calls self.old.log self.new.log (AreSubscribe channel mask.now size self.new.log result) }
+        ensures calls { Calls self.old.log self.new.log (AreSubscribe channel mask.now size result) }
+        ensures crowded { IfErr result (TellsCrowd self.new.log) }
         ensures ends { OnSubscribed result (EndsAtItsMarks self.old.log self.new.log) }
         ensures base { self.new.log.seen.base ≡ self.old.log.seen.base }
         ensures ports { ports_of P.port self.new ≡ ports_of P.port self.old }

@@ -8,7 +8,7 @@ use Rattle.desk_api.specs.Triggers.{may_be_watched}
 use Rattle.desk_api.specs.Types.{HoldsLeaves, type_of}
 use Rattle.desk_api.specs.declared.history.Base.{Base}
 use Rattle.desk_hub.specs.Steps.{Starts}
-use Rattle.desk_core.proofs.Keeping.{begun_base, begun_calls, begun_ends, begun_kept, begun_legal, begun_stands, kept_stand, left_calls, left_ends, left_kept, left_seen, left_stands, stand_there, unbegun_calls}
+use Rattle.desk_core.proofs.Keeping.{begun_base, begun_calls, begun_ends, begun_kept, begun_legal, begun_stands, kept_stand, left_calls, left_crowded, left_ends, left_kept, left_seen, left_stands, stand_there, unbegun_calls}
 use Rattle.desk_core.proofs.solo.SoloDeskDesk.subscribe.Goals as goal
 
 pub begin-requires-clause-stand : goal.begin-requires-clause-stand
@@ -24,7 +24,7 @@ begin-requires-clause-channel g c =
 pub begin-requires-clause-leaves : goal.begin-requires-clause-leaves
 begin-requires-clause-leaves g c =
     let d = c.args.self.now in
-    subst (λ (m : FinSet nat_cmp). HoldsLeaves (type_of d.terms.site c.args.channel) m) (sym (c.in-Ok-clone_in.ensures {u = tt}))
+    subst (λ (m : FinSet nat_cmp). HoldsLeaves (type_of d.terms.site c.args.channel) m) (sym (c.in-Ok.ensures {u = tt}))
     (subst (λ (b : Base). HoldsLeaves (type_of b.site c.args.channel) c.args.mask.now) d.stands.base_is c.requires.leaves)
 
 pub begin-requires-clause-valid : goal.begin-requires-clause-valid
@@ -39,24 +39,24 @@ invariant_of-self g c = let d = c.args.self.now in record { stands = d.stands; l
 pub returns-in_default-clause-calls : goal.returns-in_default-clause-calls
 returns-in_default-clause-calls g c = unbegun_calls c.args.self.now.log c.args.self.now.legal c.args.channel c.args.mask.now c.args.size
 
-pub invariant_of-self-in-Ok : goal.invariant_of-self-in-Ok
-invariant_of-self-in-Ok g c =
+pub invariant_of-self-in-Ok-begin : goal.invariant_of-self-in-Ok-begin
+invariant_of-self-in-Ok-begin g c =
     let d = c.args.self.now in record {
-      stands = begun_stands d.terms.site d.subs c.begin.new.subs c.in-Ok.slot c.args.channel _ c.args.size _ (c.in-Ok.ensures {u = tt}).starts c.args.mask.now (c.in-Ok-clone_in.ensures {u = tt}) d.log c.note_begun.new.log (ap (λ (b : Base). b.site) d.stands.base_is) d.keeps (c.as_slice-cells.ensures.value ∙ d.stands.cells_are) d.legal c.note_begun.ensures d.stands;
-      legal = begun_legal d.terms.site d.subs c.begin.new.subs c.in-Ok.slot c.args.channel _ c.args.size _ (c.in-Ok.ensures {u = tt}).starts c.args.mask.now (c.in-Ok-clone_in.ensures {u = tt}) d.log c.note_begun.new.log (ap (λ (b : Base). b.site) d.stands.base_is) d.keeps (c.as_slice-cells.ensures.value ∙ d.stands.cells_are) d.legal c.note_begun.ensures;
+      stands = begun_stands d.terms.site d.subs c.begin.new.subs c.in-Ok-begin.slot c.args.channel _ c.args.size _ (c.in-Ok-begin.ensures {u = tt}).starts c.args.mask.now (c.in-Ok.ensures {u = tt}) d.log c.note_begun.new.log (ap (λ (b : Base). b.site) d.stands.base_is) d.keeps (c.as_slice-cells.ensures.value ∙ d.stands.cells_are) d.legal c.note_begun.ensures d.stands;
+      legal = begun_legal d.terms.site d.subs c.begin.new.subs c.in-Ok-begin.slot c.args.channel _ c.args.size _ (c.in-Ok-begin.ensures {u = tt}).starts c.args.mask.now (c.in-Ok.ensures {u = tt}) d.log c.note_begun.new.log (ap (λ (b : Base). b.site) d.stands.base_is) d.keeps (c.as_slice-cells.ensures.value ∙ d.stands.cells_are) d.legal c.note_begun.ensures;
       valid = d.valid;
       ported = d.ported;
-      keeps = begun_kept d.terms.site d.subs c.begin.new.subs c.in-Ok.slot c.args.channel _ c.args.size _ (c.in-Ok.ensures {u = tt}).starts c.args.mask.now (c.in-Ok-clone_in.ensures {u = tt}) d.log c.note_begun.new.log (ap (λ (b : Base). b.site) d.stands.base_is) d.keeps (c.as_slice-cells.ensures.value ∙ d.stands.cells_are) d.legal c.note_begun.ensures;
+      keeps = begun_kept d.terms.site d.subs c.begin.new.subs c.in-Ok-begin.slot c.args.channel _ c.args.size _ (c.in-Ok-begin.ensures {u = tt}).starts c.args.mask.now (c.in-Ok.ensures {u = tt}) d.log c.note_begun.new.log (ap (λ (b : Base). b.site) d.stands.base_is) d.keeps (c.as_slice-cells.ensures.value ∙ d.stands.cells_are) d.legal c.note_begun.ensures;
     }
 
-pub returns-in-Ok-clause-calls : goal.returns-in-Ok-clause-calls
-returns-in-Ok-clause-calls g c = let d = c.args.self.now in begun_calls d.terms.site d.subs c.begin.new.subs c.in-Ok.slot c.args.channel _ c.args.size _ (c.in-Ok.ensures {u = tt}).starts c.args.mask.now (c.in-Ok-clone_in.ensures {u = tt}) d.log c.note_begun.new.log (ap (λ (b : Base). b.site) d.stands.base_is) d.keeps (c.as_slice-cells.ensures.value ∙ d.stands.cells_are) d.legal c.note_begun.ensures
+pub returns-in-Ok-begin-clause-calls : goal.returns-in-Ok-begin-clause-calls
+returns-in-Ok-begin-clause-calls g c = let d = c.args.self.now in begun_calls d.terms.site d.subs c.begin.new.subs c.in-Ok-begin.slot c.args.channel _ c.args.size _ (c.in-Ok-begin.ensures {u = tt}).starts c.args.mask.now (c.in-Ok.ensures {u = tt}) d.log c.note_begun.new.log (ap (λ (b : Base). b.site) d.stands.base_is) d.keeps (c.as_slice-cells.ensures.value ∙ d.stands.cells_are) d.legal c.note_begun.ensures
 
-pub returns-in-Ok-clause-ends : goal.returns-in-Ok-clause-ends
-returns-in-Ok-clause-ends g c = let d = c.args.self.now in begun_ends d.terms.site d.subs c.begin.new.subs c.in-Ok.slot c.args.channel _ c.args.size _ (c.in-Ok.ensures {u = tt}).starts c.args.mask.now (c.in-Ok-clone_in.ensures {u = tt}) d.log c.note_begun.new.log (ap (λ (b : Base). b.site) d.stands.base_is) d.keeps (c.as_slice-cells.ensures.value ∙ d.stands.cells_are) d.legal c.note_begun.ensures
+pub returns-in-Ok-begin-clause-ends : goal.returns-in-Ok-begin-clause-ends
+returns-in-Ok-begin-clause-ends g c = let d = c.args.self.now in begun_ends d.terms.site d.subs c.begin.new.subs c.in-Ok-begin.slot c.args.channel _ c.args.size _ (c.in-Ok-begin.ensures {u = tt}).starts c.args.mask.now (c.in-Ok.ensures {u = tt}) d.log c.note_begun.new.log (ap (λ (b : Base). b.site) d.stands.base_is) d.keeps (c.as_slice-cells.ensures.value ∙ d.stands.cells_are) d.legal c.note_begun.ensures
 
-pub returns-in-Ok-clause-base : goal.returns-in-Ok-clause-base
-returns-in-Ok-clause-base g c = let d = c.args.self.now in begun_base d.terms.site d.subs c.begin.new.subs c.in-Ok.slot c.args.channel _ c.args.size _ (c.in-Ok.ensures {u = tt}).starts c.args.mask.now (c.in-Ok-clone_in.ensures {u = tt}) d.log c.note_begun.new.log (ap (λ (b : Base). b.site) d.stands.base_is) d.keeps (c.as_slice-cells.ensures.value ∙ d.stands.cells_are) d.legal c.note_begun.ensures
+pub returns-in-Ok-begin-clause-base : goal.returns-in-Ok-begin-clause-base
+returns-in-Ok-begin-clause-base g c = let d = c.args.self.now in begun_base d.terms.site d.subs c.begin.new.subs c.in-Ok-begin.slot c.args.channel _ c.args.size _ (c.in-Ok-begin.ensures {u = tt}).starts c.args.mask.now (c.in-Ok.ensures {u = tt}) d.log c.note_begun.new.log (ap (λ (b : Base). b.site) d.stands.base_is) d.keeps (c.as_slice-cells.ensures.value ∙ d.stands.cells_are) d.legal c.note_begun.ensures
 
 pub invariant_of-self-in-Err : goal.invariant_of-self-in-Err
 invariant_of-self-in-Err g c =
@@ -76,3 +76,6 @@ returns-in-Err-clause-ends g c = let d = c.args.self.now in left_ends c.marks_ke
 
 pub returns-in-Err-clause-base : goal.returns-in-Err-clause-base
 returns-in-Err-clause-base g c = let d = c.args.self.now in ap (λ (h : History). h.base) (left_seen c.marks_keep.ensures d.subs c.begin.new.subs d.log c.not_begun.new.log d.keeps (stand_there d.terms.site c.begin.new.subs d.log (ap (λ (b : Base). b.site) d.stands.base_is) (c.in-Err.ensures {u = tt}).stand) d.legal c.in-Err.cause c.not_begun.result c.not_begun.ensures)
+
+pub returns-in-Err-clause-crowded : goal.returns-in-Err-clause-crowded
+returns-in-Err-clause-crowded g c = let d = c.args.self.now in left_crowded c.marks_keep.ensures d.subs c.begin.new.subs d.log c.not_begun.new.log d.keeps (stand_there d.terms.site c.begin.new.subs d.log (ap (λ (b : Base). b.site) d.stands.base_is) (c.in-Err.ensures {u = tt}).stand) d.legal c.in-Err.cause c.not_begun.result c.not_begun.ensures
