@@ -1,4 +1,3 @@
-pub mod Props
 pub mod Listing
 pub mod Ported
 pub mod Marking
@@ -8,3 +7,4 @@ pub mod Beginning
 pub mod Reading
 pub mod Combining
 pub mod Keeping
+pub mod Lived

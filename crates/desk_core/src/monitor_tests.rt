@@ -1,5 +1,5 @@
 // What subscriptions are given, and how many may live.
-ghost use Rattle.std.specs.Prelude.{◌≡◌, ◌≤◌, ℕ, true, IfOk, IfSome, IsTrue};
+ghost use Rattle.std.specs.Prelude.{◌≡◌, ◌≤◌, ℕ, true, IfOk, IsTrue};
 ghost use Rattle.desk_api.specs.Living.{lives};
 ghost use Rattle.desk_api.specs.Sites.{is_channel};
 ghost use Rattle.desk_api.specs.Triggers.{may_be_watched};
@@ -9,7 +9,7 @@ use crate::driving::discard;
 use crate::group_tests::{GROUPED, PUT, opening_of};
 use crate::tests::{desk_of, leaves_of, mask_for, plain_desk, row, value_with};
 use crate::{Channel, Desk, Moment, PvValue, SoloDesk};
-use desk_api::{Sub, SubAnswer, Update, found_channels};
+use desk_api::{Sub, SubAnswer, Update, found_channels, other_calls_leave_subscriptions};
 use pva_outside::MemoryPort;
 use pvd_type::{BitSet, NoMemory};
 use std::alloc::Global;
@@ -66,7 +66,7 @@ fn begun<D: Desk>(
 }
 
 /// The desk with that subscription. None where it didn't begin.
-fn watched(
+fn watching_desk(
     alloc: Global,
     mut desk: SoloDesk<MemoryPort>,
     name: &str,
@@ -103,6 +103,7 @@ fn put<D: Desk>(
         return false;
     };
     let moment = Moment::new(seconds, 0);
+    other_calls_leave_subscriptions();
     desk.put(alloc, channel, &mask, value, moment, None).is_ok()
 }
 
@@ -226,7 +227,7 @@ const ALL_OF_THREE: [u16; 21] = [
 fn of_one(alloc: Global, numbers: &[u16], size: u32) -> Result<Option<Watched>, NoMemory>
     requires { (1 ≤ size) × (size ≤ 64) }
 {
-    Ok(watched(alloc, plain_desk(alloc, 10_000)?, "X", numbers, size))
+    Ok(watching_desk(alloc, plain_desk(alloc, 10_000)?, "X", numbers, size))
 }
 
 /// Puts these numbers to X, each at so many seconds. Whether all was done.
@@ -357,7 +358,7 @@ type OfGroup = (Option<[Reading; 2]>, [bool; 3], Option<[Reading; 2]>);
 
 fn of_group(alloc: Global) -> Result<Option<OfGroup>, NoMemory> {
     let value = opening_of(alloc, PUT)?;
-    let Some(mut desk) = watched(
+    let Some(mut desk) = watching_desk(
         alloc,
         desk_of(alloc, GROUPED, 10_000, "")?,
         "G",

@@ -1,10 +1,10 @@
 // A desk that nobody shares.
+ghost use Rattle.std.proofs.Props.{props};
 ghost use Rattle.std.specs.Prelude.{◌≡◌, ◌<◌, ◌≤◌, [], ◌∷◌, false, length, map, option_map, slice_get, Some, true, IfErr, IfOk, IfSome, IsTrue, OnOk};
 ghost use Rattle.std.specs.List.{AllByRecursion};
 ghost use Rattle.desk_api.specs.History.{IsLegal, commits};
 ghost use Rattle.desk_api.specs.Calls.{first_seat, Calls, OnTold, EndsAtItsMarks};
 ghost use Rattle.desk_core.specs.Ports.{ports_there, ports_wanted};
-ghost use Rattle.desk_core.proofs.Props.{stands_prop};
 ghost use Rattle.desk_core.specs.Standing.{Stands, answer_of, base_of};
 ghost use Rattle.desk_core.specs.Subscribing.{IsNotBegunNow};
 ghost use Rattle.desk_hub.proofs.Props.{seat_prop};
@@ -12,6 +12,7 @@ ghost use Rattle.desk_hub.specs.Seats.{KeepsSeat};
 ghost use Rattle.group_view.specs.Puts.{MayBeDoneBy};
 ghost use Rattle.journal_core.proofs.Facts.{are_legal_prop, are_valid_prop};
 ghost use Rattle.journal_core.specs.Legality.{AreValid};
+ghost use Rattle.pvd_type.specs.contracts.set.BitSet as bits;
 ghost use Rattle.pvd_value.specs.Fits.{fits_of};
 ghost use Rattle.pvd_value.specs.View.{view};
 
@@ -43,7 +44,7 @@ pub struct SoloDesk<P> {
     /// Its seat, which takes no bytes: the history and the marks of its calls.
     pub log: Log,
     /// The history is the one that the desk keeps, the cells are its last states, and every entry is the desk's own.
-    pub ghost stands: { Stands (base_of terms) cells.states.items history log } by { stands_prop (base_of terms) cells.states.items history log },
+    pub ghost stands: { Stands (base_of terms) cells.states.items history log } by { Prim.hlevel (props, bits.the_row.coded) },
     /// The history is legal.
     ghost legal: { IsLegal log.seen } by { are_legal_prop log.seen.base.site.configs log.seen.base.site.opening (commits log.seen) },
     /// Each record is in a state that is valid for it.

@@ -33,14 +33,11 @@ begin-requires-clause-valid g c = let d = c.args.self.now in subst (AreValid d.t
 pub begin-requires-clause-size : goal.begin-requires-clause-size
 begin-requires-clause-size g c = c.requires.size
 
-pub invariant_of-self : goal.invariant_of-self
-invariant_of-self g c = let d = c.args.self.now in record { stands = d.stands; legal = d.legal; valid = d.valid; ported = d.ported; keeps = d.keeps }
-
 pub returns-in_default-clause-calls : goal.returns-in_default-clause-calls
 returns-in_default-clause-calls g c = unbegun_calls c.args.self.now.log c.args.self.now.legal c.args.channel c.args.mask.now c.args.size
 
-pub invariant_of-self-in-Ok-begin : goal.invariant_of-self-in-Ok-begin
-invariant_of-self-in-Ok-begin g c =
+pub invariant_of-self : goal.invariant_of-self
+invariant_of-self g c =
     let d = c.args.self.now in record {
       stands = begun_stands d.terms.site d.subs c.begin.new.subs c.in-Ok-begin.slot c.args.channel _ c.args.size _ (c.in-Ok-begin.ensures {u = tt}).starts c.args.mask.now (c.in-Ok.ensures {u = tt}) d.log c.note_begun.new.log (ap (λ (b : Base). b.site) d.stands.base_is) d.keeps (c.as_slice-cells.ensures.value ∙ d.stands.cells_are) d.legal c.note_begun.ensures d.stands;
       legal = begun_legal d.terms.site d.subs c.begin.new.subs c.in-Ok-begin.slot c.args.channel _ c.args.size _ (c.in-Ok-begin.ensures {u = tt}).starts c.args.mask.now (c.in-Ok.ensures {u = tt}) d.log c.note_begun.new.log (ap (λ (b : Base). b.site) d.stands.base_is) d.keeps (c.as_slice-cells.ensures.value ∙ d.stands.cells_are) d.legal c.note_begun.ensures;
