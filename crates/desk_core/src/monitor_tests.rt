@@ -139,6 +139,16 @@ impl Watched {
         }
     }
 
+    /// Takes all that is unread: so many updates, and at most 100.
+    fn drain(&mut self) -> u32 {
+        for taken in 0..100u32 {
+            if self.is_drained() {
+                return taken;
+            }
+        }
+        100
+    }
+
     /// Begins one more, or tells why not.
     fn next(&mut self, alloc: Global) -> Result<u32, Option<SubAnswer>> {
         next(alloc, &mut self.desk)
@@ -308,12 +318,7 @@ fn queued(alloc: Global, size: u32) -> Result<Option<u32>, NoMemory>
         return Ok(None);
     };
     let done = put_numbers(alloc, &mut desk, &FIVE);
-    let mut count = 0;
-    for _pop in 0..10 {
-        if !desk.is_drained() {
-            count += 1;
-        }
-    }
+    let count = desk.drain();
     discard(desk);
     if !done {
         return Ok(None);

@@ -34,12 +34,13 @@ use pvd_type::{BitSet, Name};
 use std::alloc::Global;
 use std::marker::Brand;
 
-/// The desk of a site that nobody else reads or writes, with the ports of its records. No call of it waits.
+/// The desk of a site that nobody else reads or writes, with the ports of its records and its subscriptions. No call of it waits.
 #[derive(Drop)]
 pub struct SoloDesk<P> {
     terms: Terms,
     history: History,
     cells: Cells<P>,
+    /// The living subscriptions.
     subs: Subscriptions<Channel>,
     /// Its seat, which takes no bytes: the history and the marks of its calls.
     pub log: Log,
@@ -70,7 +71,7 @@ impl<P: Port + Drop> SoloDesk<P> {
 
     /// A desk of this site, with a port for each record whose configuration says that it has one, each at its record's place
     /// (EPICS record reference, "DTYP", "OUT"). The entries may weigh no more than the limit together. The history is the
-    /// site's opening states with no entry, and the log is empty. No port is driven.
+    /// site's opening states with no entry, no subscription lives, and the log is empty. No port is driven.
     pub fn new(
         alloc: Global,
         site: Site,
@@ -128,7 +129,8 @@ impl<P: Port> SoloDesk<P> {
     ghost use Rattle.desk_core.specs.Desks.{ports_of};
     ghost use Rattle.desk_api.specs.Puts.{entries_by};
 
-    /// Adds the entry of these actions behind so many others of its put, and tells its place. All of its memory is taken before.
+    /// Adds the entry of these actions behind so many others of its put, and tells its place. All of its memory, and that of what it
+    /// posts, is taken before.
     fn put_entry(
         &mut self,
         alloc: Global,
