@@ -1,6 +1,6 @@
 -- What a desk that nobody shares keeps of its subscriptions.
-use Rattle.std.proofs.Common.{◌≡◌, ℕ, ◌≤◌, true, List, [], ◌∷◌, ◌++◌, length, Option, None, Some, Ok, Err, inl, inr, refl, sym, ◌∙◌, ap, subst, arith}
-use Rattle.std.specs.Prelude.{is_some, IfSome, OnErr}
+use Rattle.std.proofs.Common.{◌≡◌, ℕ, true, List, [], ◌∷◌, ◌++◌, length, Option, None, Some, Ok, Err, inr, refl, sym, ◌∙◌, ap, subst, arith}
+use Rattle.std.specs.Prelude.{is_some, IfSome}
 use Rattle.std.proofs.Math.Seq.{take-length}
 use Rattle.std.proofs.lemmas.List.{append-nil}
 use Rattle.std.specs.FinSet.{FinSet}
@@ -25,7 +25,7 @@ use Rattle.mon_shown.specs.declared.watching.Watching.{Watching}
 use Rattle.desk_api.specs.History.{History, Item, roll, state_at, IsLegal}
 use Rattle.desk_api.specs.Living.{Living, living, lives}
 use Rattle.desk_api.specs.Marks.{deed_of, IsTrueBegun, IsTrueCrowded, IsTrueDropped, IsTruePopped}
-use Rattle.desk_api.specs.Calls.{Adds, Calls, AreSubscribe, IsEnding, IsPop, FitsSubscribed, EndsAtItsMarks, EndsAtLastMark, OnSubscribed, TellsCrowd, first_seat, now, with_mark}
+use Rattle.desk_api.specs.Calls.{Calls, AreSubscribe, IsEnding, IsPop, FitsSubscribed, EndsAtItsMarks, EndsAtLastMark, OnSubscribed, TellsCrowd, now, with_mark}
 use Rattle.desk_api.specs.Triggers.{channel_view, may_be_watched}
 use Rattle.desk_api.specs.Types.{type_of}
 use Rattle.desk_api.proofs.Adding.{adds_nothing, as_many}
@@ -33,13 +33,13 @@ use Rattle.desk_api.specs.declared.channel.Channel.{Channel}
 use Rattle.desk_api.specs.declared.history.Base.{Base}
 use Rattle.desk_api.specs.declared.history.SiteData.{SiteData}
 use Rattle.desk_api.specs.declared.mark.Mark.{Mark}
-use Rattle.desk_api.specs.declared.mark.Mark.TheVariants.{Entered, Overweight, Begun, Crowded, Popped, Dropped}
+use Rattle.desk_api.specs.declared.mark.Mark.TheVariants.{Entered, Overweight, Begun, Popped, Dropped}
 use Rattle.desk_api.specs.declared.mark.Seat.{Seat}
 use Rattle.desk_api.specs.declared.put.PutAnswer.{PutAnswer}
 use Rattle.desk_api.specs.declared.put.PutAnswer.TheVariants as put_answers
 use Rattle.desk_api.specs.declared.sub.SubAnswer.{SubAnswer}
 use Rattle.desk_api.specs.declared.sub.SubAnswer.TheVariants as answers
-use Rattle.desk_hub.specs.Seats.{Subs, has_slot, is_holder, only, own_slot, IsAside, IsTyped, KeepsSeat, KeepsSlot, SlotsStand}
+use Rattle.desk_hub.specs.Seats.{Subs, has_slot, only, IsAside, IsTyped, KeepsSeat, KeepsSlot}
 use Rattle.desk_hub.specs.Seats as hub
 use Rattle.desk_hub.specs.Steps.{Commits, Ends, KeepsAll, Pops, Posts, Starts, StartsNot}
 use Rattle.desk_core.specs.Begun.{Enters}

@@ -1,5 +1,5 @@
 -- The marks of subscriptions, on a desk that nobody shares.
-use Rattle.std.specs.Prelude.{◌≡◌, ℕ, List, length, Option}
+use Rattle.std.specs.Prelude.{◌≡◌, ℕ, length, Option}
 use Rattle.std.specs.FinSet.{FinSet}
 use Rattle.std.specs.Ordering.{nat_cmp}
 use Rattle.mon_queue.specs.declared.update.Update.{Update}

@@ -1,4 +1,4 @@
-use Rattle.std.proofs.Common.{Ok, Err, Some}
+use Rattle.std.proofs.Common.{Ok, Err}
 use Rattle.desk_core.proofs.Lived.{begun_lives, still_lives}
 use Rattle.desk_core.proofs.monitor_tests.begun.Goals as goal
 

@@ -1,4 +1,5 @@
 use Rattle.std.proofs.Common.{refl, sym, subst, ◌∙◌}
+use Rattle.desk_api.specs.Calls.{first_seat}
 use Rattle.journal_core.specs.Legality.{AreValid}
 use Rattle.desk_core.proofs.Keeping.{Kept}
 use Rattle.desk_core.proofs.Soloing.{first_stands, first_legal}
@@ -12,5 +13,5 @@ invariant_of-result g c =
       legal = first_legal _ _ c.in-Ok.ensures;
       ported = c.requires;
       valid = subst (AreValid c.args.site.configs) (sym cells) (c.in_ok-states.ensures {u = tt}).valid;
-      keeps = subst (Kept c.new-subs.result) (sym c.in-Ok.ensures) (c.a_new_desk_keeps.ensures _ c.new-subs.result 0 refl (c.new-subs.ensures.stand _ _) c.new-subs.ensures.none);
+      keeps = subst (Kept c.new-subs.result) (sym c.in-Ok.ensures) (c.a_new_desk_keeps.ensures (first_seat (record { site = c.args.site; limit = c.args.limit })).seen c.new-subs.result 0 refl (c.new-subs.ensures.stand _ _) c.new-subs.ensures.none);
     }

@@ -1,13 +1,11 @@
-use Rattle.std.proofs.Common.{◌≡◌, List, Ok, Err, sym, subst, ap, ◌∙◌}
+use Rattle.std.proofs.Common.{sym, subst, ap, ◌∙◌}
 use Rattle.std.specs.FinSet.{FinSet}
 use Rattle.std.specs.Ordering.{nat_cmp}
-use Rattle.rec_kinds.specs.declared.state.RecState.{RecState}
 use Rattle.journal_core.specs.Legality.{AreValid}
 use Rattle.desk_api.specs.History.{History, IsLegal}
 use Rattle.desk_api.specs.Triggers.{may_be_watched}
 use Rattle.desk_api.specs.Types.{HoldsLeaves, type_of}
 use Rattle.desk_api.specs.declared.history.Base.{Base}
-use Rattle.desk_hub.specs.Steps.{Starts}
 use Rattle.desk_core.proofs.Keeping.{begun_base, begun_calls, begun_ends, begun_kept, begun_legal, begun_stands, kept_stand, left_calls, left_crowded, left_ends, left_kept, left_seen, left_stands, stand_there, unbegun_calls}
 use Rattle.desk_core.proofs.solo.SoloDeskDesk.subscribe.Goals as goal
 
