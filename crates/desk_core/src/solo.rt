@@ -272,7 +272,8 @@ impl<P: Port> SoloDesk<P> {
         entries_write_inside();
         looks_show_states();
         marks_keep();
-        let site = &self.terms.site;
+        let terms = &self.terms;
+        let site = &terms.site;
         names_and_configs(site);
         groups_over_records(site);
         let Ok(drafted) = self
@@ -286,7 +287,7 @@ impl<P: Port> SoloDesk<P> {
         let (entry, value) = drafted;
         match enter(
             alloc,
-            &self.terms,
+            terms,
             &mut self.history,
             &mut self.log,
             &mut self.subs,
