@@ -1,5 +1,5 @@
 -- What a desk that nobody shares keeps of its subscriptions.
-use Rattle.std.proofs.Common.{◌≡◌, ℕ, true, List, [], ◌∷◌, ◌++◌, length, Option, None, Some, Ok, Err, inr, refl, sym, ◌∙◌, ap, subst, arith}
+use Rattle.std.proofs.Common.{length-append, ◌≡◌, ℕ, ◌+◌, true, List, [], ◌∷◌, ◌++◌, length, Option, None, Some, Ok, Err, inr, refl, sym, ◌∙◌, ap, subst, arith}
 use Rattle.std.specs.Prelude.{is_some, IfSome}
 use Rattle.std.proofs.Math.Seq.{take-length}
 use Rattle.std.proofs.lemmas.List.{append-nil}
@@ -25,7 +25,7 @@ use Rattle.mon_shown.specs.declared.watching.Watching.{Watching}
 use Rattle.desk_api.specs.History.{History, Item, roll, state_at, IsLegal}
 use Rattle.desk_api.specs.Living.{Living, living, lives}
 use Rattle.desk_api.specs.Marks.{deed_of, IsTrueBegun, IsTrueCrowded, IsTrueDropped, IsTruePopped}
-use Rattle.desk_api.specs.Calls.{Calls, AreSubscribe, IsEnding, IsPop, FitsSubscribed, EndsAtItsMarks, EndsAtLastMark, OnSubscribed, TellsCrowd, now, with_mark}
+use Rattle.desk_api.specs.Calls.{Calls, AreSubscribe, IsEnding, IsPop, FitsSubscribed, EndsAtItsMarks, EndsAtLastMark, OnSubscribed, EndsAtLastRoll, now, with_mark}
 use Rattle.desk_api.specs.Triggers.{channel_view, may_be_watched}
 use Rattle.desk_api.specs.Types.{type_of}
 use Rattle.desk_api.proofs.Adding.{adds_nothing, as_many}
@@ -109,6 +109,10 @@ module _ (keep : MarksKeep) (subs more : Subs) (same : more ≡ subs) (entry : E
         subst (Kept subs) (sym e.marked) (aside_kept keep subs s (λ at. Overweight at entry.footprint entry.actions kept_ weight_ limit_) refl (λ slot o. refl) k)
     left (put_answers.NoMemory done_) e = subst (Kept subs) (sym e.unmarked) k
 
+-- the roll of one item more is one longer
+longer : {A : Type 0} (xs ys : List A) (x : A) → ys ≡ xs ++ x ∷ [] → length xs + 1 ≡ length ys
+longer xs ys x is = sym (ap (λ (z : List _). length z) is ∙ length-append xs (x ∷ []))
+
 -- ---- a beginning
 
 module _ (site : SiteData) (subs more : Subs) (slot : ℕ) (channel : Channel) (requested : FinSet nat_cmp) (size : ℕ) (states : List RecState) (starts : Starts site subs slot channel requested size states more) (mask : FinSet nat_cmp)
@@ -141,6 +145,14 @@ module _ (site : SiteData) (subs more : Subs) (slot : ℕ) (channel : Channel) (
 
   pub begun_ends : EndsAtItsMarks s t
   begun_ends = inr (subst EndsAtLastMark (sym marked) (item_ends s begins item refl refl))
+
+  pub begun_rolled : EndsAtLastRoll t
+  begun_rolled = subst EndsAtLastRoll (sym marked) (record {
+    before = s.log;
+    mark = begins (now s);
+    log_is = refl;
+    roll_is = ap (λ (n : ℕ). Some n) (longer (roll s.seen) (roll begun.seen) (s.number, item) (item_rolls s begins item refl).roll_is);
+  })
 
   pub begun_legal : IsLegal t.seen
   begun_legal = subst (λ (z : Seat). IsLegal z.seen) (sym marked) (item_legal s begins item refl legal)
@@ -187,16 +199,15 @@ module _ (keep : MarksKeep) (subs more : Subs) (s t : Seat) (k : Kept subs s) (s
   left_calls channel mask size NoMemory answer n a =
       subst (λ (z : Seat × SubAnswer). Calls s z.0 (AreSubscribe channel mask size (Err z.1))) (λ i. (sym a.1 i, sym a.0 i)) (record { marks = []; adds = adds_nothing s legal; named = refl })
 
-  pub left_crowded : (cause : NotBegun) (answer : SubAnswer) → IsNotBegunNow s t cause answer → TellsCrowd t answer
-  left_crowded TooMany answer a =
-      subst (λ (z : Seat × SubAnswer). TellsCrowd z.0 z.1) (λ i. (sym a.1 i, sym a.0 i)) (record {
+  pub left_rolled : (cause : NotBegun) (answer : SubAnswer) → IsNotBegunNow s t cause answer → OnSubscribed (Err answer) (EndsAtLastRoll t)
+  left_rolled TooMany answer a =
+      subst (λ (z : Seat × SubAnswer). OnSubscribed (Err z.1) (EndsAtLastRoll z.0)) (λ i. (sym a.1 i, sym a.0 i)) (record {
         before = s.log;
-        at = now s;
-        index = length (roll s.seen);
+        mark = crowds (now s);
         log_is = refl;
-        roll_is = ap (λ (h : History). length (roll h)) (sym (same_seen s crowds refl));
+        roll_is = ap (λ (h : History). Some (length (roll h))) (sym (same_seen s crowds refl));
       })
-  left_crowded NoMemory answer a = subst (TellsCrowd t) (sym a.0) tt
+  left_rolled NoMemory answer a = subst (λ (z : SubAnswer). OnSubscribed (Err z) (EndsAtLastRoll t)) (sym a.0) tt
 
   pub left_ends : (cause : NotBegun) (answer : SubAnswer) → IsNotBegunNow s t cause answer → OnSubscribed (Err answer) (EndsAtItsMarks s t)
   left_ends TooMany answer a = subst (λ (z : Seat × SubAnswer). OnSubscribed (Err z.1) (EndsAtItsMarks s z.0)) (λ i. (sym a.1 i, sym a.0 i)) (inr (looks_end s crowds refl refl))
@@ -294,6 +305,14 @@ module _ (site : SiteData) (subs more : Subs) (slot : ℕ) (ends : Ends site sub
 
   pub ended_ends : EndsAtItsMarks s t
   ended_ends = inr (subst EndsAtLastMark (sym marked) (item_ends s drops end refl refl))
+
+  pub ended_rolled : EndsAtLastRoll t
+  ended_rolled = subst EndsAtLastRoll (sym marked) (record {
+    before = s.log;
+    mark = drops (now s);
+    log_is = refl;
+    roll_is = ap (λ (n : ℕ). Some n) (longer (roll s.seen) (roll left.seen) (s.number, end) (item_rolls s drops end refl).roll_is);
+  })
 
   pub ended_legal : IsLegal t.seen
   ended_legal = subst (λ (z : Seat). IsLegal z.seen) (sym marked) (item_legal s drops end refl legal)

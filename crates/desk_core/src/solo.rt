@@ -1,6 +1,6 @@
 // A desk that nobody shares.
 ghost use Rattle.std.proofs.Props.{props};
-ghost use Rattle.std.specs.Prelude.{◌≡◌, ◌<◌, ◌≤◌, [], ◌∷◌, false, length, map, option_map, slice_get, Some, true, IfErr, IfOk, IfSome, IsTrue, OnOk};
+ghost use Rattle.std.specs.Prelude.{◌≡◌, ◌<◌, ◌≤◌, [], ◌∷◌, false, length, map, option_map, slice_get, Some, true, IfOk, IfSome, IsTrue, OnOk};
 ghost use Rattle.std.specs.List.{AllByRecursion};
 ghost use Rattle.desk_api.specs.History.{IsLegal, commits};
 ghost use Rattle.desk_api.specs.Calls.{first_seat, Calls, OnTold, EndsAtItsMarks};
@@ -337,7 +337,7 @@ impl<P: Port> SoloDesk<P> {
 }
 
 impl<P: Port> Desk for SoloDesk<P> {
-    ghost use Rattle.desk_api.specs.Calls.{AreGet, ArePut, ArePutGet, AreSnapshot, AreSubscribe, FitsSubscribed, IsEnding, IsPop, OnSubscribed, TellsCrowd, now};
+    ghost use Rattle.desk_api.specs.Calls.{AreGet, ArePut, ArePutGet, AreSnapshot, AreSubscribe, FitsSubscribed, IsEnding, IsPop, OnSubscribed, EndsAtLastRoll, now};
     ghost use Rattle.desk_api.specs.Living.{lives};
     ghost use Rattle.desk_api.specs.Sites as sites;
     ghost use Rattle.desk_api.specs.Triggers.{may_be_watched};
@@ -490,7 +490,7 @@ impl<P: Port> Desk for SoloDesk<P> {
         requires leaves { types.HoldsLeaves (types.type_of self.old.log.seen.base.site channel) mask.now }
         requires size { (1 ≤ size) × (size ≤ 64) }
         ensures calls { Calls self.old.log self.new.log (AreSubscribe channel mask.now size result) }
-        ensures crowded { IfErr result (TellsCrowd self.new.log) }
+        ensures rolled { OnSubscribed result (EndsAtLastRoll self.new.log) }
         ensures ends { OnSubscribed result (EndsAtItsMarks self.old.log self.new.log) }
         ensures base { self.new.log.seen.base ≡ self.old.log.seen.base }
         ensures ports { ports_of P.port self.new ≡ ports_of P.port self.old }
@@ -538,6 +538,7 @@ impl<P: Port> Desk for SoloDesk<P> {
     fn unsubscribe(&mut self, sub: Sub)
         requires { lives self.old.log.log sub.slot ≡ true }
         ensures calls { Calls self.old.log self.new.log (IsEnding sub.slot) }
+        ensures rolled { EndsAtLastRoll self.new.log }
         ensures ends { EndsAtItsMarks self.old.log self.new.log }
         ensures base { self.new.log.seen.base ≡ self.old.log.seen.base }
         ensures ports { ports_of P.port self.new ≡ ports_of P.port self.old }

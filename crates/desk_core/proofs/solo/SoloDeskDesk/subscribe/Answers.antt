@@ -6,7 +6,7 @@ use Rattle.desk_api.specs.History.{History, IsLegal}
 use Rattle.desk_api.specs.Triggers.{may_be_watched}
 use Rattle.desk_api.specs.Types.{HoldsLeaves, type_of}
 use Rattle.desk_api.specs.declared.history.Base.{Base}
-use Rattle.desk_core.proofs.Keeping.{begun_base, begun_calls, begun_ends, begun_kept, begun_legal, begun_stands, kept_stand, left_calls, left_crowded, left_ends, left_kept, left_seen, left_stands, stand_there, unbegun_calls}
+use Rattle.desk_core.proofs.Keeping.{begun_base, begun_calls, begun_ends, begun_kept, begun_legal, begun_rolled, begun_stands, kept_stand, left_calls, left_ends, left_kept, left_rolled, left_seen, left_stands, stand_there, unbegun_calls}
 use Rattle.desk_core.proofs.solo.SoloDeskDesk.subscribe.Goals as goal
 
 pub begin-requires-clause-stand : goal.begin-requires-clause-stand
@@ -50,6 +50,9 @@ returns-in-Ok-begin-clause-calls g c = let d = c.args.self.now in begun_calls d.
 pub returns-in-Ok-begin-clause-ends : goal.returns-in-Ok-begin-clause-ends
 returns-in-Ok-begin-clause-ends g c = let d = c.args.self.now in begun_ends d.terms.site d.subs c.begin.new.subs c.in-Ok-begin.slot c.args.channel _ c.args.size _ (c.in-Ok-begin.ensures {u = tt}).starts c.args.mask.now (c.in-Ok.ensures {u = tt}) d.log c.note_begun.new.log (ap (λ (b : Base). b.site) d.stands.base_is) d.keeps (c.as_slice-cells.ensures.value ∙ d.stands.cells_are) d.legal c.note_begun.ensures
 
+pub returns-in-Ok-begin-clause-rolled : goal.returns-in-Ok-begin-clause-rolled
+returns-in-Ok-begin-clause-rolled g c = let d = c.args.self.now in begun_rolled d.terms.site d.subs c.begin.new.subs c.in-Ok-begin.slot c.args.channel _ c.args.size _ (c.in-Ok-begin.ensures {u = tt}).starts c.args.mask.now (c.in-Ok.ensures {u = tt}) d.log c.note_begun.new.log (ap (λ (b : Base). b.site) d.stands.base_is) d.keeps (c.as_slice-cells.ensures.value ∙ d.stands.cells_are) d.legal c.note_begun.ensures
+
 pub returns-in-Ok-begin-clause-base : goal.returns-in-Ok-begin-clause-base
 returns-in-Ok-begin-clause-base g c = let d = c.args.self.now in begun_base d.terms.site d.subs c.begin.new.subs c.in-Ok-begin.slot c.args.channel _ c.args.size _ (c.in-Ok-begin.ensures {u = tt}).starts c.args.mask.now (c.in-Ok.ensures {u = tt}) d.log c.note_begun.new.log (ap (λ (b : Base). b.site) d.stands.base_is) d.keeps (c.as_slice-cells.ensures.value ∙ d.stands.cells_are) d.legal c.note_begun.ensures
 
@@ -72,5 +75,5 @@ returns-in-Err-clause-ends g c = let d = c.args.self.now in left_ends c.marks_ke
 pub returns-in-Err-clause-base : goal.returns-in-Err-clause-base
 returns-in-Err-clause-base g c = let d = c.args.self.now in ap (λ (h : History). h.base) (left_seen c.marks_keep.ensures d.subs c.begin.new.subs d.log c.not_begun.new.log d.keeps (stand_there d.terms.site c.begin.new.subs d.log (ap (λ (b : Base). b.site) d.stands.base_is) (c.in-Err.ensures {u = tt}).stand) d.legal c.in-Err.cause c.not_begun.result c.not_begun.ensures)
 
-pub returns-in-Err-clause-crowded : goal.returns-in-Err-clause-crowded
-returns-in-Err-clause-crowded g c = let d = c.args.self.now in left_crowded c.marks_keep.ensures d.subs c.begin.new.subs d.log c.not_begun.new.log d.keeps (stand_there d.terms.site c.begin.new.subs d.log (ap (λ (b : Base). b.site) d.stands.base_is) (c.in-Err.ensures {u = tt}).stand) d.legal c.in-Err.cause c.not_begun.result c.not_begun.ensures
+pub returns-in-Err-clause-rolled : goal.returns-in-Err-clause-rolled
+returns-in-Err-clause-rolled g c = let d = c.args.self.now in left_rolled c.marks_keep.ensures d.subs c.begin.new.subs d.log c.not_begun.new.log d.keeps (stand_there d.terms.site c.begin.new.subs d.log (ap (λ (b : Base). b.site) d.stands.base_is) (c.in-Err.ensures {u = tt}).stand) d.legal c.in-Err.cause c.not_begun.result c.not_begun.ensures

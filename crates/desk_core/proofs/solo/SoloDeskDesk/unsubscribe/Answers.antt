@@ -1,6 +1,6 @@
 use Rattle.std.proofs.Common.{ap}
 use Rattle.desk_api.specs.declared.history.Base.{Base}
-use Rattle.desk_core.proofs.Keeping.{ended_base, ended_calls, ended_ends, ended_kept, ended_legal, ended_stands, kept_stand}
+use Rattle.desk_core.proofs.Keeping.{ended_base, ended_calls, ended_ends, ended_kept, ended_legal, ended_rolled, ended_stands, kept_stand}
 use Rattle.desk_core.proofs.solo.SoloDeskDesk.unsubscribe.Goals as goal
 
 pub end-requires : goal.end-requires
@@ -33,3 +33,8 @@ pub returns-clause-base : goal.returns-clause-base
 returns-clause-base g c =
     let d = c.args.self.now in
     ended_base d.terms.site d.subs c.end.new.subs c.args.sub.slot c.end.ensures.ends d.log c.note_dropped.new.log (ap (λ (b : Base). b.site) d.stands.base_is) d.keeps c.requires d.legal c.note_dropped.ensures
+
+pub returns-clause-rolled : goal.returns-clause-rolled
+returns-clause-rolled g c =
+    let d = c.args.self.now in
+    ended_rolled d.terms.site d.subs c.end.new.subs c.args.sub.slot c.end.ensures.ends d.log c.note_dropped.new.log (ap (λ (b : Base). b.site) d.stands.base_is) d.keeps c.requires d.legal c.note_dropped.ensures
