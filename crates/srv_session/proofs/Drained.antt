@@ -9,7 +9,7 @@ use Rattle.desk_api.specs.declared.history.SiteData.{SiteData}
 use Rattle.desk_api.specs.declared.mark.Mark.{Mark}
 use Rattle.srv_session.specs.State.{State, Requests, Asked, is_due, due}
 use Rattle.srv_session.specs.Replies.{Sent}
-use Rattle.srv_session.specs.Steps.{Step, hears, pops, PopRow, IsPopOf, update_sent, after_pop, AreSteps, state_after, last_pop, IsEmptyPop, IsDrained}
+use Rattle.srv_session.specs.Steps.{Step, hears, pops, PopRow, IsPopOf, update_sent, after_pop, AreSteps, state_after, last_pop, IsEmptyPop, IsDrained, events_of}
 use Rattle.srv_session.specs.Calls.{ArePopsOf, is_some_sent, sends}
 use Rattle.srv_session.proofs.Owning.{Has, has_key}
 use Rattle.srv_session.proofs.Steps.{after_append}
@@ -69,6 +69,15 @@ are_quiet site s (r ∷ reqs) (pops req marks sent ∷ xs) are rules none =
         let test : (req == k) ≡ true = grind (arith, nat_tests) in
         rest.stays k (cond (req == k) (Some marks) o) (subst (λ (b : Bool). IsEmptyPop (cond b (Some marks) o)) (sym test) q.empty)
     first q rest k o (inr h) = rest.each k (cond (req == k) (Some marks) o) h
+
+-- Pops are no events.
+
+pub popped_events : (reqs : List ℕ) (xs : List Step) → ArePopsOf reqs xs → events_of xs ≡ []
+popped_events [] [] are = refl
+popped_events [] (x ∷ xs) are = absurd are
+popped_events (r ∷ reqs) [] are = absurd are
+popped_events (r ∷ reqs) (hears e marks sent ∷ xs) are = absurd are
+popped_events (r ∷ reqs) (pops req marks sent ∷ xs) are = popped_events reqs xs are.1
 
 -- Which requests are due.
 
