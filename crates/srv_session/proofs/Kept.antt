@@ -1,5 +1,5 @@
 -- A session keeps its subscriptions.
-use Rattle.std.proofs.Common.{◌≡◌, ◌≢◌, ◌==◌, ℕ, Bool, true, false, not, ◌||◌, cond, List, [], ◌∷◌, ◌++◌, Option, None, Some, Result, Ok, Err, refl, sym, ◌∙◌, ap, subst, arith, append_assoc, inl, inr}
+use Rattle.std.proofs.Common.{◌≡◌, ◌≢◌, ◌==◌, ℕ, Bool, true, false, ◌||◌, cond, List, [], ◌∷◌, ◌++◌, Option, None, Some, Result, Ok, Err, refl, sym, ◌∙◌, ap, subst, arith, append_assoc, inl, inr}
 use Rattle.std.specs.Prelude.{◌⊎◌, is_some, option_map, OnOk}
 use Rattle.std.specs.FinMap.{get as at, insert, remove, keys, get-empty, get-retain_keys, nat_cmp-IsAntisymmetric}
 use Rattle.std.specs.FinSet.{FinSet}
@@ -12,21 +12,18 @@ use Rattle.std.proofs.lemmas.Option.{none-some}
 use Rattle.pva_wire.specs.declared.order.Order.{Order}
 use Rattle.pva_messages.specs.Subcommands.{ends}
 use Rattle.pvd_desc.specs.Types.{Types}
-use Rattle.pvd_value.specs.Data.{Data}
 use Rattle.pvd_value.specs.declared.value.PvValue.{PvValue}
 use Rattle.pvd_request.specs.declared.request.Request.{Request as Wanted}
 use Rattle.rec_kinds.specs.declared.datum.Action.{Action}
 use Rattle.mon_queue.specs.declared.update.Update.{Update}
 use Rattle.histories.specs.History.{AllTrue}
 use Rattle.histories.proofs.Judged.{true_weaken, true_front, true_back}
-use Rattle.chan_table.specs.declared.ask.AskKind.{AskKind}
-use Rattle.chan_table.specs.declared.ask.AskKind.TheVariants as kinds
 use Rattle.desk_api.specs.Calls as calls
-use Rattle.desk_api.specs.Calls.{AreLooks, AreAdded, IsGet, IsPartOfGet, ArePut, ArePutGetBy, AreSubscribe, IsEnding, looks_of}
+use Rattle.desk_api.specs.Calls.{AreLooks, AreAdded, ArePut, ArePutGetBy, AreSubscribe, IsEnding, looks_of}
 use Rattle.desk_api.specs.History.{History}
-use Rattle.desk_api.specs.Living.{Living, living, lives, living_with, living_after, popped_too}
+use Rattle.desk_api.specs.Living.{Living, living, lives, living_after, popped_too}
 use Rattle.desk_api.specs.Marks.{IsTrueIn, AllHold}
-use Rattle.desk_api.specs.Sites.{is_atomic, channel_named}
+use Rattle.desk_api.specs.Sites.{is_atomic}
 use Rattle.desk_api.specs.declared.channel.Channel.{Channel}
 use Rattle.desk_api.specs.declared.history.SiteData.{SiteData}
 use Rattle.desk_api.specs.declared.mark.Mark.{Mark}
@@ -40,8 +37,8 @@ use Rattle.desk_api.specs.declared.sub.SubAnswer.TheVariants as sub_answers
 use Rattle.srv_session.specs.State.{State, Channels, Requests, Asked, channel_at, is_on, on_only, without_channel, slot_of_sub, slot_of, slots_of, opening}
 use Rattle.srv_session.specs.Tasks.{Task, pass_over, echo_control, refuse, tell, validate, echo, create, destroy_channel, begin, get, put, put_get, respond, snapshot, subscribe, steer, destroy_request, Hearing, asks, unreadable, over_range, heard}
 use Rattle.srv_session.specs.Replies.{Sent}
-use Rattle.srv_session.specs.Rows.{Says, Row, Part, NoPart, AreEndingsOf, EndingsPart, subscribed, subscribed_reply, ask_of, monitor_of, steered, behind, after_task, left_by, all_opened}
-use Rattle.srv_session.specs.Steps.{Step, hears, pops, knowing, IsAnswer, PopRow, IsPopOf, PopPart, PartOf, IsFreeBegun, IsStep, AreSteps, one_sent, with_sent, after_pop, after_hearing, after_event, after_step, left_by_hearing, state_after, marks_in, marks_of}
+use Rattle.srv_session.specs.Rows.{Says, Row, Part, NoPart, AreEndingsOf, subscribed, ask_of, monitor_of, steered, behind, after_task, left_by, all_opened}
+use Rattle.srv_session.specs.Steps.{Step, hears, pops, knowing, IsAnswer, IsPopOf, PopPart, PartOf, IsFreeBegun, IsStep, AreSteps, one_sent, with_sent, after_pop, after_hearing, after_step, left_by_hearing, state_after, marks_in, marks_of}
 use Rattle.srv_session.specs.Calls.{IsHeld, Holds, AreLiving, ArePopsOf, Shown, site_of, Heeds, Handles, Pumps}
 use Rattle.srv_session.specs.declared.stop.SessionStop.{SessionStop}
 use Rattle.srv_session.specs.declared.stop.SessionStop.TheVariants as stops
@@ -49,8 +46,8 @@ use Rattle.pva_frames.specs.declared.event.Event.{Event}
 use Rattle.pvd_type.specs.declared.memory.NoMemory.{NoMemory}
 use Rattle.desk_api.specs.declared.mark.Seat.{Seat}
 use Rattle.journal_core.specs.Moments.{Moment}
-use Rattle.srv_session.proofs.Owning.{AllPlain, plain_append, living_plain, living_append, Has, unended, Owns, OwnsAmong, owner, owner_here, owner_among, has_not, keys_once, NoneTwice}
-use Rattle.srv_session.proofs.OnSite.{IsTaskOf, IsPlain, IsHeardOf, heard_so, knows, all_stay}
+use Rattle.srv_session.proofs.Owning.{AllPlain, plain_append, living_plain, living_append, Has, unended, OwnsAmong, owner, owner_here, owner_among, has_not, keys_once, NoneTwice}
+use Rattle.srv_session.proofs.OnSite.{IsTaskOf, IsHeardOf, heard_so, knows, all_stay}
 use Rattle.srv_session.proofs.Tables.{same_or_not, got_inserted, got_beside, got_removed, got_left, left_beside, stays_elsewhere}
 
 -- Rows without monitors make plain marks.

@@ -5,7 +5,10 @@ pub mod Rising
 pub mod Rows
 pub mod OnSite
 pub mod Kept
+pub mod Covered
+pub mod Windowed
 pub mod Steps
+pub mod Drained
 pub mod Pops
 pub mod Determined
 pub mod Replying

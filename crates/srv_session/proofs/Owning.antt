@@ -83,6 +83,15 @@ has_any n (x ∷ xs) is = by_test (x == n) refl (λ e. has_any n xs e) is
     by_test true test rest e = let same : x ≡ n = grind (arith, nat_tests) in inl same
     by_test false test rest e = inr (rest e)
 
+pub any_has : (n : ℕ) (xs : List ℕ) → Has n xs → list_any (λ x. x == n) xs ≡ true
+any_has n [] h = absurd h
+any_has n (x ∷ xs) (inl same) = let test : (x == n) ≡ true = grind (arith, nat_tests) in ap (λ (b : Bool). b || list_any (λ y. y == n) xs) test
+any_has n (x ∷ xs) (inr h) = by_test (x == n) (any_has n xs h)
+  where
+    by_test : (b : Bool) → list_any (λ y. y == n) xs ≡ true → (b || list_any (λ y. y == n) xs) ≡ true
+    by_test true e = refl
+    by_test false e = e
+
 pub has_not : (n : ℕ) (xs : List ℕ) → (Has n xs → ⊥) → list_any (λ x. x == n) xs ≡ false
 has_not n xs none = by_test (list_any (λ x. x == n) xs) refl
   where
