@@ -1,12 +1,13 @@
 -- Pops, and pumps, which are pops of all monitors that are due.
 use Rattle.std.proofs.Common.{◌≡◌, ◌≢◌, ◌==◌, ℕ, zero, suc, ◌+◌, ◌-◌, ◌<◌, Bool, true, false, ◌&&◌, ◌||◌, not, cond, List, [], ◌∷◌, ◌++◌, drop, length, Option, None, Some, Result, Ok, Err, refl, sym, ◌∙◌, ap, subst, arith, inl, inr, append_assoc}
-use Rattle.std.specs.Prelude.{◌⊎◌, IsTrue, is_some, nat_lt}
+use Rattle.std.specs.Prelude.{◌⊎◌, IsErr, IsTrue, get_or, is_some, nat_lt}
 use Rattle.std.specs.List.{filter, list_all, list_any}
 use Rattle.std.specs.FinMap.{get as at, insert}
 use Rattle.std.proofs.lemmas.Bool.{false≢true}
 use Rattle.std.proofs.lemmas.Bool.Decides.{nat_tests}
 use Rattle.std.proofs.lemmas.Option.{none-some}
-use Rattle.std.proofs.lemmas.List.{append-nil}
+use Rattle.std.proofs.Math.ListN.{drop_of_length-le}
+use Rattle.std.proofs.lemmas.List.{append-nil, at_drop_more}
 use Rattle.pvd_type.specs.Tree.{Tree}
 use Rattle.pvd_type.specs.declared.memory.NoMemory.{NoMemory}
 use Rattle.mon_queue.specs.Told.{IsUpdateOf}
@@ -29,7 +30,7 @@ use Rattle.srv_session.specs.Rising.{is_rising}
 use Rattle.srv_session.specs.Steps.{Step, hears, pops, IsDue, IsPopOf, PopRow, PopPart, one_sent, with_sent, after_pop, after_step, AreSteps, state_after, marks_of, sent_in, out_of, update_sent}
 use Rattle.srv_session.specs.Calls.{IsOf, IsHeld, Holds, ArePopsOf, is_some_sent, sends, Pumps, Pumped, PumpedSome, PumpStopped}
 use Rattle.srv_session.specs.Views.{state_of, output_of, show}
-use Rattle.srv_session.specs.Watching.{HasPopped, HasFailed, PopsDue, Idles, SendsUpdate}
+use Rattle.srv_session.specs.Watching.{HasPopped, HasFailed, Pops, PopsDue, Idles, SendsUpdate}
 use Rattle.srv_session.specs.declared.session.Session.{Session}
 use Rattle.srv_session.proofs.Tables.{got_beside}
 use Rattle.srv_session.proofs.Slots.{slots_insert}
@@ -391,3 +392,21 @@ module _ (here there : Seat) (old : Session) (req : ℕ) (ask : Asked) (channel 
 
 pub nothing_popped : (here : Seat) (old : Session) → IsLegal here.seen → HasFailed here here old old
 nothing_popped here old legal = record { next = []; next_is = inl refl; adds = adds_nothing here legal; subscribed = refl; output = refl }
+
+-- a call that failed
+pub pops_failed : (here there : Seat) (old new : Session) (req : ℕ) (before : Bool) (result : Result Bool NoMemory) → IsErr result → HasFailed here there old new → Pops here there old new req before result
+pops_failed here there old new req before (Ok more) is f = absurd (false≢true is)
+pops_failed here there old new req before (Err e) is f = f
+
+pub sends_failed : (old new : Session) (req : ℕ) (ty : Tree) (update : Update) (result : Result (Unit {0}) NoMemory) → IsErr result → output_of new ≡ output_of old → state_of new ≡ state_of old → SendsUpdate old new req ty update result
+sends_failed old new req ty update (Ok u) is same state = absurd (false≢true is)
+sends_failed old new req ty update (Err e) is same state = (same, state)
+
+-- the next id, in a list that is still as it was
+pub next_id : (items ids : List ℕ) → items ≡ ids → (i x : ℕ) → x ≡ get_or items i x → i < length ids → drop i ids ≡ x ∷ drop (i + 1) ids
+next_id items ids same i x is lt =
+    at_drop_more (λ (l : List ℕ). l) ids i x lt ∙ ap (λ (y : ℕ). y ∷ drop (i + 1) ids) (sym (is ∙ ap (λ (l : List ℕ). get_or l i x) same))
+
+-- none is left behind the last
+pub none_behind : (i : ℕ) (ids : List ℕ) → length ids ≤ i → drop i ids ≡ []
+none_behind i ids le = drop_of_length-le ids le

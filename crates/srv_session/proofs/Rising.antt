@@ -379,22 +379,10 @@ listed_with ids m k v listed =
 
 -- The search for a place.
 
-module _ (id : ℕ) (ids : List ℕ) (i : ℕ) (lt : i < length ids) where
-  pub place_goes_on : nat_lt (get_or ids i 0) id ≡ true → (i + 1) + prefix_len (below id) (drop (i + 1) ids) ≡ i + prefix_len (below id) (drop i ids)
-  place_goes_on is =
-      let next : prefix_len (below id) (drop i ids) ≡ 1 + prefix_len (below id) (drop (i + 1) ids) =
-      at_drop_more (prefix_len (below id)) ids i 0 lt ∙ ap (λ (b : Bool). cond b (1 + prefix_len (below id) (drop (i + 1) ids)) 0) is in
-      omega (arith, next)
-
-  pub place_is_here : nat_lt (get_or ids i 0) id ≡ false → i ≡ i + prefix_len (below id) (drop i ids)
-  place_is_here is =
-      let none : prefix_len (below id) (drop i ids) ≡ 0 =
-      at_drop_more (prefix_len (below id)) ids i 0 lt ∙ ap (λ (b : Bool). cond b (1 + prefix_len (below id) (drop (i + 1) ids)) 0) is in
-      omega (arith, none)
 
 -- Requests that have the same slots under each id have the same slots.
 
-is_any : List ℕ → Bool
+abbrev is_any : List ℕ → Bool
 is_any [] = false
 is_any (x ∷ xs) = true
 
@@ -481,3 +469,17 @@ listed_steered ids m req sub window (Some ask) here listed = listed_insert ids m
 pub listed_taken : (ids : List ℕ) (old new : Tables Channel Sub) (result : Option (ℕ × Asked)) → IfSome result (λ taken. new ≡ without_ask old taken.0) → IfNone result (new ≡ old) → AreListed ids old.asks → AreListed ids new.asks
 listed_taken ids old new (Some taken) rest none listed = subst (λ (t : Tables Channel Sub). AreListed ids t.asks) (sym rest) (listed_without ids old.asks taken.0 listed)
 listed_taken ids old new None rest none listed = subst (λ (t : Tables Channel Sub). AreListed ids t.asks) (sym none) listed
+
+pub place_goes_on_at : (id : ℕ) (ids : List ℕ) (i : ℕ) → i < length ids → (x : ℕ) → x ≡ get_or ids i x → x < id → (i + 1) + prefix_len (below id) (drop (i + 1) ids) ≡ i + prefix_len (below id) (drop i ids)
+place_goes_on_at id ids i lt x is less =
+    let next : prefix_len (below id) (drop i ids) ≡ 1 + prefix_len (below id) (drop (i + 1) ids) =
+        at_drop_more (prefix_len (below id)) ids i x lt ∙ ap (λ (y : ℕ). cond (nat_lt y id) (1 + prefix_len (below id) (drop (i + 1) ids)) 0) (sym is)
+        ∙ (let test : nat_lt x id ≡ true = grind (arith, nat_tests) in ap (λ (b : Bool). cond b (1 + prefix_len (below id) (drop (i + 1) ids)) 0) test) in
+    omega (arith, next)
+
+pub place_is_here_at : (id : ℕ) (ids : List ℕ) (i : ℕ) → i < length ids → (x : ℕ) → x ≡ get_or ids i x → id ≤ x → i ≡ i + prefix_len (below id) (drop i ids)
+place_is_here_at id ids i lt x is ge =
+    let none : prefix_len (below id) (drop i ids) ≡ 0 =
+        at_drop_more (prefix_len (below id)) ids i x lt ∙ ap (λ (y : ℕ). cond (nat_lt y id) (1 + prefix_len (below id) (drop (i + 1) ids)) 0) (sym is)
+        ∙ (let test : nat_lt x id ≡ false = grind (arith, nat_tests) in ap (λ (b : Bool). cond b (1 + prefix_len (below id) (drop (i + 1) ids)) 0) test) in
+    omega (arith, none)

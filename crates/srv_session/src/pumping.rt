@@ -166,7 +166,8 @@ impl Session {
     {
         desk.has_legal_history();
         let mut sent = false;
-        for i in 0..self.monitors.len() {
+        let count = self.monitors.len();
+        for i in 0..count {
             let req = self.monitors[i];
             let Ok(more) = self.pop_due(req, sent, desk) else {
                 return Err(NoMemory);

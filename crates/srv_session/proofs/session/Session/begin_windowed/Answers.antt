@@ -1,4 +1,4 @@
-use Rattle.std.proofs.Common.{Bool, cond, ℕ, Option, refl, sym, ◌∙◌, ap}
+use Rattle.std.proofs.Common.{Bool, cond, ℕ, Option, Err, refl, sym, ◌∙◌, ap}
 use Rattle.srv_session.specs.Tasks.{Hearing, asks, over_range, subscribe}
 use Rattle.srv_session.specs.Views.{state_of, output_of, show}
 use Rattle.srv_session.specs.declared.stop.SessionStop.TheVariants as stops
@@ -21,5 +21,5 @@ returns-in-Err g c moment =
     let s = state_of c.args.self.now in
     let first = c.in-Err.ensures {u = tt} in
     let goes_on : Hearing = asks (subscribe c.args.req c.args.sub c.args.sid c.args.channel c.args.wanted c.args.count) s.types in
-    not_heard seat s s (output_of c.args.self.now) (output_of c.args.self.now) moment _ (stops.Window c.in-Err.fault) _ refl
+    not_heard seat s s (output_of c.args.self.now) (output_of c.args.self.now) moment _ (stops.Window c.in-Err.fault) (Err (stops.Window c.in-Err.fault)) refl
     (ap (λ (b : Bool). cond b over_range goes_on) (sym first.over)) c.has_legal_history.ensures refl refl

@@ -1,4 +1,4 @@
-use Rattle.std.proofs.Common.{arith, refl, ap}
+use Rattle.std.proofs.Common.{[], arith, refl, ap}
 use Rattle.srv_session.specs.State.{slots_of}
 use Rattle.srv_session.proofs.Opening.{cut_back}
 use Rattle.desk_api.proofs.Adding.{adds_nothing}

@@ -11,7 +11,7 @@ use Rattle.desk_api.specs.Types.{type_of}
 use Rattle.desk_api.specs.declared.history.Base.{Base}
 use Rattle.srv_session.specs.State.{channel_at}
 use Rattle.srv_session.specs.Views.{state_of}
-use Rattle.srv_session.proofs.Pops.{nothing_popped, target_lives, target_real, target_valued, target_fits, target_due, popped_nothing, popped_update, popped_unsent}
+use Rattle.srv_session.proofs.Pops.{nothing_popped, target_lives, target_real, target_valued, target_fits, target_due, popped_nothing, popped_update, popped_unsent, pops_failed}
 use Rattle.srv_session.proofs.session.Session.pop.Goals as goal
 
 pub returns-in_default-clause-pops : goal.returns-in_default-clause-pops
@@ -29,7 +29,7 @@ pop-requires g c =
     let site = seat.seen.base.site in
     let s = state_of c.args.self.now in
     let ask = c.in-Some.ask.now in
-    let sub = c.in-Some-sub.sub.now in
+    let sub = c.in-Some-sub.sub in
     let channel = c.in-Some-channel_at.channel in
     let here : get s.requests c.args.req ≡ Some ask = sym c.ask.ensures ∙ ap option_copied c.in-Some.is in
     let has : ask.sub ≡ Some sub = c.in-Some-sub.is in
@@ -42,7 +42,7 @@ type_on-requires-clause-channel g c =
     let site = seat.seen.base.site in
     let s = state_of c.args.self.now in
     let ask = c.in-Some.ask.now in
-    let sub = c.in-Some-sub.sub.now in
+    let sub = c.in-Some-sub.sub in
     let channel = c.in-Some-channel_at.channel in
     let here : get s.requests c.args.req ≡ Some ask = sym c.ask.ensures ∙ ap option_copied c.in-Some.is in
     let has : ask.sub ≡ Some sub = c.in-Some-sub.is in
@@ -55,7 +55,7 @@ type_on-requires-clause-valued g c =
     let site = seat.seen.base.site in
     let s = state_of c.args.self.now in
     let ask = c.in-Some.ask.now in
-    let sub = c.in-Some-sub.sub.now in
+    let sub = c.in-Some-sub.sub in
     let channel = c.in-Some-channel_at.channel in
     let here : get s.requests c.args.req ≡ Some ask = sym c.ask.ensures ∙ ap option_copied c.in-Some.is in
     let has : ask.sub ≡ Some sub = c.in-Some-sub.is in
@@ -68,7 +68,7 @@ send-requires g c =
     let site = seat.seen.base.site in
     let s = state_of c.args.self.now in
     let ask = c.in-Some.ask.now in
-    let sub = c.in-Some-sub.sub.now in
+    let sub = c.in-Some-sub.sub in
     let channel = c.in-Some-channel_at.channel in
     let here : get s.requests c.args.req ≡ Some ask = sym c.ask.ensures ∙ ap option_copied c.in-Some.is in
     let has : ask.sub ≡ Some sub = c.in-Some-sub.is in
@@ -78,7 +78,20 @@ send-requires g c =
     (target_fits site seat.log s c.requires.holds c.requires.site c.args.req ask sub channel here has open_ update (c.in-Some-pop.ensures {u = tt}).fits)
 
 pub returns-in_err-send-in-Some-pop-clause-pops : goal.returns-in_err-send-in-Some-pop-clause-pops
-returns-in_err-send-in-Some-pop-clause-pops = ?
+returns-in_err-send-in-Some-pop-clause-pops g c =
+    let seat = g.D.Desk.seat c.args.desk.now in
+    let site = seat.seen.base.site in
+    let s = state_of c.args.self.now in
+    let ask = c.in-Some.ask.now in
+    let sub = c.in-Some-sub.sub in
+    let channel = c.in-Some-channel_at.channel in
+    let here : get s.requests c.args.req ≡ Some ask = sym c.ask.ensures ∙ ap option_copied c.in-Some.is in
+    let has : ask.sub ≡ Some sub = c.in-Some-sub.is in
+    let open_ : channel_at s.channels ask.sid ≡ Some channel = sym c.channel_at.ensures ∙ c.in-Some-channel_at.is in
+    let there = g.D.Desk.seat c.pop.new.self in
+    pops_failed seat there c.args.self.now c.send.new.self c.args.req c.args.sent c.from_residual.result c.from_residual.ensures.0
+    (popped_unsent seat there c.args.self.now c.args.req ask channel sub (target_due site seat.log s c.requires.holds c.requires.site c.args.req ask sub channel here has open_ c.requires.due) c.args.sent c.in-Some-pop.update
+    (c.in-Some-pop.ensures {u = tt}).calls c.send.new.self c.type_on.result.now (c.type_on.ensures ∙ ap (λ (b : Base). type_of b.site channel) c.pop.ensures.base) _ (c.in_err-send-in-Some-pop.ensures {u = tt}).sends)
 
 pub returns-in_ok-send-in-Some-pop-clause-pops : goal.returns-in_ok-send-in-Some-pop-clause-pops
 returns-in_ok-send-in-Some-pop-clause-pops g c =
@@ -86,7 +99,7 @@ returns-in_ok-send-in-Some-pop-clause-pops g c =
     let site = seat.seen.base.site in
     let s = state_of c.args.self.now in
     let ask = c.in-Some.ask.now in
-    let sub = c.in-Some-sub.sub.now in
+    let sub = c.in-Some-sub.sub in
     let channel = c.in-Some-channel_at.channel in
     let here : get s.requests c.args.req ≡ Some ask = sym c.ask.ensures ∙ ap option_copied c.in-Some.is in
     let has : ask.sub ≡ Some sub = c.in-Some-sub.is in
@@ -101,7 +114,7 @@ returns-in-None-clause-pops g c =
     let site = seat.seen.base.site in
     let s = state_of c.args.self.now in
     let ask = c.in-Some.ask.now in
-    let sub = c.in-Some-sub.sub.now in
+    let sub = c.in-Some-sub.sub in
     let channel = c.in-Some-channel_at.channel in
     let here : get s.requests c.args.req ≡ Some ask = sym c.ask.ensures ∙ ap option_copied c.in-Some.is in
     let has : ask.sub ≡ Some sub = c.in-Some-sub.is in

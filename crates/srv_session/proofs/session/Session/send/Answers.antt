@@ -2,10 +2,13 @@ use Rattle.std.proofs.Common.{◌≡◌, refl, sym, ◌∙◌, ap}
 use Rattle.std.specs.FinMap.{get}
 use Rattle.srv_session.specs.State.{State}
 use Rattle.srv_session.specs.Steps.{with_sent}
+use Rattle.srv_session.proofs.Pops.{sends_failed}
 use Rattle.srv_session.proofs.session.Session.send.Goals as goal
 
 pub returns-in_err-say_update-clause-sends : goal.returns-in_err-say_update-clause-sends
-returns-in_err-say_update-clause-sends = ?
+returns-in_err-say_update-clause-sends c =
+    let failed = c.in_err-say_update.ensures {u = tt} in
+    sends_failed c.args.self.now c.say_update.new.self c.args.req c.args.ty.now c.args.update c.from_residual.result c.from_residual.ensures.0 failed.err failed.state
 
 pub returns-clause-sends : goal.returns-clause-sends
 returns-clause-sends c =
