@@ -53,16 +53,16 @@ module _ {V : Type 0} (m : FinMap nat_cmp V) where
       alike q (inl e) = ap (get (remove m k)) e ∙ got_removed k ∙ sym none ∙ ap (get m) (sym e)
       alike q (inr apart) = got_left k q apart
 
-both_parts : (a b : Bool) → T (a && b) → T a × T b
+pub both_parts : (a b : Bool) → T (a && b) → T a × T b
 both_parts true b h = (tt, h)
 both_parts false b h = absurd h
 
 -- all of these keys are at or above n
-abbrev AllFrom : {V : Type 0} → ℕ → List (ℕ × V) → Type 0
+abbrev pub AllFrom : {V : Type 0} → ℕ → List (ℕ × V) → Type 0
 AllFrom n [] = Unit {0}
 AllFrom n (e ∷ es) = (n ≤ e.0) × AllFrom n es
 
-less : (x y : ℕ) → T (is_lt (nat_cmp x y)) → x < y
+pub less : (x y : ℕ) → T (is_lt (nat_cmp x y)) → x < y
 less x y h =
     elim (nat_cmp x y) as (λ r. r ≡ nat_cmp x y → T (is_lt r) → x < y) [
       | Less ↦ λ e t. ranked x y Less e
@@ -71,18 +71,18 @@ less x y h =
     ] refl h
 
 module _ {V : Type 0} where
-  above : (x : ℕ) (es : List (ℕ × V)) → T (below_all nat_cmp x es) → AllFrom (x + 1) es
+  pub above : (x : ℕ) (es : List (ℕ × V)) → T (below_all nat_cmp x es) → AllFrom (x + 1) es
   above x [] h = tt
   above x (e ∷ es) h =
       let parts = both_parts (is_lt (nat_cmp x e.0)) (below_all nat_cmp x es) h in
       let first = less x e.0 parts.0 in
       (omega (arith, first), above x es parts.1)
 
-  weaker : (n m : ℕ) (es : List (ℕ × V)) → n ≤ m → AllFrom m es → AllFrom n es
+  pub weaker : (n m : ℕ) (es : List (ℕ × V)) → n ≤ m → AllFrom m es → AllFrom n es
   weaker n m [] le h = tt
   weaker n m (e ∷ es) le h = (omega (arith, le, h.0), weaker n m es le h.1)
 
-  missing : (q : ℕ) (es : List (ℕ × V)) → AllFrom (q + 1) es → find nat_cmp q es ≡ None
+  pub missing : (q : ℕ) (es : List (ℕ × V)) → AllFrom (q + 1) es → find nat_cmp q es ≡ None
   missing q [] h = refl
   missing q (e ∷ es) h =
       let first = h.0 in
@@ -140,7 +140,7 @@ module _ {V : Type 0} where
       let first = from.0 in
       step n e es parts.0 first (walk (n + 1) es parts.1 (weaker (n + 1) (e.0 + 1) es (omega (arith, first)) (above e.0 es parts.0)))
 
-all_from_zero : {V : Type 0} (es : List (ℕ × V)) → AllFrom 0 es
+pub all_from_zero : {V : Type 0} (es : List (ℕ × V)) → AllFrom 0 es
 all_from_zero [] = tt
 all_from_zero (e ∷ es) = (omega arith, all_from_zero es)
 

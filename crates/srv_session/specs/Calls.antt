@@ -1,8 +1,9 @@
 -- What the calls of a session do.
-use Rattle.std.specs.Prelude.{◌≡◌, ◌≢◌, ◌⊎◌, ℕ, Bool, false, not, is_nil, List, [], ◌∷◌, ◌++◌, Some, Result, Ok, Err, IsTrue, ⊤}
+use Rattle.std.specs.Prelude.{◌≡◌, ◌==◌, ◌≢◌, ◌⊎◌, ℕ, Bool, true, false, List, [], ◌∷◌, ◌++◌, Some, Result, Ok, Err, IsTrue, ⊤}
 use Rattle.std.specs.List.{list_any}
 use Rattle.std.specs.FinMap.{get as at}
 use Rattle.std.specs.FinSet as set
+use Rattle.chan_table.specs.declared.ask.AskKind.TheVariants as kinds
 use Rattle.pva_frames.specs.declared.event.Event.{Event}
 use Rattle.pvd_type.specs.declared.memory.NoMemory.{NoMemory}
 use Rattle.journal_core.specs.Moments.{Moment}
@@ -12,14 +13,14 @@ use Rattle.desk_api.specs.Types.{type_of, HoldsLeaves}
 use Rattle.desk_api.specs.declared.channel.Channel.{Channel}
 use Rattle.desk_api.specs.declared.history.SiteData.{SiteData}
 use Rattle.desk_api.specs.declared.mark.Mark.{Mark}
-use Rattle.desk_api.specs.Living.{Living, living}
+use Rattle.desk_api.specs.Living.{Living, living, lives}
 use Rattle.desk_api.specs.declared.mark.Seat.{Seat}
 use Rattle.desk_api.specs.declared.sub.Sub.{Sub}
 use Rattle.srv_session.specs.State.{State, Channels, Asked, channel_at, due, slots_of}
 use Rattle.srv_session.specs.Replies.{Sent, spelled_all, is_call}
 use Rattle.srv_session.specs.Tasks.{Task, Hearing, unreadable, over_range, heard}
-use Rattle.srv_session.specs.Rows.{Row, Part, after_task}
-use Rattle.srv_session.specs.Steps.{Step, pops, IsAnswer, PartOf, PopPart, AreSteps, AreEndings, after_hearing, state_after, marks_of, sent_in, out_of}
+use Rattle.srv_session.specs.Rows.{Row, Part, after_task, left_by}
+use Rattle.srv_session.specs.Steps.{Step, pops, IsAnswer, PartOf, PopPart, AreSteps, AreEndings, after_hearing, left_by_hearing, state_after, marks_of, sent_in, out_of}
 use Rattle.srv_session.specs.declared.stop.SessionStop.{SessionStop}
 use Rattle.srv_session.specs.declared.stop.SessionStop.TheVariants as stops
 
@@ -43,19 +44,26 @@ pub record IsOf (site : SiteData) (s : State) : Type 0 where
   pub requests : (req : ℕ) (ask : Asked) → at s.requests req ≡ Some ask → IsAskOf site s.channels ask
 
 -- A session holds its subscriptions: each lives by the log of its desk's seat, on its request's channel with its request's leaves, and
--- no other request has it.
+-- no other request has it. Only monitors have one.
 
 pub record IsHeld (log : List Mark) (channels : Channels) (ask : Asked) (slot : ℕ) : Type 0 where
   pub subscribed : Living
   pub there : living log slot ≡ Some subscribed
   pub channel_is : channel_at channels ask.sid ≡ Some subscribed.channel
   pub mask_is : subscribed.mask ≡ ask.mask
+  pub kind_is : ask.kind ≡ kinds.Monitor
 
 pub record Holds (log : List Mark) (s : State) : Type 0 where
   pub held : (req : ℕ) (ask : Asked) (sub : Sub) → at s.requests req ≡ Some ask → ask.sub ≡ Some sub
       → IsHeld log s.channels ask sub.slot
   pub apart : (a b : ℕ) (one other : Asked) (x y : Sub) → at s.requests a ≡ Some one → at s.requests b ≡ Some other
       → one.sub ≡ Some x → other.sub ≡ Some y → x.slot ≡ y.slot → a ≡ b
+
+-- Each of these slots has a living subscription by this log, and none stands twice.
+abbrev pub AreLiving : List Mark → List ℕ → Type 0
+AreLiving log [] = ⊤
+AreLiving log (slot ∷ slots) =
+    ((lives log slot ≡ true) × (list_any (λ other. other == slot) slots ≡ false)) × AreLiving log slots
 
 -- what a session and its desk show
 pub record Shown : Type 0 where
@@ -76,20 +84,20 @@ pub record Answered (old new : Shown) (moment : Moment) (task : Task) : Type 0 w
   pub state : new.state ≡ after_task (site_of old) old.state task marks
   pub output : new.output ≡ old.output ++ spelled_all old.state.order old.state.segment sent
 
--- Memory ran out in it. The session then has the subscriptions that it has behind the marks.
-pub record GaveUp (old new : Shown) (moment : Moment) (part : List Mark → Type 0) (after : List Mark → State) : Type 0 where
+-- Memory ran out in it. The session then has the subscriptions that the marks leave.
+pub record GaveUp (old new : Shown) (moment : Moment) (part : List Mark → Type 0) (left : List Mark → State) : Type 0 where
   pub marks : List Mark
   pub part_is : part marks
   pub adds : Adds old.seat new.seat marks
   pub moments : HaveMoment (Some moment) marks
-  pub subscribed : slots_of new.state.requests ≡ slots_of (after marks).requests
+  pub subscribed : slots_of new.state.requests ≡ slots_of (left marks).requests
   pub output : new.output ≡ old.output
 
 -- One call of a row's function, by its answer.
 abbrev pub Takes : Shown → Shown → Moment → Task → Result (Unit {0}) NoMemory → Type 0
 Takes old new moment task (Ok u) = Answered old new moment task
 Takes old new moment task (Err e) =
-    GaveUp old new moment (Part (site_of old) old.state task) (after_task (site_of old) old.state task)
+    GaveUp old new moment (Part (site_of old) old.state task) (left_by (site_of old) old.state task)
 
 -- What was heard was answered.
 pub record Replied (old new : Shown) (moment : Moment) (hearing : Hearing) : Type 0 where
@@ -105,6 +113,7 @@ pub record Replied (old new : Shown) (moment : Moment) (hearing : Hearing) : Typ
 pub record Stopped (old new : Shown) (hearing without : Hearing) : Type 0 where
   pub heard_is : hearing ≡ without
   pub seat : new.seat ≡ old.seat
+  pub subscribed : slots_of new.state.requests ≡ slots_of old.state.requests
   pub output : new.output ≡ old.output
 
 abbrev pub Heeds : Shown → Shown → Moment → Hearing → Result (Unit {0}) SessionStop → Type 0
@@ -112,7 +121,7 @@ Heeds old new moment hearing (Ok u) = Replied old new moment hearing
 Heeds old new moment hearing (Err (stops.Message fault)) = Stopped old new hearing (unreadable fault)
 Heeds old new moment hearing (Err (stops.Window fault)) = Stopped old new hearing over_range
 Heeds old new moment hearing (Err stops.NoMemory) =
-    GaveUp old new moment (PartOf (site_of old) old.state hearing) (after_hearing (site_of old) old.state hearing)
+    GaveUp old new moment (PartOf (site_of old) old.state hearing) (left_by_hearing (site_of old) old.state hearing)
 
 -- what is heard in an event
 abbrev pub heard_by : Shown → Event → Hearing
@@ -139,8 +148,13 @@ ArePopsOf (req ∷ reqs) (pops r marks sent ∷ steps) = (r ≡ req) × ArePopsO
 ArePopsOf reqs steps = ⊥
 
 -- whether some of them sent an update
+
+abbrev pub is_some_sent : List Sent → Bool
+is_some_sent [] = false
+is_some_sent (x ∷ sent) = true
+
 abbrev pub sends : List Step → Bool
-sends steps = list_any (λ x. not (is_nil (sent_in x))) steps
+sends steps = list_any (λ x. is_some_sent (sent_in x)) steps
 
 -- So many of the monitors that were due were popped once each, by the rising ids of their requests, and their updates were added.
 pub record PumpedSome (old new : Shown) (reqs : List ℕ) (steps : List Step) (more : List Mark) : Type 0 where

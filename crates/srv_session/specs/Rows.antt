@@ -1,6 +1,6 @@
 -- What a session says to what it is asked: one row for each task, which names the marks of its desk and the replies;
 -- and the state that it leaves (pvAccess Protocol Specification, "Application Messages").
-use Rattle.std.specs.Prelude.{◌≡◌, ℕ, pos, map, option_map, true, false, List, [], ◌∷◌, Option, None, Some, Result, Ok, Err, codes, ⊤, if◌then◌else◌}
+use Rattle.std.specs.Prelude.{◌≡◌, ℕ, pos, map, option_map, Bool, true, false, List, [], ◌∷◌, Option, None, Some, Result, Ok, Err, codes, ⊤, if◌then◌else◌}
 use Rattle.std.specs.FinMap.{get as at, insert, remove}
 use Rattle.std.specs.FinSet.{FinSet}
 use Rattle.std.specs.Ordering.{nat_cmp}
@@ -210,8 +210,13 @@ abbrev pub SubscribePart : Channel → Wanted → List Mark → Type 0
 SubscribePart channel wanted marks =
     (answer : Result Sub SubAnswer) × AreSubscribe channel wanted.mask wanted.queue answer marks
 
+-- a channel's subscriptions end all, before its reply is written, or none does
+abbrev pub EndingsPart : List ℕ → List Mark → Type 0
+EndingsPart slots [] = ⊤
+EndingsPart slots (mark ∷ marks) = AreEndingsOf slots (mark ∷ marks)
+
 abbrev pub Part : SiteData → State → Task → List Mark → Type 0
-Part site s (destroy_channel sid cid) = AreEndingsOf (slots_of (on_only sid s.requests))
+Part site s (destroy_channel sid cid) = EndingsPart (slots_of (on_only sid s.requests))
 Part site s (subscribe req sub sid channel wanted count) = SubscribePart channel wanted
 Part site s (get kind req sub ask channel) = IsPartOfGet site channel ask.atomic
 Part site s (put req sub ask channel mask value) = PutPart site ask channel mask value
@@ -271,3 +276,10 @@ after_task site s (steer req count started ask) marks =
     record s { requests = insert s.requests req (steered count started ask) }
 after_task site s (destroy_request req) marks = record s { requests = remove s.requests req }
 after_task site s task marks = s
+
+-- A state with the subscriptions that are left where memory ran out in a row.
+abbrev pub left_by : SiteData → State → Task → List Mark → State
+left_by site s (destroy_channel sid cid) (mark ∷ marks) = after_task site s (destroy_channel sid cid) (mark ∷ marks)
+left_by site s (subscribe req sub sid channel wanted count) marks =
+    after_task site s (subscribe req sub sid channel wanted count) marks
+left_by site s task marks = s

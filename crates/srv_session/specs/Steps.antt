@@ -1,19 +1,21 @@
 -- A session as a list of steps. What it reads, what its desk did and what it says are functions of that list.
-use Rattle.std.specs.Prelude.{◌≡◌, ◌==◌, ◌-◌, ◌⊎◌, ℕ, Bool, true, List, [], ◌∷◌, ◌++◌, Option, None, Some, option_map, ⊤, if◌then◌else◌}
+use Rattle.std.specs.Prelude.{◌≡◌, ◌==◌, ◌-◌, ◌⊎◌, ℕ, true, false, List, [], ◌∷◌, ◌++◌, Option, None, Some, option_map, ⊤, if◌then◌else◌}
 use Rattle.std.specs.FinMap.{get as at, insert}
 use Rattle.pva_frames.specs.declared.event.Event.{Event}
 use Rattle.pvd_desc.specs.Types.{Types}
 use Rattle.mon_queue.specs.declared.update.Update.{Update}
+use Rattle.histories.specs.History.{AllTrue}
+use Rattle.desk_api.specs.Living.{lives}
 use Rattle.desk_api.specs.Types.{type_of}
 use Rattle.desk_api.specs.declared.channel.Channel.{Channel}
 use Rattle.desk_api.specs.declared.history.SiteData.{SiteData}
 use Rattle.desk_api.specs.declared.mark.Mark.{Mark}
-use Rattle.desk_api.specs.declared.mark.Mark.TheVariants.{Popped}
+use Rattle.desk_api.specs.declared.mark.Mark.TheVariants.{Begun, Popped}
 use Rattle.desk_api.specs.declared.sub.Sub.{Sub}
 use Rattle.srv_session.specs.State.{State, Requests, Asked, channel_at, is_due, slots_of}
 use Rattle.srv_session.specs.Tasks.{Hearing, asks, unreadable, over_range, heard}
 use Rattle.srv_session.specs.Replies.{Sent, said, spelled_all, updated}
-use Rattle.srv_session.specs.Rows.{Row, NoPart, Part, after_task, AreEndingsOf}
+use Rattle.srv_session.specs.Rows.{Row, NoPart, Part, after_task, left_by, AreEndingsOf}
 
 -- One step: an event of the client, or a pop of the monitor of a request; the marks that it made, and what the session sent.
 pub data Step : Type 0 where
@@ -110,9 +112,24 @@ events_of [] = []
 events_of (hears e marks sent ∷ xs) = e ∷ events_of xs
 events_of (pops req marks sent ∷ xs) = events_of xs
 
+-- what each step is about, in order: an event, or a pop
+abbrev pub turns_of : List Step → List (Option Event)
+turns_of [] = []
+turns_of (hears e marks sent ∷ xs) = Some e ∷ turns_of xs
+turns_of (pops req marks sent ∷ xs) = None ∷ turns_of xs
+
 abbrev pub marks_of : List Step → List Mark
 marks_of [] = []
 marks_of (x ∷ xs) = marks_in x ++ marks_of xs
+
+-- A subscription begins in a slot where none lives by the marks before.
+
+abbrev pub IsFreeBegun : Mark → List Mark → Type 0
+IsFreeBegun (Begun place index slot channel mask size) before = lives before slot ≡ false
+IsFreeBegun mark before = ⊤
+
+abbrev pub BeginFree : List Mark → Type 0
+BeginFree marks = AllTrue IsFreeBegun [] marks
 
 abbrev pub out_of : SiteData → State → List Step → List ℕ
 out_of site s [] = []
@@ -154,11 +171,17 @@ EventPart site s (e ∷ more) marks = PartOf site s (heard site s e) marks
 abbrev pub NextPart : SiteData → State → List Event → List Mark → Type 0
 NextPart site s events marks = EventPart site s events marks ⊎ PopPart s marks
 
--- the state that they leave
+-- a state with the subscriptions that they leave
+
+abbrev pub left_by_hearing : SiteData → State → Hearing → List Mark → State
+left_by_hearing site s (asks task types) marks = left_by site (knowing s types) task marks
+left_by_hearing site s (unreadable fault) marks = s
+left_by_hearing site s over_range marks = s
+
 abbrev pub after_part : SiteData → State → List Event → List Mark → State
 after_part site s events (Popped place slot update ∷ []) = s
 after_part site s [] marks = s
-after_part site s (e ∷ more) marks = after_event site s e marks
+after_part site s (e ∷ more) marks = left_by_hearing site s (heard site s e) marks
 
 -- The marks that end the subscriptions of the session, each with one, by the rising ids of their requests.
 abbrev pub AreEndings : State → List Mark → Type 0

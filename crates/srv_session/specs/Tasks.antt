@@ -1,6 +1,6 @@
 -- What an event asks of a session, with all that it names looked up (pvAccess Protocol Specification, "Message Header"
 -- and "Application Messages"). Of the reasons for which a message may be refused the first that holds decides.
-use Rattle.std.specs.Prelude.{ℕ, ◌+◌, ◌-◌, Bool, false, true, ◌||◌, ◌==◌, List, [], ◌∷◌, ◌++◌, length, drop, nat_lt, Option, None, Some, Result, Ok, Err, bytes_eq, codes, if◌then◌else◌}
+use Rattle.std.specs.Prelude.{ℕ, ◌+◌, ◌-◌, Bool, false, true, ◌||◌, ◌==◌, List, [], ◌++◌, length, drop, nat_lt, Option, None, Some, Result, Ok, Err, bytes_eq, codes, if◌then◌else◌}
 use Rattle.std.specs.FinMap.{get as at, contains_key}
 use Rattle.std.specs.FinSet.{FinSet, empty as no_leaves}
 use Rattle.std.specs.Option.{option_and_then}
@@ -37,7 +37,6 @@ use Rattle.chan_table.specs.declared.ask.AskKind.TheVariants as kinds
 use Rattle.desk_api.specs.Sites.{has_values, names_of}
 use Rattle.desk_api.specs.Types.{type_of}
 use Rattle.desk_api.specs.declared.channel.Channel.{Channel}
-use Rattle.desk_api.specs.declared.channel.ChannelKind.{ChannelKind}
 use Rattle.desk_api.specs.declared.history.SiteData.{SiteData}
 use Rattle.rpc_services.specs.Answers.{channels_tree, channels_data, info_tree, info_data}
 use Rattle.rpc_services.specs.Operations.{asked as operation_asked}

@@ -7,6 +7,7 @@ use denote.Ref.{Bor}
 use Rattle.pvd_codec.specs.declared.fault.ValueFault.{ValueFault}
 use Rattle.pvd_codec.specs.declared.fault.ValueFault.TheVariants as values
 use Rattle.pva_messages.specs.Requests as said
+use Rattle.pva_messages.specs.Subcommands.{begins}
 use Rattle.pva_messages.specs.Requests.{Request, part_place}
 use Rattle.pva_messages.specs.declared.fault.MessageFault.{MessageFault}
 use Rattle.pvd_type.specs.declared.memory.NoMemory.{NoMemory}
@@ -28,7 +29,7 @@ use Rattle.chan_table.specs.declared.ask.AskKind.TheVariants as kinds
 use Rattle.desk_api.specs.Types.{type_of, HoldsLeaves}
 use Rattle.desk_api.specs.declared.put.Done.{Done}
 use Rattle.desk_api.specs.declared.put.PutAnswer.{PutAnswer}
-use Rattle.srv_session.specs.State.{State, Asked, request_on}
+use Rattle.srv_session.specs.State.{State, Asked, request_on, slots_of}
 use Rattle.srv_session.specs.Replies.{refused, outcome, is_call}
 use Rattle.srv_session.specs.Rows.{put_status}
 use Rattle.srv_session.specs.Tasks.{Task, begin, refuse, get, nothing_wanted, putting_as, fault_text, reading_part, heard_getting, Hearing}
@@ -77,11 +78,24 @@ pub record HasSelected (s : State) (req : ℕ) (ty : Tree) : Type 0 where
   pub here : at s.requests req ≡ Some ask
   pub leaves : HoldsLeaves ty ask.mask
 
--- gets and puts have the type once where they begin
+-- gets, puts and monitors have the type once where they begin
 abbrev pub HasOneType : AskKind → Type 0
 HasOneType kinds.Get = Unit {0}
 HasOneType kinds.Put = Unit {0}
+HasOneType kinds.Monitor = Unit {0}
 HasOneType kind = ⊥
+
+-- gets, puts and put-gets bring leaves of a value
+abbrev pub HasPart : AskKind → Type 0
+HasPart kinds.Get = Unit {0}
+HasPart kinds.Put = Unit {0}
+HasPart kinds.PutGet = Unit {0}
+HasPart kind = ⊥
+
+-- OK alone is said to the beginning of a call, and else to no beginning; to a monitor it never is
+abbrev pub IsOkAlone : AskKind → ℕ → Type 0
+IsOkAlone kinds.Monitor sub = ⊥
+IsOkAlone kind sub = begins sub ≡ is_call kind
 
 -- a request is there, which began on this channel, and is no call
 pub record IsThere (s : State) (sid req : ℕ) (found : Found) : Type 0 where
@@ -111,6 +125,11 @@ AnswersAlone old new task result = (seat : Seat) → AnswersBeside seat old new 
 abbrev pub HeedsHearing : Seat → Seat → Session → Session → Moment → Hearing → Result (Unit {0}) SessionStop → Type 0
 HeedsHearing here there old new moment hearing result = Heeds (show here old) (show there new) moment hearing result
 
+-- Nothing was written, and the subscriptions are as before.
+pub record IsAsBefore (old new : Session) : Type 0 where
+  pub output : output_of new ≡ output_of old
+  pub subscribed : slots_of (state_of new).requests ≡ slots_of (state_of old).requests
+
 -- Parts of rows.
 
 -- A request begins for this, on the channel of this id whose type is this.
@@ -127,7 +146,7 @@ BeginsCall old new kind req sub sid result = (seat : Seat) (channel : Channel)
 -- A request structure is refused for its fault, or memory ran out.
 abbrev pub RefusesFault : Session → Session → AskKind → ℕ → ℕ → RequestFault → Result (Unit {0}) NoMemory → Type 0
 RefusesFault old new kind req sub faults.NoMemory (Ok u) = ⊥
-RefusesFault old new kind req sub faults.NoMemory (Err e) = output_of new ≡ output_of old
+RefusesFault old new kind req sub faults.NoMemory (Err e) = IsAsBefore old new
 RefusesFault old new kind req sub fault result =
     AnswersAlone old new (refuse (refused kind req sub (fault_text fault))) result
 
@@ -138,7 +157,7 @@ RefusesPlace old new kind req sub places.InUse result =
 RefusesPlace old new kind req sub (places.Full limit) result =
     AnswersAlone old new (refuse (refused kind req sub (codes "too many requests"))) result
 RefusesPlace old new kind req sub places.NoMemory (Ok u) = ⊥
-RefusesPlace old new kind req sub places.NoMemory (Err e) = output_of new ≡ output_of old
+RefusesPlace old new kind req sub places.NoMemory (Err e) = IsAsBefore old new
 
 -- What the request that was found gets.
 abbrev pub GetsFrom : Seat → Seat → Session → Session → AskKind → ℕ → ℕ → ℕ → Found

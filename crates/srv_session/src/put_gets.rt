@@ -35,7 +35,7 @@ impl Session {
     ghost use Rattle.chan_table.specs.declared.ask.AskKind.TheVariants as kinds;
     ghost use Rattle.desk_api.specs.Types.{type_of, HoldsLeaves};
     ghost use Rattle.srv_session.specs.Calls.{IsOf};
-    ghost use Rattle.srv_session.specs.Replies.{IsServed, is_call, refused};
+    ghost use Rattle.srv_session.specs.Replies.{is_call, refused};
     ghost use Rattle.srv_session.specs.Tasks as task;
     ghost use Rattle.srv_session.specs.Tasks.{heard_put_get};
     ghost use Rattle.srv_session.specs.Views.{state_of, AnswersAlone, HeedsHearing, IsThere, PutGetsPart, PutsTo};
@@ -105,7 +105,6 @@ impl Session {
         sub: u8,
         text: &str,
     ) -> Result<(), NoMemory>
-        requires served { IsServed kind }
         ensures { AnswersAlone self.old self.new (task.respond req sub (refused kind req sub text.now)) result }
     {
         self.say_answer(kind, req, sub, Some(text))?;

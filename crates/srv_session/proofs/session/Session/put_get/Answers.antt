@@ -15,6 +15,7 @@ use Rattle.srv_session.specs.Rows.{behind, put_get_reply}
 use Rattle.srv_session.specs.Views.{state_of, output_of}
 use Rattle.srv_session.proofs.Finding.{real_there, valued_there, selected_there, is_on_it}
 use Rattle.srv_session.proofs.Replying.{put_get_unsaid, put_get_said}
+use Rattle.srv_session.proofs.Slots.{still}
 use Rattle.srv_session.proofs.session.Session.put_get.Goals as goal
 
 pub put_get-requires-clause-channel : goal.put_get-requires-clause-channel
@@ -47,7 +48,7 @@ returns-in_err-say_selected-in-Ok g c ask here atomic =
     let with : Option Bool → calls.Asked = λ (a : Option Bool). record { site = seat.seen.base.site; channel = c.args.found.channel; mask = c.args.mask.now; value = view c.args.value.now; moment = c.args.moment; atomic = a } in
     put_get_unsaid seat there c.args.moment (state_of c.args.self.now) (state_of c.say_selected.new.self) (output_of c.args.self.now) (output_of c.say_selected.new.self) c.args.req c.args.sub ask c.args.found.channel c.args.mask.now (view c.args.value.now)
     c.put_get.result (subst (λ (a : Option Bool). Calls seat there (ArePutGet (with a) c.put_get.result)) atomic c.put_get.ensures.calls)
-    c.from_residual.result c.from_residual.ensures.0 ((c.in_err-say_selected-in-Ok.ensures {u = tt}).err)
+    c.from_residual.result c.from_residual.ensures.0 ((c.in_err-say_selected-in-Ok.ensures {u = tt}).err) (still (c.in_err-say_selected-in-Ok.ensures {u = tt}).state)
 
 pub returns-in_ok-say_selected-in-Ok : goal.returns-in_ok-say_selected-in-Ok
 returns-in_ok-say_selected-in-Ok g c ask here atomic =
@@ -73,7 +74,7 @@ returns-in_err-problem-in-Err g c ask here atomic =
     let with : Option Bool → calls.Asked = λ (a : Option Bool). record { site = seat.seen.base.site; channel = c.args.found.channel; mask = c.args.mask.now; value = view c.args.value.now; moment = c.args.moment; atomic = a } in
     put_get_unsaid seat there c.args.moment (state_of c.args.self.now) (state_of c.args.self.now) (output_of c.args.self.now) (output_of c.args.self.now) c.args.req c.args.sub ask c.args.found.channel c.args.mask.now (view c.args.value.now)
     c.put_get.result (subst (λ (a : Option Bool). Calls seat there (ArePutGet (with a) c.put_get.result)) atomic c.put_get.ensures.calls)
-    c.from_residual-in_err-problem-in-Err.result c.from_residual-in_err-problem-in-Err.ensures.0 refl
+    c.from_residual-in_err-problem-in-Err.result c.from_residual-in_err-problem-in-Err.ensures.0 refl refl
 
 pub returns-in_err-say_answer-in-Err : goal.returns-in_err-say_answer-in-Err
 returns-in_err-say_answer-in-Err g c ask here atomic =
@@ -82,7 +83,7 @@ returns-in_err-say_answer-in-Err g c ask here atomic =
     let with : Option Bool → calls.Asked = λ (a : Option Bool). record { site = seat.seen.base.site; channel = c.args.found.channel; mask = c.args.mask.now; value = view c.args.value.now; moment = c.args.moment; atomic = a } in
     put_get_unsaid seat there c.args.moment (state_of c.args.self.now) (state_of c.say_answer.new.self) (output_of c.args.self.now) (output_of c.say_answer.new.self) c.args.req c.args.sub ask c.args.found.channel c.args.mask.now (view c.args.value.now)
     c.put_get.result (subst (λ (a : Option Bool). Calls seat there (ArePutGet (with a) c.put_get.result)) atomic c.put_get.ensures.calls)
-    c.from_residual-in_err-say_answer-in-Err.result c.from_residual-in_err-say_answer-in-Err.ensures.0 ((c.in_err-say_answer-in-Err.ensures {u = tt}).err)
+    c.from_residual-in_err-say_answer-in-Err.result c.from_residual-in_err-say_answer-in-Err.ensures.0 ((c.in_err-say_answer-in-Err.ensures {u = tt}).err) (still (c.in_err-say_answer-in-Err.ensures {u = tt}).state)
 
 pub returns-in_ok-say_answer-in-Err : goal.returns-in_ok-say_answer-in-Err
 returns-in_ok-say_answer-in-Err g c ask here atomic =
