@@ -56,6 +56,10 @@ fn steer_in(table: &mut Table<Channel, Sub>, req: u32, sub: u8, window: Option<W
     }
 }
 
+/// The subcommand of the reply that begins a monitor: bit 08 alone, whatever others its message had (pvAccess Protocol Specification,
+/// "Channel Monitor").
+const BEGINS_ALONE: u8 = 0x08;
+
 impl Session {
     ghost use Rattle.std.specs.Prelude.{◌≡◌, ◌<◌, ◌≤◌, true, IfSome, IsTrue, OnOk, Some, vec_len, vec_capacity};
     ghost use Rattle.std.specs.FinMap.{get as at, insert};
@@ -233,7 +237,7 @@ impl Session {
         match desk.subscribe(alloc, channel, &wanted.mask, wanted.queue) {
             Ok(living) => {
                 self.add_monitor(sid, req, wanted, window, living);
-                stopping(self.say_begun(AskKind::Monitor, req, sub, type_on(desk, channel)))
+                stopping(self.say_begun(AskKind::Monitor, req, BEGINS_ALONE, type_on(desk, channel)))
             }
             Err(answer) => stopping(self.refuse_subscription(req, sub, answer)),
         }
