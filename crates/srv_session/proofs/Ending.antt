@@ -31,7 +31,8 @@ use Rattle.srv_session.specs.declared.stop.SessionStop.{SessionStop}
 use Rattle.srv_session.specs.declared.stop.SessionStop.TheVariants as stops
 use Rattle.srv_session.proofs.Kept.{are_living, living_left, stays_on}
 use Rattle.srv_session.proofs.Rows.{shown}
-use Rattle.srv_session.proofs.Slots.{slots_first, slots_first_on, none_only, others_slots}
+use Rattle.srv_session.proofs.Rising.{others_slots}
+use Rattle.srv_session.proofs.Slots.{slots_first, slots_first_on, none_only}
 use Rattle.srv_session.proofs.Tables.{sid_is_on, sid_not_on, taken_first, none_on}
 
 -- Endings, and then more.

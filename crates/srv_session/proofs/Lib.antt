@@ -1,7 +1,7 @@
 pub mod Tables
 pub mod Slots
-pub mod Rising
 pub mod Owning
+pub mod Rising
 pub mod Rows
 pub mod OnSite
 pub mod Kept

@@ -57,14 +57,14 @@ module _ (here : Seat) (moment : Moment) (s : State) (out : List ℕ) (req sub s
   task_ = asks (subscribe req sub sid channel wanted window) s.types
 
   -- memory ran out before it
-  pub no_room : IsLegal here.seen → Heeds (shown here s out) (shown here s out) moment task_ (Err stops.NoMemory)
-  no_room legal = record {
+  pub no_room : (t : State) (after : List ℕ) → t ≡ s → after ≡ out → IsLegal here.seen → Heeds (shown here s out) (shown here t after) moment task_ (Err stops.NoMemory)
+  no_room t after state same legal = record {
     marks = [];
     part_is = (Err answers.NoMemory, refl);
     adds = adds_nothing here legal;
     moments = tt;
-    subscribed = refl;
-    output = refl;
+    subscribed = ap (λ (z : State). slots_of z.requests) state;
+    output = same;
   }
 
   module _ (there : Seat) (t : State) (after : List ℕ) where
@@ -74,7 +74,7 @@ module _ (here : Seat) (moment : Moment) (s : State) (out : List ℕ) (req sub s
       behind : t ≡ after_task here.seen.base.site s (subscribe req sub sid channel wanted window) calls.marks
       behind = state ∙ ap (after_task here.seen.base.site s (subscribe req sub sid channel wanted window)) (sym calls.named.marks_are)
 
-      reply_ : Reply
+      abbrev reply_ : Reply
       reply_ = begun kinds.Monitor req sub (type_of here.seen.base.site channel)
 
       pub monitor_begun : (answer : Result (Unit {0}) NoMemory) (result : Result (Unit {0}) SessionStop) → result ≡ stopping answer
@@ -197,8 +197,10 @@ part_call kinds.Rpc part = absurd part
 part_call kinds.Monitor part = absurd part
 
 -- A session whose state is this.
-pub heeds_old : (seat : Seat) (s m : State) (out : List ℕ) (new : Shown) (moment : Moment) (h : Hearing) (result : Result (Unit {0}) SessionStop) → m ≡ s → Heeds (shown seat m out) new moment h result → Heeds (shown seat s out) new moment h result
-heeds_old seat s m out new moment h result same t = subst (λ (z : State). Heeds (shown seat z out) new moment h result) same t
+pub heeds_old : (seat : Seat) (s m : State) (out mid : List ℕ) (new : Shown) (moment : Moment) (h : Hearing) (result : Result (Unit {0}) SessionStop) → m ≡ s → mid ≡ out → Heeds (shown seat m mid) new moment h result
+    → Heeds (shown seat s out) new moment h result
+heeds_old seat s m out mid new moment h result same still t =
+    subst (λ (z : State). Heeds (shown seat z out) new moment h result) same (subst (λ (o : List ℕ). Heeds (shown seat m o) new moment h result) still t)
 
 -- this is written, or nothing
 pub writes_by : (old new : Session) (x : Sent) (result : Result (Unit {0}) NoMemory) → OnOk result (output_of new ≡ output_of old ++ spelled old.order old.segment x) → OnErr result (output_of new ≡ output_of old) → Writes old new x result

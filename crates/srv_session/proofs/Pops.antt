@@ -1,30 +1,35 @@
 -- Pops, and pumps, which are pops of all monitors that are due.
 use Rattle.std.proofs.Common.{◌≡◌, ◌≢◌, ◌==◌, ℕ, zero, suc, ◌+◌, ◌-◌, ◌<◌, Bool, true, false, ◌&&◌, ◌||◌, not, cond, List, [], ◌∷◌, ◌++◌, drop, length, Option, None, Some, Result, Ok, Err, refl, sym, ◌∙◌, ap, subst, arith, inl, inr, append_assoc}
-use Rattle.std.specs.Prelude.{◌⊎◌, is_some, nat_lt}
+use Rattle.std.specs.Prelude.{◌⊎◌, IsTrue, is_some, nat_lt}
 use Rattle.std.specs.List.{filter, list_all, list_any}
 use Rattle.std.specs.FinMap.{get as at, insert}
 use Rattle.std.proofs.lemmas.Bool.{false≢true}
 use Rattle.std.proofs.lemmas.Bool.Decides.{nat_tests}
 use Rattle.std.proofs.lemmas.Option.{none-some}
 use Rattle.std.proofs.lemmas.List.{append-nil}
+use Rattle.pvd_type.specs.Tree.{Tree}
 use Rattle.pvd_type.specs.declared.memory.NoMemory.{NoMemory}
+use Rattle.mon_queue.specs.Told.{IsUpdateOf}
 use Rattle.mon_queue.specs.declared.update.Update.{Update}
 use Rattle.desk_api.proofs.Adding.{adds_nothing, adds_more}
 use Rattle.desk_api.specs.Calls.{Adds, Calls, IsPop}
 use Rattle.desk_api.specs.History.{IsLegal}
+use Rattle.desk_api.specs.Living.{Living, living, lives}
+use Rattle.desk_api.specs.Sites.{is_channel, has_values}
+use Rattle.desk_api.specs.Types.{type_of}
 use Rattle.desk_api.specs.declared.channel.Channel.{Channel}
 use Rattle.desk_api.specs.declared.history.SiteData.{SiteData}
 use Rattle.desk_api.specs.declared.mark.Mark.{Mark}
 use Rattle.desk_api.specs.declared.mark.Mark.TheVariants.{Popped}
 use Rattle.desk_api.specs.declared.mark.Seat.{Seat}
 use Rattle.desk_api.specs.declared.sub.Sub.{Sub}
-use Rattle.srv_session.specs.State.{State, Requests, Asked, is_due, due, slot_of_sub, slots_of}
-use Rattle.srv_session.specs.Replies.{Sent, said, spelled, spelled_all, updated}
+use Rattle.srv_session.specs.State.{State, Requests, Asked, channel_at, is_due, due, slot_of_sub, slots_of}
+use Rattle.srv_session.specs.Replies.{Sent, is_call, said, spelled, spelled_all, updated}
 use Rattle.srv_session.specs.Rising.{is_rising}
-use Rattle.srv_session.specs.Steps.{Step, pops, IsDue, IsPopOf, PopRow, PopPart, one_sent, with_sent, after_pop, after_step, AreSteps, state_after, marks_of, sent_in, out_of, update_sent}
-use Rattle.srv_session.specs.Calls.{IsOf, Holds, ArePopsOf, is_some_sent, sends, Pumps, Pumped, PumpedSome, PumpStopped}
+use Rattle.srv_session.specs.Steps.{Step, hears, pops, IsDue, IsPopOf, PopRow, PopPart, one_sent, with_sent, after_pop, after_step, AreSteps, state_after, marks_of, sent_in, out_of, update_sent}
+use Rattle.srv_session.specs.Calls.{IsOf, IsHeld, Holds, ArePopsOf, is_some_sent, sends, Pumps, Pumped, PumpedSome, PumpStopped}
 use Rattle.srv_session.specs.Views.{state_of, output_of, show}
-use Rattle.srv_session.specs.Watching.{HasPopped, HasFailed, Pops, PopsDue, Idles}
+use Rattle.srv_session.specs.Watching.{HasPopped, HasFailed, PopsDue, Idles, SendsUpdate}
 use Rattle.srv_session.specs.declared.session.Session.{Session}
 use Rattle.srv_session.proofs.Tables.{got_beside}
 use Rattle.srv_session.proofs.Slots.{slots_insert}
@@ -49,6 +54,12 @@ is_there (Some ask) is = (ask, (refl, by_sub ask.sub (both_true (is_some ask.sub
 
 -- One pop.
 
+abbrev oks : Bool → Result Bool NoMemory
+oks more = Ok more
+
+abbrev fails : NoMemory → Result Bool NoMemory
+fails e = Err e
+
 module _ (here there : Seat) (s : State) (req : ℕ) (ask : Asked) (channel : Channel) (sub : Sub) (is : IsDue s req ask channel sub) (update : Option Update) (calls : Calls here there (IsPop sub.slot update)) where
   pop_of : IsPopOf s req channel update calls.marks
   pop_of = record { ask = ask; sub = sub; is_due = is; place = calls.named.at; marks_are = calls.named.marks_are }
@@ -57,7 +68,7 @@ module _ (here there : Seat) (s : State) (req : ℕ) (ask : Asked) (channel : Ch
   popped_row = record { channel = channel; update = update; is_pop = pop_of; sent_is = refl }
 
   pub popped_part : PopPart s calls.marks
-  popped_part = (req, (channel, (update, pop_of)))
+  popped_part = (req, channel, update, pop_of)
 
   -- the state behind it
   pub after_popped : after_pop s req calls.marks ≡ after_pop s req (Popped calls.named.at sub.slot update ∷ [])
@@ -108,6 +119,7 @@ are_more : (reqs : List ℕ) (steps : List Step) (req : ℕ) (marks : List Mark)
 are_more [] [] req marks sent are = (refl, tt)
 are_more [] (step ∷ steps) req marks sent are = absurd are
 are_more (r ∷ reqs) [] req marks sent are = absurd are
+are_more (r ∷ reqs) (hears e m t ∷ steps) req marks sent are = absurd are
 are_more (r ∷ reqs) (pops q m t ∷ steps) req marks sent are = (are.0, are_more reqs steps req marks sent are.1)
 
 sends_more : (xs ys : List Step) → sends (xs ++ ys) ≡ (sends xs || sends ys)
@@ -199,7 +211,7 @@ module _ (here : Seat) (s : State) (out : List ℕ) (now : Seat) (old : Session)
           on_site = g.on_site;
         }))))
       where
-        same_ok : {x y : Bool} → Ok {E = NoMemory} x ≡ Ok y → x ≡ y
+        same_ok : {x y : Bool} → oks x ≡ oks y → x ≡ y
         same_ok e = cc
 
     -- one that is was popped
@@ -297,7 +309,7 @@ module _ (here : Seat) (s : State) (out : List ℕ) (now there : Seat) (old new 
   pub going_failed : (e : NoMemory) → PopsDue now there old new id sent (Err e) → PumpStopped (shown here s out) (show there new)
   going_failed e p = by_test (is_due (at (state_of old).requests id)) refl
     where
-      err_ok : {x : NoMemory} {y : Bool} → Err x ≡ Ok y → ⊥
+      err_ok : {x : NoMemory} {y : Bool} → fails x ≡ oks y → ⊥
       err_ok e = cc
 
       by_test : (b : Bool) → is_due (at (state_of old).requests id) ≡ b → PumpStopped (shown here s out) (show there new)
@@ -308,3 +320,74 @@ pub rising_drop : (n : ℕ) (ids : List ℕ) → is_rising ids ≡ true → is_r
 rising_drop zero ids rising = rising
 rising_drop (suc n) [] rising = refl
 rising_drop (suc n) (id ∷ ids) rising = rising_drop n ids (both_true (list_all (λ x. nat_lt id x) ids) (is_rising ids) rising).1
+
+-- The monitor of a request that has a subscription, on its channel.
+module _ (site : SiteData) (log : List Mark) (s : State) (ok : Holds log s) (real : IsOf site s) (req : ℕ) (ask : Asked) (sub : Sub) (channel : Channel) (here : at s.requests req ≡ Some ask) (has : ask.sub ≡ Some sub)
+    (open_ : channel_at s.channels ask.sid ≡ Some channel) where
+  held_ : IsHeld log s.channels ask sub.slot
+  held_ = ok.held req ask sub here has
+
+  pub target_lives : lives log sub.slot ≡ true
+  target_lives = ap (λ (o : Option Living). is_some o) held_.there
+
+  pub target_real : IsTrue (is_channel site channel)
+  target_real = real.channels ask.sid channel open_
+
+  same_channel : {x y : Channel} → Some x ≡ Some y → x ≡ y
+  same_channel e = cc
+
+  pub target_valued : IsTrue (has_values channel)
+  target_valued =
+      let on = real.requests req ask here in
+      let call : is_call ask.kind ≡ false = ap is_call held_.kind_is in
+      subst (λ (c : Channel). IsTrue (has_values c)) (same_channel (sym on.open_ ∙ open_)) (on.selects call).valued
+
+  pub target_fits : (update : Update) → ((l : Living) → living log sub.slot ≡ Some l → IsUpdateOf (type_of site l.channel) update) → IsUpdateOf (type_of site channel) update
+  target_fits update fits =
+      subst (λ (c : Channel). IsUpdateOf (type_of site c) update) (same_channel (sym held_.channel_is ∙ open_)) (fits held_.subscribed held_.there)
+
+  pub target_due : is_due (at s.requests req) ≡ true → IsDue s req ask channel sub
+  target_due due = record { here = here; open_ = open_; subscribed = has; due = ap is_due (sym here) ∙ due }
+
+true_ : (b : Bool) → true ≡ (b || true)
+true_ true = refl
+true_ false = refl
+
+-- What a pop leaves, by what was sent.
+module _ (here there : Seat) (old : Session) (req : ℕ) (ask : Asked) (channel : Channel) (sub : Sub) (is : IsDue (state_of old) req ask channel sub) (before : Bool) where
+  pub popped_nothing : Calls here there (IsPop sub.slot None) → HasPopped here there old old req before before
+  popped_nothing calls = record {
+    marks = calls.marks;
+    sent = [];
+    row = popped_row here there (state_of old) req ask channel sub is None calls;
+    adds = calls.adds;
+    state = sym (after_popped here there (state_of old) req ask channel sub is None calls);
+    output = sym (append-nil (output_of old));
+    now_is = sym (or_false before);
+  }
+
+  module _ (update : Update) (calls : Calls here there (IsPop sub.slot (Some update))) (new : Session) (ty : Tree) (ty_is : ty ≡ type_of here.seen.base.site channel) where
+    pub popped_update : SendsUpdate old new req ty update (Ok tt) → HasPopped here there old new req before true
+    popped_update sends_ = record {
+      marks = calls.marks;
+      sent = said (updated req (type_of here.seen.base.site channel) update) ∷ [];
+      row = popped_row here there (state_of old) req ask channel sub is (Some update) calls;
+      adds = calls.adds;
+      state = sends_.1 ∙ sym (after_popped here there (state_of old) req ask channel sub is (Some update) calls);
+      output =
+          sends_.0 ∙ ap (λ (t : Tree). output_of old ++ spelled old.order old.segment (said (updated req t update))) ty_is
+          ∙ ap (λ (l : List ℕ). output_of old ++ l) (sym (append-nil (spelled old.order old.segment (said (updated req (type_of here.seen.base.site channel) update)))));
+      now_is = true_ before;
+    }
+
+    pub popped_unsent : (e : NoMemory) → SendsUpdate old new req ty update (Err e) → HasFailed here there old new
+    popped_unsent e kept = record {
+      next = calls.marks;
+      next_is = inr (popped_part here there (state_of old) req ask channel sub is (Some update) calls);
+      adds = calls.adds;
+      subscribed = ap (λ (z : State). slots_of z.requests) kept.1;
+      output = kept.0;
+    }
+
+pub nothing_popped : (here : Seat) (old : Session) → IsLegal here.seen → HasFailed here here old old
+nothing_popped here old legal = record { next = []; next_is = inl refl; adds = adds_nothing here legal; subscribed = refl; output = refl }

@@ -1,7 +1,10 @@
 -- The ids of monitors, which are kept rising.
 use Rattle.std.proofs.Common.{◌≡◌, ◌≢◌, ◌==◌, ℕ, zero, suc, ◌+◌, ◌<◌, ◌≤◌, Bool, true, false, ◌&&◌, ◌||◌, not, cond, List, [], ◌∷◌, ◌++◌, Option, None, Some, take, drop, map, length, refl, sym, ◌∙◌, ap, subst, arith, inl, inr, T}
-use Rattle.std.specs.Prelude.{◌⊎◌, get_or, is_some, nat_lt, slice_get}
-use Rattle.std.specs.List.{filter, list_all, list_any, prefix_len, insert as put_in, remove as taken_out}
+use Rattle.std.specs.Prelude.{◌⊎◌, IfNone, IfSome, get_or, is_some, nat_lt, slice_get}
+use Rattle.chan_table.specs.Tables.{Tables, without_ask}
+use Rattle.desk_api.specs.declared.channel.Channel.{Channel}
+use Rattle.desk_api.specs.declared.sub.Sub.{Sub}
+use Rattle.std.specs.List.{filter, flat_map, list_all, list_any, prefix_len, insert as put_in, remove as taken_out}
 use Rattle.std.specs.FinMap.{get, insert, remove, keys, entries, entries_sorted, get-entries, find, is_sorted}
 use Rattle.std.specs.FinMap.Entries.{below_all}
 use Rattle.std.specs.Ordering.{nat_cmp, eq_by_cmp, is_lt}
@@ -9,10 +12,13 @@ use Rattle.std.proofs.lemmas.Bool.{false≢true}
 use Rattle.std.proofs.lemmas.Bool.Decides.{nat_tests}
 use Rattle.std.proofs.lemmas.List.{at_drop_more}
 use Rattle.std.proofs.lemmas.Option.{none-some}
-use Rattle.srv_session.specs.State.{Asked, Requests, is_due, due}
+use Rattle.srv_session.specs.State.{Asked, Requests, is_due, due, is_on, on_only, without_channel, slot_of_sub, slot_of, slots_of}
 use Rattle.srv_session.specs.Rising.{is_rising, is_among, is_same, is_at, with_id, without_id, AreListed}
-use Rattle.srv_session.proofs.Tables.{same_or_not, got_inserted, got_beside, got_removed, got_left, both_parts, less, tied, untied}
-use Rattle.srv_session.proofs.Slots.{first_found, later_found}
+use Rattle.srv_session.specs.Steps.{with_sent, one_sent}
+use Rattle.srv_session.specs.Watching.{with_steered}
+use Rattle.srv_session.proofs.Tables.{same_or_not, got_inserted, got_beside, got_removed, got_left, got_without, both_parts, less, tied, untied}
+use Rattle.srv_session.proofs.Owning.{Has, has_slot}
+use Rattle.srv_session.proofs.Slots.{got_only}
 
 both_true : (a b : Bool) → (a && b) ≡ true → (a ≡ true) × (b ≡ true)
 both_true true b e = (refl, e)
@@ -50,20 +56,21 @@ out_rest x n ids = let one : 1 + n ≡ suc n = omega arith in ap (λ (k : ℕ). 
 
 pub is_there : (id : ℕ) (ids : List ℕ) → is_at id (prefix_len (below id) ids) ids ≡ true → ids ≡ with_id id ids
 is_there id [] at = absurd (false≢true at)
-is_there id (x ∷ ids) at = by_test (nat_lt x id) at
+is_there id (x ∷ ids) at = by_test (is_there id ids) (nat_lt x id) at
   where
-    by_test : (b : Bool) → is_at id (cond b (1 + prefix_len (below id) ids) 0) (x ∷ ids) ≡ true → x ∷ ids ≡ cond b (x ∷ with_id id ids) (cond (x == id) (x ∷ ids) (id ∷ x ∷ ids))
-    by_test true at = ap (λ (l : List ℕ). x ∷ l) (is_there id ids (sym (at_rest x id (prefix_len (below id) ids) ids) ∙ at))
-    by_test false at = ap (λ (b : Bool). cond b (x ∷ ids) (id ∷ x ∷ ids)) (sym at)
+    by_test : (is_at id (prefix_len (below id) ids) ids ≡ true → ids ≡ with_id id ids) → (b : Bool) → is_at id (cond b (1 + prefix_len (below id) ids) 0) (x ∷ ids) ≡ true
+        → x ∷ ids ≡ cond b (x ∷ with_id id ids) (cond (x == id) (x ∷ ids) (id ∷ x ∷ ids))
+    by_test step true at = ap (λ (l : List ℕ). x ∷ l) (step (sym (at_rest x id (prefix_len (below id) ids) ids) ∙ at))
+    by_test step false at = ap (λ (b : Bool). cond b (x ∷ ids) (id ∷ x ∷ ids)) (sym at)
 
 pub comes_in : (id : ℕ) (ids : List ℕ) → is_at id (prefix_len (below id) ids) ids ≡ false → put_in ids (prefix_len (below id) ids) id ≡ with_id id ids
 comes_in id [] at = refl
-comes_in id (x ∷ ids) at = by_test (nat_lt x id) at
+comes_in id (x ∷ ids) at = by_test (comes_in id ids) (nat_lt x id) at
   where
-    by_test : (b : Bool) → is_at id (cond b (1 + prefix_len (below id) ids) 0) (x ∷ ids) ≡ false
+    by_test : (is_at id (prefix_len (below id) ids) ids ≡ false → put_in ids (prefix_len (below id) ids) id ≡ with_id id ids) → (b : Bool) → is_at id (cond b (1 + prefix_len (below id) ids) 0) (x ∷ ids) ≡ false
         → put_in (x ∷ ids) (cond b (1 + prefix_len (below id) ids) 0) id ≡ cond b (x ∷ with_id id ids) (cond (x == id) (x ∷ ids) (id ∷ x ∷ ids))
-    by_test true at = put_rest x id (prefix_len (below id) ids) ids ∙ ap (λ (l : List ℕ). x ∷ l) (comes_in id ids (sym (at_rest x id (prefix_len (below id) ids) ids) ∙ at))
-    by_test false at = ap (λ (b : Bool). cond b (x ∷ ids) (id ∷ x ∷ ids)) (sym at)
+    by_test step true at = put_rest x id (prefix_len (below id) ids) ids ∙ ap (λ (l : List ℕ). x ∷ l) (step (sym (at_rest x id (prefix_len (below id) ids) ids) ∙ at))
+    by_test step false at = ap (λ (b : Bool). cond b (x ∷ ids) (id ∷ x ∷ ids)) (sym at)
 
 -- all are kept where all are greater
 all_kept : (x id : ℕ) (ids : List ℕ) → id ≤ x → list_all (λ y. nat_lt x y) ids ≡ true → without_id id ids ≡ ids
@@ -76,35 +83,36 @@ all_kept x id (y ∷ ids) le all =
 
 pub goes_out : (id : ℕ) (ids : List ℕ) → is_rising ids ≡ true → is_at id (prefix_len (below id) ids) ids ≡ true → taken_out ids (prefix_len (below id) ids) ≡ without_id id ids
 goes_out id [] rising at = absurd (false≢true at)
-goes_out id (x ∷ ids) rising at = by_test (nat_lt x id) refl at
+goes_out id (x ∷ ids) rising at = by_test (goes_out id ids parts.1) (nat_lt x id) refl at
   where
     parts : (list_all (λ y. nat_lt x y) ids ≡ true) × (is_rising ids ≡ true)
     parts = both_true (list_all (λ y. nat_lt x y) ids) (is_rising ids) rising
 
-    by_test : (b : Bool) → nat_lt x id ≡ b → is_at id (cond b (1 + prefix_len (below id) ids) 0) (x ∷ ids) ≡ true
+    by_test : (is_at id (prefix_len (below id) ids) ids ≡ true → taken_out ids (prefix_len (below id) ids) ≡ without_id id ids) → (b : Bool) → nat_lt x id ≡ b
+        → is_at id (cond b (1 + prefix_len (below id) ids) 0) (x ∷ ids) ≡ true
         → taken_out (x ∷ ids) (cond b (1 + prefix_len (below id) ids) 0) ≡ without_id id (x ∷ ids)
-    by_test true lt at =
+    by_test step true lt at =
         let test : (x == id) ≡ false = grind (arith, nat_tests) in
         out_rest x (prefix_len (below id) ids) ids
-        ∙ ap (λ (l : List ℕ). x ∷ l) (goes_out id ids parts.1 (sym (at_rest x id (prefix_len (below id) ids) ids) ∙ at))
+        ∙ ap (λ (l : List ℕ). x ∷ l) (step (sym (at_rest x id (prefix_len (below id) ids) ids) ∙ at))
         ∙ sym (ap (λ (b : Bool). cond (not b) (x ∷ without_id id ids) (without_id id ids)) test)
-    by_test false ge at =
+    by_test step false ge at =
         let one : x ≡ id = grind (arith, nat_tests) in
         sym (all_kept x id ids (omega (arith, one)) parts.0) ∙ sym (ap (λ (b : Bool). cond (not b) (x ∷ without_id id ids) (without_id id ids)) at)
 
 pub stays_out : (id : ℕ) (ids : List ℕ) → is_rising ids ≡ true → is_at id (prefix_len (below id) ids) ids ≡ false → ids ≡ without_id id ids
 stays_out id [] rising at = refl
-stays_out id (x ∷ ids) rising at = by_test (nat_lt x id) refl at
+stays_out id (x ∷ ids) rising at = by_test (stays_out id ids parts.1) (nat_lt x id) refl at
   where
     parts : (list_all (λ y. nat_lt x y) ids ≡ true) × (is_rising ids ≡ true)
     parts = both_true (list_all (λ y. nat_lt x y) ids) (is_rising ids) rising
 
-    by_test : (b : Bool) → nat_lt x id ≡ b → is_at id (cond b (1 + prefix_len (below id) ids) 0) (x ∷ ids) ≡ false → x ∷ ids ≡ without_id id (x ∷ ids)
-    by_test true lt at =
+    by_test : (is_at id (prefix_len (below id) ids) ids ≡ false → ids ≡ without_id id ids) → (b : Bool) → nat_lt x id ≡ b → is_at id (cond b (1 + prefix_len (below id) ids) 0) (x ∷ ids) ≡ false → x ∷ ids ≡ without_id id (x ∷ ids)
+    by_test step true lt at =
         let test : (x == id) ≡ false = grind (arith, nat_tests) in
-        ap (λ (l : List ℕ). x ∷ l) (stays_out id ids parts.1 (sym (at_rest x id (prefix_len (below id) ids) ids) ∙ at))
+        ap (λ (l : List ℕ). x ∷ l) (step (sym (at_rest x id (prefix_len (below id) ids) ids) ∙ at))
         ∙ sym (ap (λ (b : Bool). cond (not b) (x ∷ without_id id ids) (without_id id ids)) test)
-    by_test false ge at =
+    by_test step false ge at =
         let more : id ≤ x = grind (arith, nat_tests) in
         ap (λ (l : List ℕ). x ∷ l) (sym (all_kept x id ids more parts.0))
         ∙ sym (ap (λ (b : Bool). cond (not b) (x ∷ without_id id ids) (without_id id ids)) at)
@@ -113,15 +121,15 @@ stays_out id (x ∷ ids) rising at = by_test (nat_lt x id) refl at
 
 more_above : (x id : ℕ) (ids : List ℕ) → nat_lt x id ≡ true → list_all (λ y. nat_lt x y) ids ≡ true → list_all (λ y. nat_lt x y) (with_id id ids) ≡ true
 more_above x id [] lt all = true_both (nat_lt x id) true lt refl
-more_above x id (y ∷ ids) lt all = by_test (nat_lt y id) (y == id)
+more_above x id (y ∷ ids) lt all = by_test (more_above x id ids lt parts.1) (nat_lt y id) (y == id)
   where
     parts : (nat_lt x y ≡ true) × (list_all (λ z. nat_lt x z) ids ≡ true)
     parts = both_true (nat_lt x y) (list_all (λ z. nat_lt x z) ids) all
 
-    by_test : (a b : Bool) → list_all (λ z. nat_lt x z) (cond a (y ∷ with_id id ids) (cond b (y ∷ ids) (id ∷ y ∷ ids))) ≡ true
-    by_test true b = true_both (nat_lt x y) _ parts.0 (more_above x id ids lt parts.1)
-    by_test false true = all
-    by_test false false = true_both (nat_lt x id) _ lt all
+    by_test : list_all (λ z. nat_lt x z) (with_id id ids) ≡ true → (a b : Bool) → list_all (λ z. nat_lt x z) (cond a (y ∷ with_id id ids) (cond b (y ∷ ids) (id ∷ y ∷ ids))) ≡ true
+    by_test step true b = true_both (nat_lt x y) _ parts.0 step
+    by_test step false true = all
+    by_test step false false = true_both (nat_lt x id) _ lt all
 
 above_too : (x y : ℕ) (ids : List ℕ) → x ≤ y → list_all (λ z. nat_lt y z) ids ≡ true → list_all (λ z. nat_lt x z) ids ≡ true
 above_too x y [] le all = refl
@@ -132,64 +140,64 @@ above_too x y (z ∷ ids) le all =
 
 pub rising_with : (id : ℕ) (ids : List ℕ) → is_rising ids ≡ true → is_rising (with_id id ids) ≡ true
 rising_with id [] rising = refl
-rising_with id (x ∷ ids) rising = by_test (nat_lt x id) (x == id) refl refl
+rising_with id (x ∷ ids) rising = by_test (rising_with id ids parts.1) (nat_lt x id) (x == id) refl refl
   where
     parts : (list_all (λ y. nat_lt x y) ids ≡ true) × (is_rising ids ≡ true)
     parts = both_true (list_all (λ y. nat_lt x y) ids) (is_rising ids) rising
 
-    by_test : (a b : Bool) → nat_lt x id ≡ a → (x == id) ≡ b → is_rising (cond a (x ∷ with_id id ids) (cond b (x ∷ ids) (id ∷ x ∷ ids))) ≡ true
-    by_test true b lt same = true_both _ _ (more_above x id ids lt parts.0) (rising_with id ids parts.1)
-    by_test false true lt same = rising
-    by_test false false lt same =
+    by_test : is_rising (with_id id ids) ≡ true → (a b : Bool) → nat_lt x id ≡ a → (x == id) ≡ b → is_rising (cond a (x ∷ with_id id ids) (cond b (x ∷ ids) (id ∷ x ∷ ids))) ≡ true
+    by_test step true b lt same = true_both _ _ (more_above x id ids lt parts.0) step
+    by_test step false true lt same = rising
+    by_test step false false lt same =
         let less : nat_lt id x ≡ true = grind (arith, nat_tests) in
         let le : id ≤ x = grind (arith, nat_tests) in
         true_both _ _ (true_both (nat_lt id x) _ less (above_too id x ids le parts.0)) rising
 
 kept_above : (x : ℕ) (test : ℕ → Bool) (ids : List ℕ) → list_all (λ y. nat_lt x y) ids ≡ true → list_all (λ y. nat_lt x y) (filter test ids) ≡ true
 kept_above x test [] all = refl
-kept_above x test (y ∷ ids) all = by_test (test y)
+kept_above x test (y ∷ ids) all = by_test (kept_above x test ids parts.1) (test y)
   where
     parts : (nat_lt x y ≡ true) × (list_all (λ z. nat_lt x z) ids ≡ true)
     parts = both_true (nat_lt x y) (list_all (λ z. nat_lt x z) ids) all
 
-    by_test : (b : Bool) → list_all (λ z. nat_lt x z) (cond b (y ∷ filter test ids) (filter test ids)) ≡ true
-    by_test true = true_both (nat_lt x y) _ parts.0 (kept_above x test ids parts.1)
-    by_test false = kept_above x test ids parts.1
+    by_test : list_all (λ z. nat_lt x z) (filter test ids) ≡ true → (b : Bool) → list_all (λ z. nat_lt x z) (cond b (y ∷ filter test ids) (filter test ids)) ≡ true
+    by_test step true = true_both (nat_lt x y) _ parts.0 step
+    by_test step false = step
 
 pub rising_filter : (test : ℕ → Bool) (ids : List ℕ) → is_rising ids ≡ true → is_rising (filter test ids) ≡ true
 rising_filter test [] rising = refl
-rising_filter test (x ∷ ids) rising = by_test (test x)
+rising_filter test (x ∷ ids) rising = by_test (rising_filter test ids parts.1) (test x)
   where
     parts : (list_all (λ y. nat_lt x y) ids ≡ true) × (is_rising ids ≡ true)
     parts = both_true (list_all (λ y. nat_lt x y) ids) (is_rising ids) rising
 
-    by_test : (b : Bool) → is_rising (cond b (x ∷ filter test ids) (filter test ids)) ≡ true
-    by_test true = true_both _ _ (kept_above x test ids parts.0) (rising_filter test ids parts.1)
-    by_test false = rising_filter test ids parts.1
+    by_test : is_rising (filter test ids) ≡ true → (b : Bool) → is_rising (cond b (x ∷ filter test ids) (filter test ids)) ≡ true
+    by_test step true = true_both _ _ (kept_above x test ids parts.0) step
+    by_test step false = step
 
 -- What is among them.
 
 pub among_with : (q id : ℕ) (ids : List ℕ) → is_among q ids ≡ true → is_among q (with_id id ids) ≡ true
 among_with q id [] is = absurd (false≢true is)
-among_with q id (x ∷ ids) is = by_test (nat_lt x id) (x == id)
+among_with q id (x ∷ ids) is = by_test (among_with q id ids) (nat_lt x id) (x == id)
   where
-    by_test : (a b : Bool) → is_among q (cond a (x ∷ with_id id ids) (cond b (x ∷ ids) (id ∷ x ∷ ids))) ≡ true
-    by_test true b = by_place (either_true (x == q) (is_among q ids) is)
-      where
-        by_place : ((x == q) ≡ true) ⊎ (is_among q ids ≡ true) → ((x == q) || is_among q (with_id id ids)) ≡ true
-        by_place (inl e) = or_true (x == q) _ e
-        by_place (inr e) = true_or (x == q) _ (among_with q id ids e)
-    by_test false true = is
-    by_test false false = true_or (id == q) _ is
+    by_place : (is_among q ids ≡ true → is_among q (with_id id ids) ≡ true) → ((x == q) ≡ true) ⊎ (is_among q ids ≡ true) → ((x == q) || is_among q (with_id id ids)) ≡ true
+    by_place step (inl e) = or_true (x == q) _ e
+    by_place step (inr e) = true_or (x == q) _ (step e)
+
+    by_test : (is_among q ids ≡ true → is_among q (with_id id ids) ≡ true) → (a b : Bool) → is_among q (cond a (x ∷ with_id id ids) (cond b (x ∷ ids) (id ∷ x ∷ ids))) ≡ true
+    by_test step true b = by_place step (either_true (x == q) (is_among q ids) is)
+    by_test step false true = is
+    by_test step false false = true_or (id == q) _ is
 
 pub among_new : (id : ℕ) (ids : List ℕ) → is_among id (with_id id ids) ≡ true
 among_new id [] = let test : (id == id) ≡ true = grind (arith, nat_tests) in or_true (id == id) false test
-among_new id (x ∷ ids) = by_test (nat_lt x id) (x == id) refl
+among_new id (x ∷ ids) = by_test (among_new id ids) (nat_lt x id) (x == id) refl
   where
-    by_test : (a b : Bool) → (x == id) ≡ b → is_among id (cond a (x ∷ with_id id ids) (cond b (x ∷ ids) (id ∷ x ∷ ids))) ≡ true
-    by_test true b is = true_or (x == id) _ (among_new id ids)
-    by_test false true is = or_true (x == id) _ is
-    by_test false false is = let test : (id == id) ≡ true = grind (arith, nat_tests) in or_true (id == id) _ test
+    by_test : is_among id (with_id id ids) ≡ true → (a b : Bool) → (x == id) ≡ b → is_among id (cond a (x ∷ with_id id ids) (cond b (x ∷ ids) (id ∷ x ∷ ids))) ≡ true
+    by_test step true b is = true_or (x == id) _ step
+    by_test step false true is = or_true (x == id) _ is
+    by_test step false false is = let test : (id == id) ≡ true = grind (arith, nat_tests) in or_true (id == id) _ test
 
 pub among_filter : (q : ℕ) (test : ℕ → Bool) (ids : List ℕ) → is_among q (filter test ids) ≡ (test q && is_among q ids)
 among_filter q test [] = and_false (test q)
@@ -197,29 +205,29 @@ among_filter q test [] = and_false (test q)
     and_false : (b : Bool) → false ≡ (b && false)
     and_false true = refl
     and_false false = refl
-among_filter q test (x ∷ ids) = by_same (x == q) refl
+among_filter q test (x ∷ ids) = by_same (among_filter q test ids) (x == q) refl
   where
     dropped : (b : Bool) → is_among q (cond b (x ∷ filter test ids) (filter test ids)) ≡ ((b && (x == q)) || is_among q (filter test ids))
     dropped true = refl
     dropped false = refl
 
-    by_same : (b : Bool) → (x == q) ≡ b → is_among q (filter test (x ∷ ids)) ≡ (test q && (b || is_among q ids))
-    by_same true is =
+    by_same : is_among q (filter test ids) ≡ (test q && is_among q ids) → (b : Bool) → (x == q) ≡ b → is_among q (filter test (x ∷ ids)) ≡ (test q && (b || is_among q ids))
+    by_same step true is =
         let one : x ≡ q = grind (arith, nat_tests) in
         dropped (test x)
         ∙ ap (λ (c : Bool). (test x && c) || is_among q (filter test ids)) is
-        ∙ ap (λ (l : Bool). (test x && true) || l) (among_filter q test ids)
+        ∙ ap (λ (l : Bool). (test x && true) || l) step
         ∙ ap (λ (y : ℕ). (test y && true) || (test q && is_among q ids)) one
         ∙ absorbed (test q) (is_among q ids)
       where
         absorbed : (t l : Bool) → ((t && true) || (t && l)) ≡ (t && true)
         absorbed true l = refl
         absorbed false l = refl
-    by_same false is =
+    by_same step false is =
         dropped (test x)
         ∙ ap (λ (c : Bool). (test x && c) || is_among q (filter test ids)) is
         ∙ nothing (test x) (is_among q (filter test ids))
-        ∙ among_filter q test ids
+        ∙ step
       where
         nothing : (t l : Bool) → ((t && false) || l) ≡ l
         nothing true l = refl
@@ -244,7 +252,7 @@ same_rising [] (y ∷ ys) a b same =
     let test : (y == y) ≡ true = grind (arith, nat_tests) in absurd (false≢true (same y ∙ or_true (y == y) _ test))
 same_rising (x ∷ xs) [] a b same =
     let test : (x == x) ≡ true = grind (arith, nat_tests) in absurd (false≢true (sym (same x) ∙ or_true (x == x) _ test))
-same_rising (x ∷ xs) (y ∷ ys) a b same = by_order (nat_lt x y) (nat_lt y x) refl refl
+same_rising (x ∷ xs) (y ∷ ys) a b same = by_order (same_rising xs ys left.1 right.1) (nat_lt x y) (nat_lt y x) refl refl
   where
     left : (list_all (λ z. nat_lt x z) xs ≡ true) × (is_rising xs ≡ true)
     left = both_true (list_all (λ z. nat_lt x z) xs) (is_rising xs) a
@@ -252,20 +260,20 @@ same_rising (x ∷ xs) (y ∷ ys) a b same = by_order (nat_lt x y) (nat_lt y x) 
     right : (list_all (λ z. nat_lt y z) ys ≡ true) × (is_rising ys ≡ true)
     right = both_true (list_all (λ z. nat_lt y z) ys) (is_rising ys) b
 
-    by_order : (less more : Bool) → nat_lt x y ≡ less → nat_lt y x ≡ more → x ∷ xs ≡ y ∷ ys
-    by_order true more lt gt =
+    by_order : (((q : ℕ) → is_among q xs ≡ is_among q ys) → xs ≡ ys) → (less more : Bool) → nat_lt x y ≡ less → nat_lt y x ≡ more → x ∷ xs ≡ y ∷ ys
+    by_order step true more lt gt =
         let test : (x == x) ≡ true = grind (arith, nat_tests) in
         let apart : (y == x) ≡ false = grind (arith, nat_tests) in
         let le : x ≤ y = grind (arith, nat_tests) in
         absurd (false≢true (sym (in_first y x ys apart ∙ none_below x y ys le right.0) ∙ sym (same x) ∙ or_true (x == x) _ test))
-    by_order false true lt gt =
+    by_order step false true lt gt =
         let test : (y == y) ≡ true = grind (arith, nat_tests) in
         let apart : (x == y) ≡ false = grind (arith, nat_tests) in
         let le : y ≤ x = grind (arith, nat_tests) in
         absurd (false≢true (sym (in_first x y xs apart ∙ none_below y x xs le left.0) ∙ same y ∙ or_true (y == y) _ test))
-    by_order false false lt gt =
+    by_order step false false lt gt =
         let one : x ≡ y = grind (arith, nat_tests) in
-        let rest : xs ≡ ys = same_rising xs ys left.1 right.1 (λ q. others one q (x == q) refl) in
+        let rest : xs ≡ ys = step (λ q. others one q (x == q) refl) in
         λ i. one i ∷ rest i
       where
         others : x ≡ y → (q : ℕ) (b : Bool) → (x == q) ≡ b → is_among q xs ≡ is_among q ys
@@ -296,15 +304,15 @@ rising_keys (e ∷ es) sorted =
 
 key_among : {V : Type 0} (q : ℕ) (es : List (ℕ × V)) → is_among q (map (λ e. e.0) es) ≡ is_some (find nat_cmp q es)
 key_among q [] = refl
-key_among q (e ∷ es) = by_test (e.0 == q) refl
+key_among q (e ∷ es) = by_test (key_among q es) (e.0 == q) refl
   where
-    by_test : (b : Bool) → (e.0 == q) ≡ b → (b || is_among q (map (λ x. x.0) es)) ≡ is_some (cond (eq_by_cmp nat_cmp q e.0) (Some e.1) (find nat_cmp q es))
-    by_test true is =
+    by_test : is_among q (map (λ x. x.0) es) ≡ is_some (find nat_cmp q es) → (b : Bool) → (e.0 == q) ≡ b → (b || is_among q (map (λ x. x.0) es)) ≡ is_some (cond (eq_by_cmp nat_cmp q e.0) (Some e.1) (find nat_cmp q es))
+    by_test step true is =
         let one : q ≡ e.0 = grind (arith, nat_tests) in
         sym (ap (λ (b : Bool). is_some (cond b (Some e.1) (find nat_cmp q es))) (tied q e.0 one))
-    by_test false is =
+    by_test step false is =
         let apart : q ≢ e.0 = λ same. let other : (e.0 == q) ≡ true = grind (arith, nat_tests) in false≢true (sym is ∙ other) in
-        key_among q es ∙ sym (ap (λ (b : Bool). is_some (cond b (Some e.1) (find nat_cmp q es))) (untied q e.0 apart))
+        step ∙ sym (ap (λ (b : Bool). is_some (cond b (Some e.1) (find nat_cmp q es))) (untied q e.0 apart))
 
 due_some : (o : Option Asked) → is_due o ≡ true → (is_some o ≡ true) × ((ask : Asked) → o ≡ Some ask → is_some ask.sub ≡ true)
 due_some None is = absurd (false≢true is)
@@ -383,3 +391,93 @@ module _ (id : ℕ) (ids : List ℕ) (i : ℕ) (lt : i < length ids) where
       let none : prefix_len (below id) (drop i ids) ≡ 0 =
       at_drop_more (prefix_len (below id)) ids i 0 lt ∙ ap (λ (b : Bool). cond b (1 + prefix_len (below id) (drop (i + 1) ids)) 0) is in
       omega (arith, none)
+
+-- Requests that have the same slots under each id have the same slots.
+
+is_any : List ℕ → Bool
+is_any [] = false
+is_any (x ∷ xs) = true
+
+flat_filter : (f : ℕ → List ℕ) (ks : List ℕ) → flat_map f (filter (λ q. is_any (f q)) ks) ≡ flat_map f ks
+flat_filter f [] = refl
+flat_filter f (k ∷ ks) = by_case (flat_filter f ks) (f k) refl
+  where
+    by_case : flat_map f (filter (λ q. is_any (f q)) ks) ≡ flat_map f ks → (l : List ℕ) → f k ≡ l
+        → flat_map f (cond (is_any (f k)) (k ∷ filter (λ q. is_any (f q)) ks) (filter (λ q. is_any (f q)) ks)) ≡ f k ++ flat_map f ks
+    by_case step [] is =
+        ap (λ (l : List ℕ). flat_map f (cond (is_any l) (k ∷ filter (λ q. is_any (f q)) ks) (filter (λ q. is_any (f q)) ks))) is
+        ∙ step ∙ ap (λ (l : List ℕ). l ++ flat_map f ks) (sym is)
+    by_case step (x ∷ l) is =
+        ap (λ (z : List ℕ). flat_map f (cond (is_any z) (k ∷ filter (λ q. is_any (f q)) ks) (filter (λ q. is_any (f q)) ks))) is
+        ∙ ap (λ (z : List ℕ). f k ++ z) step
+
+flat_same : (f g : ℕ → List ℕ) → ((q : ℕ) → f q ≡ g q) → (ks : List ℕ) → flat_map f ks ≡ flat_map g ks
+flat_same f g same [] = refl
+flat_same f g same (k ∷ ks) = ap (λ (l : List ℕ). l ++ flat_map f ks) (same k) ∙ ap (λ (l : List ℕ). g k ++ l) (flat_same f g same ks)
+
+some_slot : (o : Option Asked) → is_any (slot_of o) ≡ true → is_some o ≡ true
+some_slot None is = absurd (false≢true is)
+some_slot (Some ask) is = refl
+
+pub same_slots : (m n : Requests) → ((q : ℕ) → slot_of (get n q) ≡ slot_of (get m q)) → slots_of n ≡ slots_of m
+same_slots m n same =
+    sym (flat_filter new (keys n)) ∙ flat_same new old same (filter (λ q. is_any (new q)) (keys n))
+    ∙ ap (flat_map old)
+    (same_rising (filter (λ q. is_any (new q)) (keys n)) (filter (λ q. is_any (old q)) (keys m)) (rising_filter _ (keys n) (rising_keys (entries n) (entries_sorted n))) (rising_filter _ (keys m) (rising_keys (entries m) (entries_sorted m)))
+    (λ q. among_filter q (λ k. is_any (new k)) (keys n) ∙ by_test q (is_any (old q)) refl ∙ sym (among_filter q (λ k. is_any (old k)) (keys m))))
+    ∙ flat_filter old (keys m)
+  where
+    new : ℕ → List ℕ
+    new q = slot_of (get n q)
+
+    old : ℕ → List ℕ
+    old q = slot_of (get m q)
+
+    both_false : (a b x y : Bool) → a ≡ false → b ≡ false → (a && x) ≡ (b && y)
+    both_false true b x y p q = absurd (false≢true (sym p))
+    both_false false true x y p q = absurd (false≢true (sym q))
+    both_false false false x y p q = refl
+
+    both_in : (a b x y : Bool) → a ≡ true → b ≡ true → x ≡ true → y ≡ true → (a && x) ≡ (b && y)
+    both_in true true x y p q r t = r ∙ sym t
+    both_in true false x y p q r t = absurd (false≢true q)
+    both_in false b x y p q r t = absurd (false≢true p)
+
+    key_of : (k : Requests) (q : ℕ) → is_any (slot_of (get k q)) ≡ true → is_among q (keys k) ≡ true
+    key_of k q is = key_among q (entries k) ∙ ap (λ (o : Option Asked). is_some o) (sym (get-entries k q)) ∙ some_slot (get k q) is
+
+    by_test : (q : ℕ) (b : Bool) → is_any (old q) ≡ b → (is_any (new q) && is_among q (keys n)) ≡ (is_any (old q) && is_among q (keys m))
+    by_test q false is = both_false (is_any (new q)) (is_any (old q)) _ _ (ap is_any (same q) ∙ is) is
+    by_test q true is = both_in (is_any (new q)) (is_any (old q)) _ _ (ap is_any (same q) ∙ is) is (key_of n q (ap is_any (same q) ∙ is)) (key_of m q is)
+
+-- Where the requests on a channel have no slots, the others have all.
+pub others_slots : (sid : ℕ) (m : Requests) → slots_of (on_only sid m) ≡ [] → slots_of (without_channel sid m) ≡ slots_of m
+others_slots sid m none = same_slots m (without_channel sid m) (λ q. by_test q (is_on sid (get m q)) refl)
+  where
+    no_sub : (q : ℕ) (ask : Asked) → get (on_only sid m) q ≡ Some ask → (o : Option Sub) → ask.sub ≡ o → [] ≡ slot_of_sub o
+    no_sub q ask here None is = refl
+    no_sub q ask here (Some sub) is =
+        absurd (subst (Has sub.slot) none (has_slot (on_only sid m) sub.slot (record { req = q; ask = ask; sub = sub; here = here; subscribed = is; slot_is = refl })))
+
+    no_slot : (q : ℕ) → is_on sid (get m q) ≡ true → (o : Option Asked) → get m q ≡ o → [] ≡ slot_of o
+    no_slot q on None here = refl
+    no_slot q on (Some ask) here = no_sub q ask (got_only sid m q ∙ ap (λ (b : Bool). cond b (get m q) None) on ∙ here) ask.sub refl
+
+    by_test : (q : ℕ) (b : Bool) → is_on sid (get m q) ≡ b → slot_of (get (without_channel sid m) q) ≡ slot_of (get m q)
+    by_test q false off = ap slot_of (got_without sid m q ∙ ap (λ (b : Bool). cond (not b) (get m q) None) off)
+    by_test q true on = ap slot_of (got_without sid m q ∙ ap (λ (b : Bool). cond (not b) (get m q) None) on) ∙ no_slot q on (get m q) refl
+
+-- A monitor changes, and stays one.
+
+pub listed_sent : (ids : List ℕ) (m : Requests) (req : ℕ) (o : Option Asked) → get m req ≡ o → AreListed ids m → AreListed ids (with_sent req o m)
+listed_sent ids m req None here listed = listed
+listed_sent ids m req (Some ask) here listed = listed_insert ids m req (one_sent ask) listed (λ has. listed req ask here has)
+
+pub listed_steered : (ids : List ℕ) (m : Requests) (req sub : ℕ) (window : Option ℕ) (o : Option Asked) → get m req ≡ o → AreListed ids m → AreListed ids (with_steered req sub window o m)
+listed_steered ids m req sub window None here listed = listed
+listed_steered ids m req sub window (Some ask) here listed = listed_insert ids m req _ listed (λ has. listed req ask here has)
+
+-- one of a channel is taken out, if there is one
+pub listed_taken : (ids : List ℕ) (old new : Tables Channel Sub) (result : Option (ℕ × Asked)) → IfSome result (λ taken. new ≡ without_ask old taken.0) → IfNone result (new ≡ old) → AreListed ids old.asks → AreListed ids new.asks
+listed_taken ids old new (Some taken) rest none listed = subst (λ (t : Tables Channel Sub). AreListed ids t.asks) (sym rest) (listed_without ids old.asks taken.0 listed)
+listed_taken ids old new None rest none listed = subst (λ (t : Tables Channel Sub). AreListed ids t.asks) (sym none) listed

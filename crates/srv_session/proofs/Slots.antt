@@ -1,9 +1,9 @@
 -- The slots of requests, by the rising ids of the requests.
-use Rattle.std.proofs.Common.{◌≡◌, ◌≢◌, ℕ, zero, suc, ◌+◌, ◌<◌, ◌≤◌, Bool, true, false, cond, not, T, List, [], ◌∷◌, ◌++◌, length, Option, None, Some, Result, Ok, Err, map, refl, sym, ◌∙◌, ap, subst, arith, inl, inr, append_assoc}
+use Rattle.std.proofs.Common.{◌≡◌, ◌≢◌, ℕ, zero, suc, ◌+◌, ◌<◌, ◌≤◌, Bool, true, false, cond, T, List, [], ◌∷◌, ◌++◌, Option, None, Some, Result, Ok, Err, map, refl, sym, ◌∙◌, ap, subst, arith, inl, inr, append_assoc}
 use Rattle.std.specs.Prelude.{◌⊎◌, OnErr}
 use Rattle.std.specs.List.{flat_map}
-use Rattle.std.specs.FinMap.{get, insert, remove, retain_keys, entries, entries_sorted, entries-insert, find, put, is_sorted, get-entries, get-retain_keys, same_map, nat_cmp-IsAntisymmetric}
-use Rattle.std.specs.FinMap.Entries.{below_all, by_order, where_key}
+use Rattle.std.specs.FinMap.{get, insert, remove, entries, entries_sorted, entries-insert, find, put, is_sorted, get-entries, get-retain_keys, same_map, nat_cmp-IsAntisymmetric}
+use Rattle.std.specs.FinMap.Entries.{below_all, by_order}
 use Rattle.std.specs.Ordering.{nat_cmp, eq_by_cmp, is_lt}
 use Rattle.std.specs.declared.cmp.Ordering.{Ordering}
 use Rattle.std.specs.declared.cmp.Ordering.TheVariants.{Less, Equal, Greater}
@@ -12,7 +12,7 @@ use Rattle.std.proofs.lemmas.Cmp.{nat_cmp_total, ranked}
 use Rattle.std.proofs.lemmas.Option.{none-some}
 use Rattle.std.proofs.lemmas.List.{append-nil}
 use Rattle.pvd_type.specs.declared.memory.NoMemory.{NoMemory}
-use Rattle.srv_session.specs.State.{State, Asked, Requests, is_on, on_only, without_channel, slot_of_sub, slot_of, slots_of}
+use Rattle.srv_session.specs.State.{State, Asked, Requests, is_on, on_only, slot_of_sub, slot_of, slots_of}
 use Rattle.srv_session.proofs.Tables.{tied, untied, same_or_not, got_inserted, got_beside, got_removed, got_left, nothing_removed, both_parts, AllFrom, above, weaker, missing, all_from_zero}
 
 -- the slots of the requests in a list of entries
@@ -51,23 +51,24 @@ slots_entries m = by_slots (get m) 0 (entries m) (entries_sorted m) (all_from_ze
 
 pub slots_put : (k : ℕ) (v : Asked) (es : List (ℕ × Asked)) → T (is_sorted nat_cmp es) → slot_of (find nat_cmp k es) ≡ slot_of_sub v.sub → slots_in (put nat_cmp k v es) ≡ slots_in es
 slots_put k v [] sorted same = ap (λ (l : List ℕ). l ++ []) (sym same)
-slots_put k v (e ∷ es) sorted same = by_rank (nat_cmp k e.0) refl
+slots_put k v (e ∷ es) sorted same = by_rank (slots_put k v es parts.1) (nat_cmp k e.0) refl
   where
     parts : T (below_all nat_cmp e.0 es) × T (is_sorted nat_cmp es)
     parts = both_parts (below_all nat_cmp e.0 es) (is_sorted nat_cmp es) sorted
 
-    by_rank : (r : Ordering) → r ≡ nat_cmp k e.0 → slots_in (by_order r ((k, v) ∷ e ∷ es) ((e.0, v) ∷ es) (e ∷ put nat_cmp k v es)) ≡ slot_of_sub e.1.sub ++ slots_in es
-    by_rank Less is =
+    by_rank : (slot_of (find nat_cmp k es) ≡ slot_of_sub v.sub → slots_in (put nat_cmp k v es) ≡ slots_in es) → (r : Ordering) → r ≡ nat_cmp k e.0
+        → slots_in (by_order r ((k, v) ∷ e ∷ es) ((e.0, v) ∷ es) (e ∷ put nat_cmp k v es)) ≡ slot_of_sub e.1.sub ++ slots_in es
+    by_rank step Less is =
         let lt : k < e.0 = ranked k e.0 Less is in
         let none : find nat_cmp k (e ∷ es) ≡ None = missing k (e ∷ es) (omega (arith, lt), weaker (k + 1) (e.0 + 1) es (omega (arith, lt)) (above e.0 es parts.0)) in
         ap (λ (l : List ℕ). l ++ (slot_of_sub e.1.sub ++ slots_in es)) (sym same ∙ ap slot_of none)
-    by_rank Equal is =
+    by_rank step Equal is =
         let one : k ≡ e.0 = ranked k e.0 Equal is in
         let here : find nat_cmp k (e ∷ es) ≡ Some e.1 = ap (λ (q : ℕ). find nat_cmp q (e ∷ es)) one ∙ first_found e es in
         ap (λ (l : List ℕ). l ++ slots_in es) (sym same ∙ ap slot_of here)
-    by_rank Greater is =
+    by_rank step Greater is =
         let gt : e.0 < k = ranked k e.0 Greater is in
-        ap (λ (l : List ℕ). slot_of_sub e.1.sub ++ l) (slots_put k v es parts.1 (ap slot_of (sym (later_found k e es gt)) ∙ same))
+        ap (λ (l : List ℕ). slot_of_sub e.1.sub ++ l) (step (ap slot_of (sym (later_found k e es gt)) ∙ same))
 
 -- a request that comes first
 front : (k : ℕ) (v : Asked) (es : List (ℕ × Asked)) → AllFrom (k + 1) es → put nat_cmp k v es ≡ (k, v) ∷ es
@@ -176,34 +177,6 @@ module _ (sid : ℕ) (m : Requests) (id : ℕ) (ask : Asked) (here : get m id �
   slots_first_on =
       slots_first (on_only sid m) id ask first_here (λ q lt. got_only sid m q ∙ ap (λ (b : Bool). cond b (get m q) None) (least q lt))
       ∙ ap (λ (r : Requests). slot_of_sub ask.sub ++ slots_of r) rest_only
-
--- Where the requests on a channel have no slots, the others have all.
-
-nothing_in : {xs ys : List ℕ} → xs ++ ys ≡ [] → (xs ≡ []) × (ys ≡ [])
-nothing_in {[]} e = (refl, e)
-nothing_in {x ∷ xs} e = absurd (omega (arith, ap length e))
-
-kept_slots : (test : ℕ → Bool) (es : List (ℕ × Asked)) → slots_in (where_key nat_cmp test es) ≡ [] → slots_in (where_key nat_cmp (λ q. not (test q)) es) ≡ slots_in es
-kept_slots test [] none = refl
-kept_slots test (e ∷ es) none = by_test (test e.0) none
-  where
-    by_test : (b : Bool) → slots_in (cond b (e ∷ where_key nat_cmp test es) (where_key nat_cmp test es)) ≡ []
-        → slots_in (cond (not b) (e ∷ where_key nat_cmp (λ q. not (test q)) es) (where_key nat_cmp (λ q. not (test q)) es)) ≡ slot_of_sub e.1.sub ++ slots_in es
-    by_test true none =
-        let parts = nothing_in none in
-        kept_slots test es parts.1 ∙ ap (λ (l : List ℕ). l ++ slots_in es) (sym parts.0)
-    by_test false none = ap (λ (l : List ℕ). slot_of_sub e.1.sub ++ l) (kept_slots test es none)
-
-retained : (m : Requests) (test : ℕ → Bool) → entries (retain_keys m test) ≡ where_key nat_cmp test (entries m)
-unfolding retain_keys entries
-retained m test = refl
-
-pub others_slots : (sid : ℕ) (m : Requests) → slots_of (on_only sid m) ≡ [] → slots_of (without_channel sid m) ≡ slots_of m
-others_slots sid m none =
-    let test : ℕ → Bool = λ (q : ℕ). is_on sid (get m q) in
-    slots_entries (without_channel sid m) ∙ ap slots_in (retained m (λ q. not (test q)))
-    ∙ kept_slots test (entries m) (ap slots_in (sym (retained m test)) ∙ sym (slots_entries (on_only sid m)) ∙ none)
-    ∙ sym (slots_entries m)
 
 -- Where the state is as before, the subscriptions are.
 pub still : {s t : State} → t ≡ s → slots_of t.requests ≡ slots_of s.requests

@@ -1,6 +1,6 @@
 -- What contracts see of monitors.
-use Rattle.std.specs.Prelude.{◌≡◌, ◌⊎◌, ◌||◌, ℕ, Bool, true, false, List, [], ◌∷◌, ◌++◌, Result, Ok, Err, codes}
-use Rattle.std.specs.FinMap.{get as at}
+use Rattle.std.specs.Prelude.{◌≡◌, ◌⊎◌, ◌||◌, ℕ, Bool, true, false, List, [], ◌∷◌, ◌++◌, Option, None, Some, Result, Ok, Err, codes}
+use Rattle.std.specs.FinMap.{get as at, insert}
 use Rattle.pvd_type.specs.Tree.{Tree}
 use Rattle.pvd_type.specs.declared.memory.NoMemory.{NoMemory}
 use Rattle.journal_core.specs.Moments.{Moment}
@@ -12,10 +12,10 @@ use Rattle.desk_api.specs.declared.mark.Seat.{Seat}
 use Rattle.desk_api.specs.declared.sub.SubAnswer.{SubAnswer}
 use Rattle.desk_api.specs.declared.sub.SubAnswer.TheVariants as answers
 use Rattle.srv_session.specs.Calls.{is_some_sent}
-use Rattle.srv_session.specs.State.{State, is_due, slots_of}
+use Rattle.srv_session.specs.State.{State, Asked, Requests, is_due, slots_of}
 use Rattle.srv_session.specs.Replies.{Sent, said, spelled, spelled_all, refused, updated}
 use Rattle.srv_session.specs.Steps.{PopRow, PopPart, after_pop, with_sent}
-use Rattle.srv_session.specs.Tasks.{Hearing}
+use Rattle.srv_session.specs.Tasks.{Hearing, started_by}
 use Rattle.srv_session.specs.Views.{state_of, output_of, HeedsHearing}
 use Rattle.srv_session.specs.declared.session.Session.{Session}
 use Rattle.srv_session.specs.declared.stop.SessionStop.{SessionStop}
@@ -35,6 +35,12 @@ RefusesSubscription old new req sub (answers.TooManyMonitors count) result =
     Writes old new (said (refused kinds.Monitor req sub (codes "too many monitors"))) result
 RefusesSubscription old new req sub answers.NoMemory (Ok u) = ⊥
 RefusesSubscription old new req sub answers.NoMemory (Err e) = output_of new ≡ output_of old
+
+-- The requests, where a monitor has this window now, and is started as a subcommand says.
+abbrev pub with_steered : ℕ → ℕ → Option ℕ → Option Asked → Requests → Requests
+with_steered req sub window None requests = requests
+with_steered req sub window (Some ask) requests =
+    insert requests req (record ask { window = window; started = started_by sub ask.started })
 
 -- An update was written, and one is less free in its monitor's window; or memory ran out, and all is as before.
 

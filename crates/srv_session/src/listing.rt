@@ -1,7 +1,9 @@
 // The ids of monitors, which are kept rising.
-ghost use Rattle.std.specs.Prelude.{◌≡◌, ◌<◌, ◌≤◌, true, length, nat_lt, vec_len, vec_capacity};
+ghost use Rattle.std.specs.Prelude.{◌≡◌, ◌<◌, true, nat_lt, OnOk, vec_len, vec_capacity};
 ghost use Rattle.std.specs.List.{prefix_len};
 ghost use Rattle.srv_session.specs.Rising.{is_rising, is_at, with_id, without_id};
+
+use pvd_type::NoMemory;
 
 /// How many ids are below this one before the first that isn't.
 fn place_of(ids: &[u32], id: u32) -> usize
@@ -23,6 +25,15 @@ fn is_at(ids: &[u32], place: usize, id: u32) -> bool
         Some(found) => *found == id,
         None => false,
     }
+}
+
+/// Takes the memory for one id more.
+pub(crate) fn make_room(ids: &mut Vec<u32>) -> Result<(), NoMemory>
+    ensures ids { ids.new.items ≡ ids.old.items }
+    ensures room { OnOk result (vec_len ids.new < vec_capacity ids.new) }
+{
+    ids.reserve(1)?;
+    Ok(())
 }
 
 /// Adds an id, for which there is room, if it isn't there. It takes no memory.

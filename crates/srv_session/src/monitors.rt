@@ -1,14 +1,16 @@
 // Monitors that begin and are steered (pvAccess Protocol Specification, "Channel Monitor").
 ghost use Rattle.std.specs.Prelude.{◌≡◌, IfOk, is_err};
+ghost use Rattle.std.specs.FinMap.{get as at};
 ghost use Rattle.srv_session.specs.Tasks.{acknowledged, is_over};
+ghost use Rattle.srv_session.specs.Watching.{with_steered};
 
 use crate::asking::{root_for, type_on, unfit};
 use crate::handling::stopping;
-use crate::listing::list;
+use crate::listing::{list, make_room};
 use crate::session::Session;
 use crate::stop::SessionStop;
 use crate::subcommand::{ends, started_by};
-use chan_table::{Ask, AskKind};
+use chan_table::{Ask, AskKind, Table};
 use desk_api::{Channel, Desk, Sub, SubAnswer};
 use mon_window::{Window, WindowFault};
 use pva_messages::begins;
@@ -43,8 +45,19 @@ fn acknowledged(window: Option<Window>, count: Option<u32>) -> Result<Option<Win
     Ok(Some(window))
 }
 
+/// A monitor has this window now, and is started as the subcommand says.
+fn steer_in(table: &mut Table<Channel, Sub>, req: u32, sub: u8, window: Option<Window>)
+    ensures asks { table.new.asks ≡ with_steered req sub window (at table.old.asks req) table.old.asks }
+    ensures channels { table.new.channels ≡ table.old.channels }
+{
+    if let Some(ask) = table.ask_mut(req) {
+        ask.window = window;
+        ask.started = started_by(sub, ask.started);
+    }
+}
+
 impl Session {
-    ghost use Rattle.std.specs.Prelude.{◌≡◌, ◌<◌, ◌≤◌, false, true, IfSome, IsTrue, Some, vec_len, vec_capacity};
+    ghost use Rattle.std.specs.Prelude.{◌≡◌, ◌<◌, ◌≤◌, true, IfSome, IsTrue, OnOk, Some, vec_len, vec_capacity};
     ghost use Rattle.std.specs.FinMap.{get as at, insert};
     ghost use Rattle.chan_table.specs.Tables.{IsReady};
     ghost use Rattle.chan_table.specs.declared.ask.AskKind.TheVariants as kinds;
@@ -58,7 +71,7 @@ impl Session {
     ghost use Rattle.srv_session.specs.Calls.{IsOf, Holds};
     ghost use Rattle.srv_session.specs.Rows.{monitor_of};
     ghost use Rattle.srv_session.specs.Tasks as task;
-    ghost use Rattle.srv_session.specs.Tasks.{asks, beginning, beginning_as, beginning_on, heard_monitor, started_by, steering, unfit, wanted_for, windowed};
+    ghost use Rattle.srv_session.specs.Tasks.{asks, beginning, beginning_as, beginning_on, heard_monitor, steering, unfit, wanted_for, windowed};
     ghost use Rattle.srv_session.specs.Views.{state_of, output_of};
     ghost use Rattle.srv_session.specs.Watching.{HeedsAnytime, RefusesSubscription};
 
@@ -108,7 +121,7 @@ impl Session {
         let Some(channel) = self.channel_at(sid) else {
             return stopping(self.refuse_channel(AskKind::Monitor, req, sub));
         };
-        match self.table.reserve(req) {
+        match self.make_room(req) {
             Ok(()) => self.begin_monitor_on(alloc, sid, channel, req, sub, request, count, desk),
             Err(answer) => stopping(self.refuse_place(AskKind::Monitor, req, sub, answer)),
         }
@@ -186,6 +199,7 @@ impl Session {
         requires size { (1 ≤ wanted.queue) × (wanted.queue ≤ 64) }
         ensures { HeedsAnytime (D.seat desk.old) (D.seat desk.new) self.old self.new (windowed (state_of self.old).types count (task.begin kinds.Monitor req sub sid channel wanted)) result }
     {
+        desk.has_legal_history();
         match first_window(count) {
             Ok(window) => self.subscribe(alloc, sid, channel, req, sub, wanted, window, desk),
             Err(fault) => Err(SessionStop::Window(fault)),
@@ -213,7 +227,7 @@ impl Session {
         ensures { HeedsAnytime (D.seat desk.old) (D.seat desk.new) self.old self.new (asks (task.subscribe req sub sid channel wanted window) (state_of self.old).types) result }
     {
         desk.has_legal_history();
-        let Ok(()) = self.monitors.reserve(1) else {
+        let Ok(()) = self.make_monitor_room() else {
             return Err(SessionStop::NoMemory);
         };
         match desk.subscribe(alloc, channel, &wanted.mask, wanted.queue) {
@@ -223,6 +237,16 @@ impl Session {
             }
             Err(answer) => stopping(self.refuse_subscription(req, sub, answer)),
         }
+    }
+
+    /// Takes the memory for the id of one monitor more.
+    fn make_monitor_room(&mut self) -> Result<(), NoMemory>
+        ensures state { state_of self.new ≡ state_of self.old }
+        ensures output { output_of self.new ≡ output_of self.old }
+        ensures table { self.new.table ≡ self.old.table }
+        ensures room { OnOk result (vec_len self.new.monitors < vec_capacity self.new.monitors) }
+    {
+        make_room(&mut self.monitors)
     }
 
     /// Says why no subscription began.
@@ -300,12 +324,9 @@ impl Session {
 
     /// A monitor has this window now, and is started as the subcommand says.
     fn set_monitor(&mut self, req: u32, sub: u8, window: Option<Window>)
-        ensures state { (ask : Asked) → at (state_of self.old).requests req ≡ Some ask → state_of self.new ≡ record (state_of self.old) { requests = insert (state_of self.old).requests req (record ask { window = window; started = started_by sub ask.started }) } }
+        ensures state { state_of self.new ≡ record (state_of self.old) { requests = with_steered req sub window (at (state_of self.old).requests req) (state_of self.old).requests } }
         ensures output { output_of self.new ≡ output_of self.old }
     {
-        if let Some(ask) = self.table.ask_mut(req) {
-            ask.window = window;
-            ask.started = started_by(sub, ask.started);
-        }
+        steer_in(&mut self.table, req, sub, window);
     }
 }

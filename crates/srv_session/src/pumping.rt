@@ -1,10 +1,13 @@
 // Updates of monitors (pvAccess Protocol Specification, "Channel Monitor").
 ghost use Rattle.std.specs.Prelude.{◌≡◌, ◌-◌, option_map};
+ghost use Rattle.std.specs.FinMap.{get as at};
 ghost use Rattle.srv_session.specs.State.{is_window_open};
+ghost use Rattle.srv_session.specs.Steps.{with_sent};
 
 use crate::asking::type_on;
 use crate::session::Session;
-use desk_api::Desk;
+use chan_table::Table;
+use desk_api::{Channel, Desk, Sub};
 use mon_queue::Update;
 use mon_window::Window;
 use pva_messages::write_monitor_update;
@@ -30,6 +33,16 @@ fn spent(window: Option<Window>) -> Option<Window>
             Some(copy)
         }
         None => None,
+    }
+}
+
+/// Takes one update out of the window of a monitor.
+fn spend_in(table: &mut Table<Channel, Sub>, req: u32)
+    ensures asks { table.new.asks ≡ with_sent req (at table.old.asks req) table.old.asks }
+    ensures channels { table.new.channels ≡ table.old.channels }
+{
+    if let Some(ask) = table.ask_mut(req) {
+        ask.window = spent(ask.window);
     }
 }
 
@@ -82,9 +95,7 @@ impl Session {
         ensures monitors { self.new.monitors ≡ self.old.monitors }
         ensures output { output_of self.new ≡ output_of self.old }
     {
-        if let Some(ask) = self.table.ask_mut(req) {
-            ask.window = spent(ask.window);
-        }
+        spend_in(&mut self.table, req);
     }
 
     /// Sends an update of the monitor of this id.

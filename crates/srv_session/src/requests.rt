@@ -17,9 +17,9 @@ pub(crate) struct Found {
 }
 
 impl Session {
-    ghost use Rattle.std.specs.Prelude.{◌≡◌, ◌≢◌, ◌++◌, false, true, IfSome, IsTrue, None, Some, codes};
+    ghost use Rattle.std.specs.Prelude.{◌≡◌, ◌≢◌, ◌++◌, false, true, IfErr, IfSome, IsTrue, None, OnOk, Some, codes};
     ghost use Rattle.std.specs.FinMap.{get as at};
-    ghost use Rattle.chan_table.specs.Tables.{IsReady};
+    ghost use Rattle.chan_table.specs.Tables.{IsReady, Refuses};
     ghost use Rattle.std.specs.FinSet as set;
     ghost use Rattle.pvd_value.specs.Fits.{fits_of};
     ghost use Rattle.pvd_value.specs.View.{view};
@@ -68,10 +68,20 @@ impl Session {
         let Some(channel) = self.channel_at(sid) else {
             return self.refuse_channel(kind, req, sub);
         };
-        match self.table.reserve(req) {
+        match self.make_room(req) {
             Ok(()) => self.begin_on(alloc, kind, sid, channel, req, sub, request, desk),
             Err(answer) => self.refuse_place(kind, req, sub, answer),
         }
+    }
+
+    /// Takes the memory for a request of this id, or says why it can't begin.
+    pub(crate) fn make_room(&mut self, req: u32) -> Result<(), TableAnswer>
+        ensures state { state_of self.new ≡ state_of self.old }
+        ensures output { output_of self.new ≡ output_of self.old }
+        ensures ready { OnOk result (IsReady self.new.table req) }
+        ensures refused { IfErr result (Refuses self.old.table req) }
+    {
+        self.table.reserve(req)
     }
 
     /// Says that the channel of a request that would begin isn't open, whatever else could be said.

@@ -1,4 +1,4 @@
-use Rattle.std.proofs.Common.{◌<◌, omega, arith, refl, sym, ◌∙◌, ap, subst}
+use Rattle.std.proofs.Common.{◌<◌, arith, refl, sym, ◌∙◌, ap, subst}
 use Rattle.std.specs.FinMap.{get, len}
 use Rattle.srv_session.specs.State.{State, Requests, slots_of}
 use Rattle.srv_session.specs.Views.{state_of, output_of}

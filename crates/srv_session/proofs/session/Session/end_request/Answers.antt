@@ -9,6 +9,8 @@ use Rattle.srv_session.specs.Calls.{AreLiving}
 use Rattle.srv_session.specs.Rows.{AreEndingsOf}
 use Rattle.srv_session.specs.Views.{state_of}
 use Rattle.srv_session.proofs.Ending.{ends_none}
+use Rattle.srv_session.specs.Rising.{AreListed}
+use Rattle.srv_session.proofs.Rising.{listed_without}
 use Rattle.srv_session.proofs.Tables.{got_removed}
 use Rattle.srv_session.proofs.session.Session.end_request.Goals as goal
 
@@ -36,3 +38,13 @@ returns-clause-calls g c =
 pub returns-clause-state : goal.returns-clause-state
 returns-clause-state g c =
     let after : Tables Channel Sub → State = λ (t : Tables Channel Sub). record (state_of c.args.self.now) { channels = t.channels; requests = t.asks } in c.end_taken.ensures.state ∙ ap after c.remove.ensures.rest
+
+pub invariant_of-self : goal.invariant_of-self
+invariant_of-self g c =
+    let ids = c.args.self.now.monitors.items in
+    record {
+      some = c.args.self.now.some;
+      within = c.args.self.now.within;
+      rising = c.args.self.now.rising;
+      listed = subst (λ (t : Tables Channel Sub). AreListed ids t.asks) (sym c.remove.ensures.rest) (listed_without ids c.args.self.now.table.asks c.args.req c.args.self.now.listed);
+    }

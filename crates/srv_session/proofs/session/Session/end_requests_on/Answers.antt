@@ -7,6 +7,7 @@ use Rattle.srv_session.specs.State.{State, Requests, on_only, slots_of}
 use Rattle.srv_session.specs.Calls.{AreLiving}
 use Rattle.srv_session.specs.Views.{state_of, output_of}
 use Rattle.srv_session.proofs.Ending.{closing_first, closing_next, closing_last, first_on, first_lives}
+use Rattle.srv_session.proofs.Rising.{listed_taken}
 use Rattle.srv_session.proofs.Tables.{fewer, got_removed, sid_not_on}
 use Rattle.srv_session.proofs.session.Session.end_requests_on.Goals as goal
 
@@ -56,3 +57,13 @@ returns-clause-state g c =
     ap after none.none
     ∙ (closing_last (g.D.Desk.seat c.args.desk.now) (state_of c.args.self.now) (output_of c.args.self.now) c.args.sid (g.D.Desk.seat c.loop-taken.desk) (state_of c.loop-taken.self) (output_of c.loop-taken.self) c.loop-taken.invariant
     (λ q. sid_not_on c.loop-taken.self.table.asks c.args.sid q (none.least.none q))).1
+
+pub invariant_of-self : goal.invariant_of-self
+invariant_of-self g c =
+    let before = c.loop-taken.self in
+    record {
+      some = before.some;
+      within = before.within;
+      rising = before.rising;
+      listed = listed_taken before.monitors.items before.table c.take_of.new.self c.take_of.result c.take_of.ensures.rest c.take_of.ensures.none before.listed;
+    }

@@ -1,4 +1,4 @@
-use Rattle.std.proofs.Common.{◌≡◌, sym, ◌∙◌, ap, subst}
+use Rattle.std.proofs.Common.{◌≡◌, sym, ◌∙◌, ap, subst, refl}
 use Rattle.std.specs.Prelude.{Bool, Option}
 use Rattle.pvd_value.specs.View.{view}
 use Rattle.desk_api.specs.Calls.{Calls, IsGet, IsPartOfGet}

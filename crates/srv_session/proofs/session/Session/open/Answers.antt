@@ -8,7 +8,8 @@ use Rattle.desk_api.specs.declared.sub.Sub.{Sub}
 use Rattle.srv_session.specs.State.{State, Channels}
 use Rattle.srv_session.specs.Replies.{spelled, said}
 use Rattle.srv_session.specs.Views.{state_of, output_of}
-use Rattle.srv_session.proofs.Opening.{opens, opens_reply}
+use Rattle.srv_session.proofs.Opening.{opens, opens_reply, opened_asks}
+use Rattle.srv_session.specs.Rising.{AreListed}
 use Rattle.srv_session.proofs.Rows.{on_ok}
 use Rattle.srv_session.proofs.session.Session.open.Goals as goal
 
@@ -31,3 +32,15 @@ returns-in-Ok-clause-ok g c =
     let added = c.in-Ok.ensures {u = tt} in
     subst (λ (r : Reply). OnOk c.say_created-in-Ok.result (output_of c.say_created-in-Ok.new.self ≡ output_of c.args.self.now ++ spelled s.order s.segment (said r)))
     (opens_reply s.channels c.args.cid c.in-Some.channel (channel_named site c.args.name.now) is c.in-Ok.sid added.few added.least) c.say_created-in-Ok.ensures.ok
+
+pub invariant_of-self : goal.invariant_of-self
+invariant_of-self g c =
+    let ids = c.args.self.now.monitors.items in
+    let old = c.args.self.now.table in
+    record {
+      some = c.args.self.now.some;
+      within = c.args.self.now.within;
+      rising = c.args.self.now.rising;
+      listed =
+          subst (AreListed ids) (sym (opened_asks old c.add_channel.new.self c.args.cid c.in-Some.channel c.add_channel.result c.add_channel.ensures.ok c.add_channel.ensures.err)) c.args.self.now.listed;
+    }
