@@ -15,9 +15,8 @@ use Rattle.pvd_desc.specs.Types.{Types}
 use Rattle.pvd_request.specs.declared.request.Request.{Request as Wanted}
 use Rattle.mon_queue.specs.declared.update.Update.{Update}
 use Rattle.chan_table.specs.declared.ask.AskKind.TheVariants as kinds
-use Rattle.desk_api.specs.Calls.{looks_of}
+use Rattle.desk_api.proofs.Staying.{puts_leave, put_gets_leave}
 use Rattle.desk_api.specs.Living.{Living, living, lives, popped_too}
-use Rattle.desk_api.specs.Sites.{is_atomic}
 use Rattle.desk_api.specs.declared.channel.Channel.{Channel}
 use Rattle.desk_api.specs.declared.history.SiteData.{SiteData}
 use Rattle.desk_api.specs.declared.mark.Mark.{Mark}
@@ -26,11 +25,12 @@ use Rattle.desk_api.specs.declared.sub.Sub.{Sub}
 use Rattle.srv_session.specs.State.{State, Requests, Asked, is_on, on_only, without_channel, slot_of, slots_of, opening}
 use Rattle.srv_session.specs.Tasks.{Task, pass_over, echo_control, refuse, tell, validate, echo, create, destroy_channel, begin, get, put, put_get, respond, snapshot, subscribe, steer, destroy_request, Hearing, asks, unreadable, over_range, heard}
 use Rattle.srv_session.specs.Replies.{Sent}
-use Rattle.srv_session.specs.Rows.{Row, Part, AreEndingsOf, subscribed, ask_of, monitor_of, steered, behind, after_task, left_by}
+use Rattle.srv_session.specs.Rows.{asked, Row, Part, AreEndingsOf, subscribed, ask_of, monitor_of, steered, behind, after_task, left_by}
 use Rattle.srv_session.specs.Steps.{Step, hears, pops, knowing, IsAnswer, PartOf, EventPart, NextPart, IsStep, AreSteps, AreEndings, one_sent, with_sent, after_pop, after_hearing, after_step, left_by_hearing, after_part, state_after, marks_in, marks_of}
-use Rattle.srv_session.proofs.Owning.{AllPlain, living_plain, living_append, Has, any_has, unended, ended, Owns, has_slot, has_owned}
+use Rattle.srv_session.proofs.Rows.{whole_is_part, snapshot_is_part}
+use Rattle.srv_session.proofs.Owning.{AllLeave, living_append, Has, any_has, unended, ended, Owns, has_slot, has_owned}
 use Rattle.srv_session.proofs.OnSite.{IsTaskOf, IsPlain, IsHeardOf, heard_so, knows}
-use Rattle.srv_session.proofs.Kept.{same_ask, Was, was_itself, was_left, was_behind, was_new, was_like, looks_plain, put_plain, put_get_plain, says_plain, none_plain, Subscribes, began, crowded, without, subscribes}
+use Rattle.srv_session.proofs.Kept.{same_ask, Was, was_itself, was_left, was_behind, was_new, was_like, get_leaves, snapshot_leaves, says_leave, none_leave, Subscribes, began, crowded, without, subscribes}
 use Rattle.srv_session.proofs.Tables.{same_or_not, got_inserted, got_beside, got_left, got_without, stays_elsewhere}
 
 pub record Covers (log : List Mark) (s : State) : Type 0 where
@@ -47,10 +47,10 @@ covers_by log marks s t was owned c = record {
 
 -- Plain marks.
 
-lived : (log marks : List Mark) (slot : ℕ) → AllPlain marks → lives (log ++ marks) slot ≡ true → lives log slot ≡ true
-lived log marks slot plain is = ap (λ o. is_some o) (sym (living_append slot None log marks ∙ living_plain slot (living log slot) marks plain)) ∙ is
+lived : (log marks : List Mark) (slot : ℕ) → AllLeave marks → lives (log ++ marks) slot ≡ true → lives log slot ≡ true
+lived log marks slot plain is = ap (λ o. is_some o) (sym (living_append slot None log marks ∙ plain slot (living log slot))) ∙ is
 
-module _ (log marks : List Mark) (s : State) (c : Covers log s) (plain : AllPlain marks) where
+module _ (log marks : List Mark) (s : State) (c : Covers log s) (plain : AllLeave marks) where
   owned_before : (slot : ℕ) → lives (log ++ marks) slot ≡ true → Owns s.requests slot
   owned_before slot is = c.owned slot (lived log marks slot plain is)
 
@@ -92,7 +92,7 @@ owned_like s req slot new old there same o = by_id (same_or_not o.req req)
         record { req = req; ask = new; sub = o.sub; here = got_inserted s.requests req new; subscribed = same ∙ ap (λ (z : Asked). z.sub) one ∙ o.subscribed; slot_is = o.slot_is }
     by_id (inr apart) = record { req = o.req; ask = o.ask; sub = o.sub; here = got_beside s.requests req new o.req apart ∙ o.here; subscribed = o.subscribed; slot_is = o.slot_is }
 
-covers_like : (log marks : List Mark) (s : State) → AllPlain marks → (req : ℕ) (new old : Asked) → at s.requests req ≡ Some old → new.sub ≡ old.sub → new.sid ≡ old.sid → new.mask ≡ old.mask → new.kind ≡ old.kind
+covers_like : (log marks : List Mark) (s : State) → AllLeave marks → (req : ℕ) (new old : Asked) → at s.requests req ≡ Some old → new.sub ≡ old.sub → new.sid ≡ old.sid → new.mask ≡ old.mask → new.kind ≡ old.kind
     → Covers log s → Covers (log ++ marks) (record s { requests = insert s.requests req new })
 covers_like log marks s plain req new old there sub sid mask kind c =
     covers_by log marks s (record s { requests = insert s.requests req new })
@@ -181,11 +181,11 @@ module _ (log : List Mark) (s : State) (c : Covers log s) (req sid : ℕ) (wante
       subst (λ (ms : List Mark). Covers (log ++ ms) (record s { requests = subscribed req sid wanted window ms s.requests })) (sym is) (covers_begun place index slot channel size)
   covers_subscribed channel marks (crowded place index count is) =
       subst (λ (ms : List Mark). Covers (log ++ ms) (record s { requests = subscribed req sid wanted window ms s.requests })) (sym is)
-      (covers_same log (Crowded place index count ∷ []) s c (refl, tt) s refl)
+      (covers_same log (Crowded place index count ∷ []) s c (λ slot o. refl) s refl)
   covers_subscribed channel marks (without is) =
-      subst (λ (ms : List Mark). Covers (log ++ ms) (record s { requests = subscribed req sid wanted window ms s.requests })) (sym is) (covers_same log [] s c tt s refl)
+      subst (λ (ms : List Mark). Covers (log ++ ms) (record s { requests = subscribed req sid wanted window ms s.requests })) (sym is) (covers_same log [] s c (λ slot o. refl) s refl)
 
-covers_new : (log marks : List Mark) (s : State) → AllPlain marks → (req : ℕ) (new : Asked) → at s.requests req ≡ None → new.sub ≡ None → Covers log s → Covers (log ++ marks) (record s { requests = insert s.requests req new })
+covers_new : (log marks : List Mark) (s : State) → AllLeave marks → (req : ℕ) (new : Asked) → at s.requests req ≡ None → new.sub ≡ None → Covers log s → Covers (log ++ marks) (record s { requests = insert s.requests req new })
 covers_new log marks s plain req new free none c =
     covers_by log marks s (record s { requests = insert s.requests req new }) (λ q ask sub here is. was_new s req new none q ask sub here is)
     (λ slot is. owned_put s req slot new free (owned_before log marks s c plain slot is)) c
@@ -194,47 +194,47 @@ covers_new log marks s plain req new free none c =
 
 module _ (site : SiteData) (log marks : List Mark) (sent : List Sent) where
   row_covers : (s : State) (task : Task) → IsTaskOf site s task → Row site s task marks sent → Covers log s → Covers (log ++ marks) (after_task site s task marks)
-  row_covers s pass_over of p c = covers_same log marks s c (says_plain _ marks sent p) s refl
-  row_covers s (echo_control number) of p c = covers_same log marks s c (says_plain _ marks sent p) s refl
-  row_covers s (refuse r) of p c = covers_same log marks s c (says_plain _ marks sent p) s refl
-  row_covers s (tell r) of p c = covers_same log marks s c (says_plain _ marks sent p) s refl
-  row_covers s (validate buffer registry user host) of p c = covers_same log marks s c (says_plain _ marks sent p) _ refl
-  row_covers s (echo payload) of p c = covers_same log marks s c (says_plain _ marks sent p) s refl
-  row_covers s (create names) of p c = covers_same log marks s c (says_plain _ marks sent p) _ refl
+  row_covers s pass_over of p c = covers_same log marks s c (says_leave _ marks sent p) s refl
+  row_covers s (echo_control number) of p c = covers_same log marks s c (says_leave _ marks sent p) s refl
+  row_covers s (refuse r) of p c = covers_same log marks s c (says_leave _ marks sent p) s refl
+  row_covers s (tell r) of p c = covers_same log marks s c (says_leave _ marks sent p) s refl
+  row_covers s (validate buffer registry user host) of p c = covers_same log marks s c (says_leave _ marks sent p) _ refl
+  row_covers s (echo payload) of p c = covers_same log marks s c (says_leave _ marks sent p) s refl
+  row_covers s (create names) of p c = covers_same log marks s c (says_leave _ marks sent p) _ refl
   row_covers s (destroy_channel sid cid) of p c = covers_closed log marks s c sid p.endings _ refl
-  row_covers s (begin kind req sub sid channel wanted) of p c = covers_new log marks s (says_plain _ marks sent p) req (ask_of kind sid wanted) of.free refl c
-  row_covers s (get kind req sub ask channel) of p c = covers_behind log marks s c (looks_plain channel (looks_of site channel ask.atomic) marks p.is_get.looks) req sub of
-  row_covers s (put req sub ask channel mask value) of p c = covers_behind log marks s c (put_plain _ p.answer marks p.is_put) req sub of
+  row_covers s (begin kind req sub sid channel wanted) of p c = covers_new log marks s (says_leave _ marks sent p) req (ask_of kind sid wanted) of.free refl c
+  row_covers s (get kind req sub ask channel) of p c = covers_behind log marks s c (get_leaves site channel ask.atomic marks (whole_is_part site channel ask.atomic p.value marks p.is_get)) req sub of
+  row_covers s (put req sub ask channel mask value) of p c = covers_behind log marks s c (λ slot o. puts_leave slot o _ p.answer marks p.is_put) req sub of
   row_covers s (put_get req sub ask channel mask value) of p c =
-      covers_behind log marks s c (put_get_plain (is_atomic site channel ask.atomic) _ p.answer marks p.is_put_get) req sub of
-  row_covers s (respond req sub r) of p c = covers_behind log marks s c (says_plain _ marks sent p) req sub of
-  row_covers s (snapshot req sub) of p c = covers_behind log marks s c (subst AllPlain (sym p.is_snapshot.marks_are) (refl, tt)) req sub of
+      covers_behind log marks s c (λ slot o. put_gets_leave slot o (asked site ask channel mask value p.moment) p.answer marks p.is_put_get) req sub of
+  row_covers s (respond req sub r) of p c = covers_behind log marks s c (says_leave _ marks sent p) req sub of
+  row_covers s (snapshot req sub) of p c = covers_behind log marks s c (snapshot_leaves site marks (snapshot_is_part site p.rows marks p.is_snapshot)) req sub of
   row_covers s (subscribe req sub sid channel wanted count) of p c =
       covers_subscribed log s c req sid wanted count of.0.free channel marks (subscribes channel wanted.mask wanted.queue p.answer marks p.is_subscribe)
-  row_covers s (steer req count started ask) of p c = covers_like log marks s (says_plain _ marks sent p) req (steered count started ask) ask of.here refl refl refl refl c
+  row_covers s (steer req count started ask) of p c = covers_like log marks s (says_leave _ marks sent p) req (steered count started ask) ask of.here refl refl refl refl c
   row_covers s (destroy_request req) of p c = covers_ended log marks s c req p.endings
 
 module _ (site : SiteData) (log : List Mark) where
   part_covers : (s : State) (task : Task) (marks : List Mark) → IsTaskOf site s task → Part site s task marks → Covers log s → Covers (log ++ marks) (left_by site s task marks)
-  part_covers s pass_over marks of p c = covers_same log marks s c (none_plain marks p) s refl
-  part_covers s (echo_control number) marks of p c = covers_same log marks s c (none_plain marks p) s refl
-  part_covers s (refuse r) marks of p c = covers_same log marks s c (none_plain marks p) s refl
-  part_covers s (tell r) marks of p c = covers_same log marks s c (none_plain marks p) s refl
-  part_covers s (validate buffer registry user host) marks of p c = covers_same log marks s c (none_plain marks p) s refl
-  part_covers s (echo payload) marks of p c = covers_same log marks s c (none_plain marks p) s refl
-  part_covers s (create names) marks of p c = covers_same log marks s c (none_plain marks p) s refl
-  part_covers s (destroy_channel sid cid) [] of p c = covers_same log [] s c tt s refl
+  part_covers s pass_over marks of p c = covers_same log marks s c (none_leave marks p) s refl
+  part_covers s (echo_control number) marks of p c = covers_same log marks s c (none_leave marks p) s refl
+  part_covers s (refuse r) marks of p c = covers_same log marks s c (none_leave marks p) s refl
+  part_covers s (tell r) marks of p c = covers_same log marks s c (none_leave marks p) s refl
+  part_covers s (validate buffer registry user host) marks of p c = covers_same log marks s c (none_leave marks p) s refl
+  part_covers s (echo payload) marks of p c = covers_same log marks s c (none_leave marks p) s refl
+  part_covers s (create names) marks of p c = covers_same log marks s c (none_leave marks p) s refl
+  part_covers s (destroy_channel sid cid) [] of p c = covers_same log [] s c (λ slot o. refl) s refl
   part_covers s (destroy_channel sid cid) (mark ∷ marks) of p c = covers_closed log (mark ∷ marks) s c sid p _ refl
-  part_covers s (begin kind req sub sid channel wanted) marks of p c = covers_same log marks s c (none_plain marks p) s refl
-  part_covers s (get kind req sub ask channel) marks of p c = covers_same log marks s c (looks_plain channel _ marks p.looks) s refl
-  part_covers s (put req sub ask channel mask value) marks of p c = covers_same log marks s c (put_plain _ p.1 marks p.2) s refl
-  part_covers s (put_get req sub ask channel mask value) marks of p c = covers_same log marks s c (put_get_plain (is_atomic site channel ask.atomic) _ p.1 marks p.2) s refl
-  part_covers s (respond req sub r) marks of p c = covers_same log marks s c (none_plain marks p) s refl
-  part_covers s (snapshot req sub) marks of p c = covers_same log marks s c (looks_plain _ _ marks p.looks) s refl
+  part_covers s (begin kind req sub sid channel wanted) marks of p c = covers_same log marks s c (none_leave marks p) s refl
+  part_covers s (get kind req sub ask channel) marks of p c = covers_same log marks s c (get_leaves site channel ask.atomic marks p) s refl
+  part_covers s (put req sub ask channel mask value) marks of p c = covers_same log marks s c (λ slot o. puts_leave slot o _ p.1 marks p.2) s refl
+  part_covers s (put_get req sub ask channel mask value) marks of p c = covers_same log marks s c (λ slot o. put_gets_leave slot o (asked site ask channel mask value p.0) p.1 marks p.2) s refl
+  part_covers s (respond req sub r) marks of p c = covers_same log marks s c (none_leave marks p) s refl
+  part_covers s (snapshot req sub) marks of p c = covers_same log marks s c (snapshot_leaves site marks p) s refl
   part_covers s (subscribe req sub sid channel wanted count) marks of p c =
       covers_subscribed log s c req sid wanted count of.0.free channel marks (subscribes channel wanted.mask wanted.queue p.0 marks p.1)
-  part_covers s (steer req count started ask) marks of p c = covers_same log marks s c (none_plain marks p) s refl
-  part_covers s (destroy_request req) marks of p c = covers_same log marks s c (none_plain marks p) s refl
+  part_covers s (steer req count started ask) marks of p c = covers_same log marks s c (none_leave marks p) s refl
+  part_covers s (destroy_request req) marks of p c = covers_same log marks s c (none_leave marks p) s refl
 
 knowing_covers : (log : List Mark) (s : State) (types : Types) → Covers log s → Covers log (knowing s types)
 knowing_covers log s types c = record { owned = c.owned; only = c.only }
@@ -248,8 +248,8 @@ hearing_covers site s log marks sent over_range of p c = absurd p
 left_covers : (site : SiteData) (s : State) (log marks : List Mark) (hearing : Hearing) → IsHeardOf site s hearing → PartOf site s hearing marks → Covers log s
     → Covers (log ++ marks) (left_by_hearing site s hearing marks)
 left_covers site s log marks (asks task types) of p c = part_covers site log (knowing s types) task marks (knows site s types task of) p (knowing_covers log s types c)
-left_covers site s log marks (unreadable fault) of p c = covers_same log marks s c (none_plain marks p) s refl
-left_covers site s log marks over_range of p c = covers_same log marks s c (none_plain marks p) s refl
+left_covers site s log marks (unreadable fault) of p c = covers_same log marks s c (none_leave marks p) s refl
+left_covers site s log marks over_range of p c = covers_same log marks s c (none_leave marks p) s refl
 
 -- Pops.
 
@@ -386,7 +386,7 @@ module _ (site : SiteData) (log : List Mark) (s : State) (c : Covers log s) (end
   event_ended : (events : List Event) (more : List Mark) → EventPart site s events more → AreEndings (after_part site s events more) endings → lives ((log ++ more) ++ endings) slot ≡ false
   event_ended [] more p ending_ =
       subst (λ (ms : List Mark). AreEndings (after_part site s [] ms) endings → lives ((log ++ ms) ++ endings) slot ≡ false) (sym p)
-      (λ e. none_lives (log ++ []) s endings (covers_same log [] s c tt s refl) e slot) ending_
+      (λ e. none_lives (log ++ []) s endings (covers_same log [] s c (λ slot o. refl) s refl) e slot) ending_
   event_ended (e ∷ events) more p ending_ =
       none_lives (log ++ more) (left_by_hearing site s (heard site s e) more) endings (left_covers site s log more (heard site s e) (heard_so site s e) p c)
       (subst (λ (slots : List ℕ). AreEndingsOf slots endings) (after_part_is site s e events more p) ending_) slot

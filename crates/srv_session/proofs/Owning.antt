@@ -10,43 +10,15 @@ use Rattle.std.proofs.lemmas.Bool.Decides.{nat_tests}
 use Rattle.desk_api.specs.Calls.{IsEnding}
 use Rattle.desk_api.specs.Living.{Living, living_with, living_after}
 use Rattle.desk_api.specs.declared.mark.Mark.{Mark}
-use Rattle.desk_api.specs.declared.mark.Mark.TheVariants.{Read, Entered, Overweight, Begun, Crowded, Popped, Dropped}
+use Rattle.desk_api.specs.declared.mark.Mark.TheVariants.{Dropped}
 use Rattle.desk_api.specs.declared.sub.Sub.{Sub}
 use Rattle.srv_session.specs.State.{Requests, Asked, slot_of_sub, slot_of, slots_of}
 use Rattle.srv_session.specs.Rows.{AreEndingsOf}
 use Rattle.srv_session.proofs.Tables.{AllFrom, above, both_parts, tied_back}
 
--- Marks that tell of no subscription that lives.
-
-abbrev pub is_plain : Mark → Bool
-is_plain (Read place channel footprint found) = true
-is_plain (Entered place entry looked found) = true
-is_plain (Overweight place footprint actions kept added limit) = true
-is_plain (Begun place index slot channel mask size) = false
-is_plain (Crowded place index count) = true
-is_plain (Popped place slot update) = false
-is_plain (Dropped place index slot) = false
-
-abbrev pub AllPlain : List Mark → Type 0
-AllPlain [] = Unit {0}
-AllPlain (mark ∷ marks) = (is_plain mark ≡ true) × AllPlain marks
-
-pub plain_append : (xs ys : List Mark) → AllPlain xs → AllPlain ys → AllPlain (xs ++ ys)
-plain_append [] ys p q = q
-plain_append (x ∷ xs) ys p q = (p.0, plain_append xs ys p.1 q)
-
-plain_with : (slot : ℕ) (o : Option Living) (mark : Mark) → is_plain mark ≡ true → living_with slot o mark ≡ o
-plain_with slot o (Read place channel footprint found) p = refl
-plain_with slot o (Entered place entry looked found) p = refl
-plain_with slot o (Overweight place footprint actions kept added limit) p = refl
-plain_with slot o (Begun place index x channel mask size) p = absurd (false≢true p)
-plain_with slot o (Crowded place index count) p = refl
-plain_with slot o (Popped place x update) p = absurd (false≢true p)
-plain_with slot o (Dropped place index x) p = absurd (false≢true p)
-
-pub living_plain : (slot : ℕ) (o : Option Living) (marks : List Mark) → AllPlain marks → living_after slot o marks ≡ o
-living_plain slot o [] p = refl
-living_plain slot o (mark ∷ marks) p = ap (λ (x : Option Living). living_after slot x marks) (plain_with slot o mark p.0) ∙ living_plain slot o marks p.1
+-- Marks leave what lives in each slot.
+abbrev pub AllLeave : List Mark → Type 0
+AllLeave marks = (slot : ℕ) (o : Option Living) → living_after slot o marks ≡ o
 
 pub living_append : (slot : ℕ) (o : Option Living) (xs ys : List Mark) → living_after slot o (xs ++ ys) ≡ living_after slot (living_after slot o xs) ys
 living_append slot o [] ys = refl

@@ -1,5 +1,5 @@
 -- Pops, and pumps, which are pops of all monitors that are due.
-use Rattle.std.proofs.Common.{◌≡◌, ◌≢◌, ◌==◌, ℕ, zero, suc, ◌+◌, ◌-◌, ◌<◌, Bool, true, false, ◌&&◌, ◌||◌, not, cond, List, [], ◌∷◌, ◌++◌, drop, length, Option, None, Some, Result, Ok, Err, refl, sym, ◌∙◌, ap, subst, arith, inl, inr, append_assoc}
+use Rattle.std.proofs.Common.{◌≡◌, ◌≢◌, ◌==◌, ℕ, zero, suc, ◌+◌, ◌-◌, ◌<◌, ◌≤◌, Bool, true, false, ◌&&◌, ◌||◌, not, cond, List, [], ◌∷◌, ◌++◌, drop, length, Option, None, Some, Result, Ok, Err, refl, sym, ◌∙◌, ap, subst, arith, inl, inr, append_assoc}
 use Rattle.std.specs.Prelude.{◌⊎◌, IsErr, IsTrue, get_or, is_some, nat_lt}
 use Rattle.std.specs.List.{filter, list_all, list_any}
 use Rattle.std.specs.FinMap.{get as at, insert}
@@ -28,13 +28,13 @@ use Rattle.srv_session.specs.State.{State, Requests, Asked, channel_at, is_due, 
 use Rattle.srv_session.specs.Replies.{Sent, is_call, said, spelled, spelled_all, updated}
 use Rattle.srv_session.specs.Rising.{is_rising}
 use Rattle.srv_session.specs.Steps.{Step, hears, pops, IsDue, IsPopOf, PopRow, PopPart, one_sent, with_sent, after_pop, after_step, AreSteps, state_after, marks_of, sent_in, out_of, update_sent}
-use Rattle.srv_session.specs.Calls.{IsOf, IsHeld, Holds, ArePopsOf, is_some_sent, sends, Pumps, Pumped, PumpedSome, PumpStopped}
+use Rattle.srv_session.specs.Calls.{AreLiving, IsOf, IsHeld, Holds, ArePopsOf, is_some_sent, sends, Pumps, Pumped, PumpedSome, PumpStopped}
 use Rattle.srv_session.specs.Views.{state_of, output_of, show}
 use Rattle.srv_session.specs.Watching.{HasPopped, HasFailed, Pops, PopsDue, Idles, SendsUpdate}
 use Rattle.srv_session.specs.declared.session.Session.{Session}
 use Rattle.srv_session.proofs.Tables.{got_beside}
 use Rattle.srv_session.proofs.Slots.{slots_insert}
-use Rattle.srv_session.proofs.Kept.{pop_holds}
+use Rattle.srv_session.proofs.Kept.{pop_holds, pumped_living}
 use Rattle.srv_session.proofs.OnSite.{pop_on_site}
 use Rattle.srv_session.proofs.Rows.{shown}
 use Rattle.srv_session.proofs.Steps.{after_append, steps_append, marks_append, out_append}
@@ -316,6 +316,9 @@ module _ (here : Seat) (s : State) (out : List ℕ) (now there : Seat) (old new 
       by_test : (b : Bool) → is_due (at (state_of old).requests id) ≡ b → PumpStopped (shown here s out) (show there new)
       by_test true is = going_stopped here s out now old ids sent g there new (p.due is)
       by_test false is = absurd (err_ok (p.idle is).result_is)
+
+  pub failed_living : (e : NoMemory) → PopsDue now there old new id sent (Err e) → Holds here.log s → AreLiving there.log (slots_of (state_of new).requests)
+  failed_living e p holds = pumped_living (shown here s out) (show there new) (fails e) (going_failed e p) holds
 
 pub rising_drop : (n : ℕ) (ids : List ℕ) → is_rising ids ≡ true → is_rising (drop n ids) ≡ true
 rising_drop zero ids rising = rising

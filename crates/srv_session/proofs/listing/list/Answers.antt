@@ -1,4 +1,4 @@
-use Rattle.std.proofs.Common.{◌≡◌, ℕ, Bool, true, false, sym, ◌∙◌, ap}
+use Rattle.std.proofs.Common.{◌≡◌, ℕ, Bool, true, false, List, sym, ◌∙◌, ap}
 use Rattle.std.specs.List.{insert, prefix_len}
 use Rattle.std.specs.Prelude.{nat_lt}
 use Rattle.srv_session.specs.Rising.{is_at}
@@ -7,10 +7,16 @@ use Rattle.srv_session.proofs.listing.list.Goals as goal
 
 pub returns-then-is_at : goal.returns-then-is_at
 returns-then-is_at c =
-    is_there c.args.id c.args.ids.now.items (ap (λ (n : ℕ). is_at c.args.id n c.args.ids.now.items) (sym c.place_of-place.ensures) ∙ sym c.is_at.ensures ∙ c.if-is_at.true)
+    let id = c.args.id in
+    let ids = c.args.ids.now.items in
+    let place : c.place_of-place.result ≡ prefix_len (λ x. nat_lt x id) ids = c.place_of-place.ensures ∙ ap (λ (l : List ℕ). prefix_len (λ x. nat_lt x id) l) c.deref.ensures.value in
+    is_there id ids (ap (λ (n : ℕ). is_at id n ids) (sym place) ∙ ap (λ (l : List ℕ). is_at id c.place_of-place.result l) (sym c.deref-2.ensures.value) ∙ sym c.is_at.ensures ∙ c.if-is_at.true)
 
 pub returns : goal.returns
 returns c =
-    (c.in-Ok.ensures {u = tt}).ok
-    ∙ ap (λ (n : ℕ). insert c.args.ids.now.items n c.args.id) c.place_of-place.ensures
-    ∙ comes_in c.args.id c.args.ids.now.items (ap (λ (n : ℕ). is_at c.args.id n c.args.ids.now.items) (sym c.place_of-place.ensures) ∙ sym c.is_at.ensures ∙ c.if-is_at.false)
+    let id = c.args.id in
+    let ids = c.args.ids.now.items in
+    let place : c.place_of-place.result ≡ prefix_len (λ x. nat_lt x id) ids = c.place_of-place.ensures ∙ ap (λ (l : List ℕ). prefix_len (λ x. nat_lt x id) l) c.deref.ensures.value in
+    c.in-Ok.ensures.items
+    ∙ ap (λ (n : ℕ). insert ids n id) place
+    ∙ comes_in id ids (ap (λ (n : ℕ). is_at id n ids) (sym place) ∙ ap (λ (l : List ℕ). is_at id c.place_of-place.result l) (sym c.deref-2.ensures.value) ∙ sym c.is_at.ensures ∙ c.if-is_at.false)
