@@ -1,4 +1,5 @@
 use Rattle.std.proofs.Common.{◌≡◌, Bool, true, false, cond, None, Some, Result, Ok, Err, IfOk, Bor, refl, sym, ap, ◌∙◌}
+use Rattle.std.proofs.lemmas.Bool.{false≢true}
 use Rattle.std.proofs.lemmas.Option.{none-some}
 use Rattle.std.specs.Prelude.{◌&&◌, IsTrue, option_map}
 use Rattle.pvd_type.specs.Tree.{Tree}
@@ -10,7 +11,7 @@ valued false t u is = absurd (none-some t (sym is))
 
 both : (a b : Bool) → IsTrue a → b ≡ true → (a && b) ≡ true
 both true b here is = is
-both false b here is = absurd here
+both false b here is = absurd (false≢true here)
 
 ok_by : {A E P : Type 0} (r : Result A E) → P → IfOk r (λ a. P)
 ok_by (Ok a) p = p
