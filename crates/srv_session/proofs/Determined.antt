@@ -52,7 +52,7 @@ use Rattle.pva_messages.specs.Replies.{Reply}
 use Rattle.rpc_services.specs.Answers.{snapshot_tree}
 use Rattle.srv_session.specs.Replies as replies
 use Rattle.srv_session.specs.Replies.{Sent, said, error, begun, got, answered, called}
-use Rattle.srv_session.specs.Rows.{Says, GetRow, asked, refusal_text, put_status, PutRow, put_get_reply, PutGetRow, rows_data, SnapshotRow, AreEndingsOf, EndsThese, subscribed_reply, SubscribeRow, Row}
+use Rattle.srv_session.specs.Rows.{begins_alone, Says, GetRow, asked, refusal_text, put_status, PutRow, put_get_reply, PutGetRow, rows_data, SnapshotRow, AreEndingsOf, EndsThese, subscribed_reply, SubscribeRow, Row}
 use Rattle.srv_session.specs.Steps.{Step, hears, pops, knowing, IsAnswer, PopRow, IsFreeBegun, BeginFree, update_sent, after_step, AreSteps, turns_of, marks_of, out_of}
 use Rattle.srv_session.specs.Calls.{Holds}
 use Rattle.srv_session.proofs.Kept.{holds_step, opening_holds}
@@ -391,7 +391,7 @@ same_ends slots these m n k l x y p q e =
 
 -- what is said of a subscription's mark
 subscribed_by : SiteData → ℕ → ℕ → Channel → Mark → Reply
-subscribed_by site req sub channel (Begun at index slot c mask size) = begun kinds.Monitor req sub (type_of site channel)
+subscribed_by site req sub channel (Begun at index slot c mask size) = begun kinds.Monitor req begins_alone (type_of site channel)
 subscribed_by site req sub channel mark = replies.refused kinds.Monitor req sub (codes "too many monitors")
 
 record ToldBy (site : SiteData) (req sub : ℕ) (channel : Channel) (marks : List Mark) (told : Reply) : Type 0 where

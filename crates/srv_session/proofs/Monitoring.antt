@@ -35,7 +35,7 @@ use Rattle.desk_api.specs.declared.sub.SubAnswer.TheVariants as answers
 use Rattle.srv_session.specs.State.{State, Requests, Asked, slots_of}
 use Rattle.srv_session.specs.Calls.{Shown, Heeds}
 use Rattle.srv_session.specs.Replies.{Sent, said, spelled, is_call, begun, refused}
-use Rattle.srv_session.specs.Rows.{SubscribePart, monitor_of, steered, subscribed_reply, left_by, after_task}
+use Rattle.srv_session.specs.Rows.{begins_alone, SubscribePart, monitor_of, steered, subscribed_reply, left_by, after_task}
 use Rattle.srv_session.specs.Tasks.{Task, Hearing, asks, over_range, refuse, subscribe, steer, destroy_request, beginning, beginning_as, fault_text, is_over, acknowledged, started_by, steering, windowed}
 use Rattle.srv_session.specs.Views.{state_of, output_of, show, stopping, AnswersAlone, HasPart, IsAsBefore, RefusesFault, RefusesPlace}
 use Rattle.srv_session.specs.Watching.{RefusesSubscription, Writes}
@@ -75,7 +75,7 @@ module _ (here : Seat) (moment : Moment) (s : State) (out : List ℕ) (req sub s
       behind = state ∙ ap (after_task here.seen.base.site s (subscribe req sub sid channel wanted window)) (sym calls.named.marks_are)
 
       abbrev reply_ : Reply
-      reply_ = begun kinds.Monitor req sub (type_of here.seen.base.site channel)
+      reply_ = begun kinds.Monitor req begins_alone (type_of here.seen.base.site channel)
 
       pub monitor_begun : (answer : Result (Unit {0}) NoMemory) (result : Result (Unit {0}) SessionStop) → result ≡ stopping answer
           → OnOk answer (after ≡ out ++ spelled s.order s.segment (said reply_)) → OnErr answer (after ≡ out)
@@ -102,17 +102,17 @@ module _ (here : Seat) (moment : Moment) (s : State) (out : List ℕ) (req sub s
     pub monitor_begun_by : (living : Sub) → Calls here there (AreSubscribe channel wanted.mask wanted.queue (Ok living)) → (mid : State) (between : List ℕ) (ty : Tree)
         → mid ≡ record s { requests = insert s.requests req (monitor_of sid wanted living.slot window) } → between ≡ out → ty ≡ type_of here.seen.base.site channel → t ≡ mid
         → (answer : Result (Unit {0}) NoMemory) (result : Result (Unit {0}) SessionStop) → result ≡ stopping answer
-        → OnOk answer (after ≡ between ++ spelled mid.order mid.segment (said (begun kinds.Monitor req sub ty))) → OnErr answer (after ≡ between)
+        → OnOk answer (after ≡ between ++ spelled mid.order mid.segment (said (begun kinds.Monitor req begins_alone ty))) → OnErr answer (after ≡ between)
         → Heeds (shown here s out) (shown there t after) moment task_ result
     monitor_begun_by living calls mid between ty mid_is between_is ty_is t_is answer result is ok err =
         monitor_begun living calls (t_is ∙ mid_is) answer result is (on_ok_by answer ok) (on_err_by answer err)
       where
-        on_ok_by : (a : Result (Unit {0}) NoMemory) → OnOk a (after ≡ between ++ spelled mid.order mid.segment (said (begun kinds.Monitor req sub ty)))
-            → OnOk a (after ≡ out ++ spelled s.order s.segment (said (begun kinds.Monitor req sub (type_of here.seen.base.site channel))))
+        on_ok_by : (a : Result (Unit {0}) NoMemory) → OnOk a (after ≡ between ++ spelled mid.order mid.segment (said (begun kinds.Monitor req begins_alone ty)))
+            → OnOk a (after ≡ out ++ spelled s.order s.segment (said (begun kinds.Monitor req begins_alone (type_of here.seen.base.site channel))))
         on_ok_by (Ok u) e =
-            e ∙ ap (λ (z : State). between ++ spelled z.order z.segment (said (begun kinds.Monitor req sub ty))) mid_is
-            ∙ ap (λ (l : List ℕ). l ++ spelled s.order s.segment (said (begun kinds.Monitor req sub ty))) between_is
-            ∙ ap (λ (y : Tree). out ++ spelled s.order s.segment (said (begun kinds.Monitor req sub y))) ty_is
+            e ∙ ap (λ (z : State). between ++ spelled z.order z.segment (said (begun kinds.Monitor req begins_alone ty))) mid_is
+            ∙ ap (λ (l : List ℕ). l ++ spelled s.order s.segment (said (begun kinds.Monitor req begins_alone ty))) between_is
+            ∙ ap (λ (y : Tree). out ++ spelled s.order s.segment (said (begun kinds.Monitor req begins_alone y))) ty_is
         on_ok_by (Err x) e = tt
 
         on_err_by : (a : Result (Unit {0}) NoMemory) → OnErr a (after ≡ between) → OnErr a (after ≡ out)
