@@ -379,7 +379,6 @@ listed_with ids m k v listed =
 
 -- The search for a place.
 
-
 -- Requests that have the same slots under each id have the same slots.
 
 abbrev is_any : List ℕ → Bool
@@ -470,16 +469,18 @@ pub listed_taken : (ids : List ℕ) (old new : Tables Channel Sub) (result : Opt
 listed_taken ids old new (Some taken) rest none listed = subst (λ (t : Tables Channel Sub). AreListed ids t.asks) (sym rest) (listed_without ids old.asks taken.0 listed)
 listed_taken ids old new None rest none listed = subst (λ (t : Tables Channel Sub). AreListed ids t.asks) (sym none) listed
 
-pub place_goes_on_at : (id : ℕ) (ids : List ℕ) (i : ℕ) → i < length ids → (x : ℕ) → x ≡ get_or ids i x → x < id → (i + 1) + prefix_len (below id) (drop (i + 1) ids) ≡ i + prefix_len (below id) (drop i ids)
-place_goes_on_at id ids i lt x is less =
+-- The search for a place.
+
+pub place_goes_on_at : (id : ℕ) (ids : List ℕ) (i d : ℕ) → i < length ids → get_or ids i d < id → (i + 1) + prefix_len (below id) (drop (i + 1) ids) ≡ i + prefix_len (below id) (drop i ids)
+place_goes_on_at id ids i d lt less =
     let next : prefix_len (below id) (drop i ids) ≡ 1 + prefix_len (below id) (drop (i + 1) ids) =
-        at_drop_more (prefix_len (below id)) ids i x lt ∙ ap (λ (y : ℕ). cond (nat_lt y id) (1 + prefix_len (below id) (drop (i + 1) ids)) 0) (sym is)
-        ∙ (let test : nat_lt x id ≡ true = grind (arith, nat_tests) in ap (λ (b : Bool). cond b (1 + prefix_len (below id) (drop (i + 1) ids)) 0) test) in
+    at_drop_more (prefix_len (below id)) ids i d lt
+    ∙ (let test : nat_lt (get_or ids i d) id ≡ true = grind (arith, nat_tests) in ap (λ (b : Bool). cond b (1 + prefix_len (below id) (drop (i + 1) ids)) 0) test) in
     omega (arith, next)
 
-pub place_is_here_at : (id : ℕ) (ids : List ℕ) (i : ℕ) → i < length ids → (x : ℕ) → x ≡ get_or ids i x → id ≤ x → i ≡ i + prefix_len (below id) (drop i ids)
-place_is_here_at id ids i lt x is ge =
+pub place_is_here_at : (id : ℕ) (ids : List ℕ) (i d : ℕ) → i < length ids → id ≤ get_or ids i d → i ≡ i + prefix_len (below id) (drop i ids)
+place_is_here_at id ids i d lt ge =
     let none : prefix_len (below id) (drop i ids) ≡ 0 =
-        at_drop_more (prefix_len (below id)) ids i x lt ∙ ap (λ (y : ℕ). cond (nat_lt y id) (1 + prefix_len (below id) (drop (i + 1) ids)) 0) (sym is)
-        ∙ (let test : nat_lt x id ≡ false = grind (arith, nat_tests) in ap (λ (b : Bool). cond b (1 + prefix_len (below id) (drop (i + 1) ids)) 0) test) in
+    at_drop_more (prefix_len (below id)) ids i d lt
+    ∙ (let test : nat_lt (get_or ids i d) id ≡ false = grind (arith, nat_tests) in ap (λ (b : Bool). cond b (1 + prefix_len (below id) (drop (i + 1) ids)) 0) test) in
     omega (arith, none)
