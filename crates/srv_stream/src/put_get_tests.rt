@@ -144,18 +144,18 @@ fn group_type(alloc: Global) -> Result<Vec<u8>, NoMemory> {
     Ok(bytes)
 }
 
-/// Whether a client of G that puts to all and then to two members, and gets b, is answered by this, where the entries have this
+/// Whether a client of G, which has this type, that puts to all and then to two members, and gets b, is answered by this, where the entries have this
 /// limit.
-fn group_answers(
+fn group_answers<'a>(
     alloc: Global,
     text: &str,
     limit: u64,
-    begin: &[u8],
-    first: &[u8],
-    second: &[u8],
-    shown: &[u8],
+    ty: &'a [u8],
+    begin: &'a [u8],
+    first: &'a [u8],
+    second: &'a [u8],
+    shown: &'a [u8],
 ) -> Result<bool, NoMemory> {
-    let ty = group_type(alloc)?;
     answers_within(
         alloc,
         text,
@@ -164,12 +164,12 @@ fn group_answers(
         &[
             OPENED,
             B_BEGUN,
-            &ty,
-            &ty,
+            ty,
+            ty,
             first,
             second,
             B_GET_BEGUN,
-            &ty,
+            ty,
             shown,
         ],
     )
@@ -180,9 +180,10 @@ fn a_put_get_of_a_group_with_a_member_that_refuses_it_does_nothing(
     rt: HostRuntime,
 ) -> Result<(), Fail> {
     let alloc = rt.alloc();
+    let ty = group_type(alloc)?;
     for begin in [BEGIN_B, BEGIN_B_APART] {
         let (refused, shown) = (PUTS_DISABLED, TWO_GOT);
-        let told = group_answers(alloc, DISABLED, LIMIT, begin, refused, refused, shown)?;
+        let told = group_answers(alloc, DISABLED, LIMIT, &ty, begin, refused, refused, shown)?;
         assert!(rt; told);
     }
     Ok(())
@@ -191,6 +192,7 @@ fn a_put_get_of_a_group_with_a_member_that_refuses_it_does_nothing(
 #[test]
 fn a_put_get_of_a_group_is_one_entry_unless_it_is_not_atomic(rt: HostRuntime) -> Result<(), Fail> {
     let alloc = rt.alloc();
+    let ty = group_type(alloc)?;
     // one entry of all weighs 280, and one of two that reads the third 240; apart, b and c weigh 136 each, and a, which triggers
     // the whole group, 200
     for (text, begin, second) in [
@@ -199,7 +201,7 @@ fn a_put_get_of_a_group_is_one_entry_unless_it_is_not_atomic(rt: HostRuntime) ->
         (APART, BEGIN_B, JOURNAL_FULL),
     ] {
         // of the two that don't fit together, the put of b alone is done
-        let told = group_answers(alloc, text, 680, begin, TWENTY, second, TWENTY_ONE_GOT)?;
+        let told = group_answers(alloc, text, 680, &ty, begin, TWENTY, second, TWENTY_ONE_GOT)?;
         assert!(rt; told);
     }
     Ok(())
