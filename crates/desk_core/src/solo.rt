@@ -431,6 +431,7 @@ impl<P: Port> Desk for SoloDesk<P> {
         let whole = self.terms.site.is_atomic(channel, atomic);
         self.put_entries(alloc, whole, actions, moment)
     }
+
     /// Puts the marked leaves and gets the channel, as every desk does it. The ports are driven as by the put alone.
     fn put_get(
         &mut self,

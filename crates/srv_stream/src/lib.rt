@@ -5,6 +5,8 @@
 mod call_tests;
 mod ended;
 mod laws;
+#[cfg(test)]
+mod put_get_tests;
 mod serve;
 mod serving;
 #[cfg(test)]
