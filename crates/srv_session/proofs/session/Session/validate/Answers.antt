@@ -35,3 +35,8 @@ returns-in_default c seat legal moment =
     (by_other c.args.buffer c.args.registry c.args.method.now (valued_view c.args.argument.now) (λ e. c.in_default.not-anonymous (c.as_str.ensures.text ∙ e)) (λ e. c.in_default.not-ca (c.as_str.ensures.text ∙ e)))
     (said_one seat moment (state_of c.args.self.now) (state_of c.say_validated.new.self) (output_of c.args.self.now) (output_of c.say_validated.new.self) (refuse refusal) c.say_validated.result (said refusal) legal
     (says_this _) (on_ok c.say_validated.result c.say_validated.ensures.state) c.say_validated.ensures.ok c.say_validated.ensures.err (on_err c.say_validated.result (still c.say_validated.ensures.state)))
+
+pub returns-in_err-user-in-ca : goal.returns-in_err-user-in-ca
+returns-in_err-user-in-ca c seat legal moment =
+    gave_up seat moment (state_of c.args.self.now) (state_of c.args.self.now) (output_of c.args.self.now) (output_of c.args.self.now)
+    (validated_by c.args.buffer c.args.registry c.args.method.now (valued_view c.args.argument.now)) c.from_residual.result legal c.from_residual.ensures.0 refl refl
