@@ -19,3 +19,6 @@ pub use fault::ClientFault;
 pub use laws::sent_is_heard;
 pub use report::Report;
 
+
+#[cfg(test)]
+mod tests;
