@@ -18,3 +18,6 @@ pub use client::Client;
 pub use fault::ClientFault;
 pub use laws::sent_is_heard;
 pub use report::Report;
+
+#[cfg(test)]
+mod tests;
