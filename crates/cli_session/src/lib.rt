@@ -11,6 +11,12 @@ mod laws;
 mod report;
 mod session;
 mod structures;
+#[cfg(test)]
+mod test_bytes;
+#[cfg(test)]
+mod test_client;
+#[cfg(test)]
+mod tests;
 mod turn;
 
 pub use ask::{Ask, Operation};
@@ -18,6 +24,3 @@ pub use client::Client;
 pub use fault::ClientFault;
 pub use laws::sent_is_heard;
 pub use report::Report;
-
-#[cfg(test)]
-mod tests;
