@@ -216,6 +216,14 @@ fn names(alloc: Global, texts: &[&str]) -> Result<Vec<Name>, NoMemory> {
     Ok(names)
 }
 
+/// A get of one field.
+pub(crate) fn get_of(alloc: Global, field: &str) -> Option<Ask> {
+    match names(alloc, &[field]) {
+        Ok(fields) => ask_with(alloc, Operation::Get, fields, None, None),
+        Err(_) => None,
+    }
+}
+
 /// A put of one word.
 pub(crate) fn put(alloc: Global, word: &str, atomic: Option<bool>) -> Option<Ask> {
     match names(alloc, &[word]) {

@@ -1,16 +1,5 @@
-use crate::test_bytes::{
-    ACKNOWLEDGE, BEGIN_CALL, BEGIN_GET, BEGIN_MONITOR, BEGIN_PLAIN_MONITOR, BEGIN_PLAIN_PUT,
-    BEGIN_PUT, BEGIN_PUT_2, BEGIN_PUT_GET, BIG_BEGIN_GET, BIG_CREATE, BIG_CREATED, BIG_ECHO,
-    BIG_ECHO_GREETING, BIG_ECHOED, BIG_END, BIG_GET, BIG_GET_BEGUN, BIG_GOT, BIG_GREETING,
-    BIG_VALIDATED, BIG_VALIDATION, CALL, CALL_BEGUN, CALLED, CREATE, CREATED, ECHO, ECHOED, END,
-    END_2, FIELD, FINISHED, FIRST, GET, GET_BEGUN, GET_FAILED, GET_FIELD, GOT, GOT_SEVEN, GREETING,
-    MONITOR_BEGUN, MONITOR_END, MONITOR_FAILED, NO_FIELD, NO_FIELD_TYPE, NO_PRESENT, NO_PUT_TYPE,
-    NO_RESULT, NO_TYPE, NO_VALUE, NOT_CREATED, PASSED_OVER, PRESENT, PRESENT_2, PUT_2_BEGUN,
-    PUT_BEGUN, PUT_DONE, PUT_GET_BEGUN, PUT_GET_NINE, PUT_GOT, PUT_REFUSED, PUT_SEVEN, READ_BACK,
-    READ_BACK_2, SECOND, START, TEXT_7, TEXT_9, TEXT_42, TEXT_TYPE, THIRD, TYPE, USER_VALIDATION,
-    VALIDATED, VALIDATION, WARNED,
-};
-use crate::test_client::{Case, ask, call, get, goes, monitor, put, put_get};
+use crate::test_bytes::*;
+use crate::test_client::{Case, ask, call, get, get_of, goes, monitor, put, put_get};
 use crate::{ClientFault, Operation};
 use cli_text::PutText;
 use pva_messages::MessageFault;
@@ -59,6 +48,20 @@ fn a_get_tells_the_value(rt: HostRuntime) {
     for case in &GETS {
         assert!(rt; goes(alloc, get(alloc), case));
     }
+}
+
+static DEEP_GET: Case = Case {
+    heard: &[GREETING, VALIDATED, CREATED],
+    sent: &[VALIDATION, CREATE, BEGIN_DEEP_GET],
+    told: &[],
+    fault: None,
+};
+
+#[test]
+fn a_path_may_have_thirty_names(rt: HostRuntime) {
+    let alloc = rt.alloc();
+    let path = "a.a.a.a.a.a.a.a.a.a.a.a.a.a.a.a.a.a.a.a.a.a.a.a.a.a.a.a.a.a";
+    assert!(rt; goes(alloc, get_of(alloc, path), &DEEP_GET));
 }
 
 static PUT: Case = Case {
