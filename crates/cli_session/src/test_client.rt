@@ -150,7 +150,7 @@ fn are_joined(bytes: &[u8], parts: &[&[u8]]) -> bool {
     rest.is_empty()
 }
 
-/// Whether all goes as in these cases.
+/// Whether all goes as in a case.
 pub(crate) fn goes(alloc: Global, ask: Option<Ask>, case: &Case) -> bool {
     let Some(ask) = ask else {
         return false;
