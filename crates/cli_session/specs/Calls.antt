@@ -50,8 +50,8 @@ PutsWords (Err fails.NoMemory) given = Unit {0}
 PutsWords (Err (fails.Words f)) given = given ≡ Err f
 PutsWords (Err other) given = ⊥
 
--- A reply that was read is what stands in the payload, and the types known behind it are those of the new state; a fault
--- is that of the message.
+-- A reply that was read is what stands in the payload, and the types known behind it are those of the new state; a
+-- fault is that of the message.
 abbrev pub reply_in : Whole → State → Read Source Reply
 reply_in whole s =
     reply_at whole.order (type_for s.req s.ty (request_id whole.order whole.command whole.payload)) whole.command
@@ -78,7 +78,8 @@ pub record Went (taken : Taken) (new : State) (before after : List ℕ) : Type 0
   pub written : CanEach CanWrite (written_of taken)
 
 -- What was told beside that.
-pub record Took (outcome : Result Taken ClientFault) (new : State) (before after : List ℕ) (told : List Told) : Type 0 where
+pub record Took (outcome : Result Taken ClientFault) (new : State) (before after : List ℕ) (told : List Told)
+    : Type 0 where
   pub taken : Taken
   pub is : outcome ≡ Ok taken
   pub went : Went taken new before after

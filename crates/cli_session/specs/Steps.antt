@@ -106,8 +106,8 @@ updated ask s turn told =
     then saying (record s { left = s.left - 1 }) (acknowledgement s.sid (window_of ask.operation)) told
     else finished s turn told
 
--- What the words of a put give over a present value: the part that is put, or the first fault. Without a value the first
--- word names no field.
+-- What the words of a put give over a present value: the part that is put, or the first fault. Without a value the
+-- first word names no field.
 
 abbrev pub words_of : Operation → List (List ℕ)
 words_of (operation.Put words) = words.items
