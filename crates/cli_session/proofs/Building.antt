@@ -1,15 +1,15 @@
 -- Lists that are made item by item, and the structures made of them.
-use Rattle.std.proofs.Common.{◌≡◌, ℕ, suc, ◌+◌, ◌<◌, ◌≤◌, Bool, true, false, cond, not, ◌==◌, ◌||◌, ◌&&◌, List, [], ◌∷◌, ◌++◌, map, length, take, drop, get_or}
-use Rattle.std.proofs.Common.{if◌then◌else◌, None, Some, Option, Result, IfOk, codes, refl, ap, sym, subst, ◌∙◌, append_assoc, add-one, arith}
-use Rattle.std.proofs.lemmas.List.{take_more, map-append, append-nil}
+use Rattle.std.proofs.Common.{◌≡◌, ℕ, suc, ◌+◌, ◌<◌, Bool, true, false, cond, not, ◌==◌, ◌||◌, ◌&&◌, List, [], ◌∷◌, ◌++◌, map, length, take, drop, get_or}
+use Rattle.std.proofs.Common.{Result, IfOk, codes, refl, ap, sym, subst, ◌∙◌, append_assoc, add-one, arith}
+use Rattle.std.proofs.lemmas.List.{take_more, map-append}
 use Rattle.std.proofs.lemmas.List.Folds.{list_any-append}
 use Rattle.std.proofs.lemmas.List.Splits.{length-slice_split}
 use Rattle.std.proofs.Math.Seq.{drop-cons}
-use Rattle.std.specs.List.{flat_map, list_any, slice_split}
+use Rattle.std.specs.List.{flat_map, list_any}
 use Rattle.std.specs.Str.{bytes_eq}
 use Rattle.pvd_type.specs.Check.{contains}
-use Rattle.pvd_type.specs.Numbers.{path_of, path_after}
-use Rattle.pvd_type.specs.Tree.{Tree, node, struct, Fields, no_fields, field}
+use Rattle.pvd_type.specs.Numbers.{path_of}
+use Rattle.pvd_type.specs.Tree.{Tree, Fields, no_fields, field}
 use Rattle.pvd_type.specs.View.{fields_of}
 use Rattle.pvd_value.proofs.Blanks.{blank_fits}
 use Rattle.pvd_value.specs.Blank.{blank_of}
@@ -19,9 +19,8 @@ use Rattle.pvd_value.specs.declared.value.PvValue.{PvValue}
 use Rattle.cli_session.specs.Seen.{pair_view}
 use Rattle.std.proofs.lemmas.Result.{IfOk-weaker}
 use Rattle.pvd_value.specs.Fits.{fits_of, row_fits}
-use Rattle.cli_session.specs.Structures.{Texts, Path, text_fields, text_row, texts_type, texts_value, behind, is_end, unless_ended, below, first_name, chosen, record_fields, record_row, request, user_of, user_texts, uri}
-use Rattle.cli_session.specs.Structures.{members_by, structure, record_type, record_value, request_type, request_value, uri_type, uri_value}
-use Rattle.cli_session.specs.Structures.{query}
+use Rattle.cli_session.specs.Structures.{Texts, Path, texts_type, texts_value, behind, is_end, below, first_name, chosen, record_fields, record_row, request}
+use Rattle.cli_session.specs.Structures.{members_by, structure, record_type, record_value, request_type, request_value}
 
 -- one item more: what is made of the items is what is made of so many
 pub made_more : {A B C : Type 0} (f : A → C) (g : B → C) (xs after : List A) (a : A) (bs : List B) (i : ℕ) (b : B) → i < length bs → get_or bs i b ≡ b

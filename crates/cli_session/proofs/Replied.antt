@@ -1,12 +1,11 @@
 -- What follows a message that was read, or passed over.
-use Rattle.std.proofs.Common.{◌≡◌, ℕ, Bool, true, false, cond, List, [], ◌∷◌, ◌++◌, Option, None, Some, Result, Ok, Err, refl, sym, ap, subst, ◌∙◌}
+use Rattle.std.proofs.Common.{◌≡◌, ℕ, Bool, true, false, cond, List, Result, Ok, Err, sym, ap, subst, ◌∙◌}
 use Rattle.pva_frames.specs.declared.event.Event.{Event}
 use Rattle.pva_frames.specs.declared.event.Whole.{Whole}
-use Rattle.pvd_codec.specs.Reading.{Read, State as Source}
 use Rattle.pvd_codec.specs.declared.fault.ValueCause.{ValueCause}
 use Rattle.pvd_desc.specs.Types.{Types}
 use Rattle.pva_messages.specs.Replies.{Reply}
-use Rattle.cli_session.specs.Calls.{Faults, Takes, Took, IsFault, reply_in}
+use Rattle.cli_session.specs.Calls.{Faults, Takes, IsFault, reply_in}
 use Rattle.cli_session.specs.State.{State}
 use Rattle.cli_session.specs.Steps.{Taken, quietly, fault_in, is_reply, heard, heard_reply, heard_whole, step, step_at}
 use Rattle.cli_session.specs.declared.ask.Ask.{Ask}

@@ -1,5 +1,5 @@
 -- A server reads what a client has sent.
-use Rattle.std.proofs.Common.{◌≡◌, ℕ, ◌+◌, ◌<◌, ◌≤◌, false, List, [], ◌∷◌, ◌++◌, length, Option, None, Some, Ok, Result, refl, ap, sym, subst, ◌∙◌, append_assoc, arith}
+use Rattle.std.proofs.Common.{◌≡◌, ℕ, ◌+◌, ◌≤◌, false, List, [], ◌∷◌, ◌++◌, length, None, Ok, Result, refl, ap, sym, subst, ◌∙◌, append_assoc, arith}
 use Rattle.std.proofs.lemmas.List.{append-nil, length-append}
 use Rattle.pva_wire.specs.declared.order.Order.{Order}
 use Rattle.pva_frames.proofs.ReadBack.{message_reads_back, control_reads_back, header-size}
@@ -15,7 +15,7 @@ use Rattle.pva_messages.proofs.ReadBack.{request_back}
 use Rattle.pva_messages.proofs.PartBack.{part_back}
 use Rattle.pva_messages.specs.Laws.{request_payload}
 use Rattle.pva_messages.specs.Requests.{Request, request_command}
-use Rattle.cli_session.specs.Laws.{CanSent, CanWrite, IsShort, event_at, events_at, IsHeard, Heard, SentIsHeard}
+use Rattle.cli_session.specs.Laws.{CanSent, CanWrite, IsShort, event_at, events_at, IsHeard, SentIsHeard}
 use Rattle.cli_session.specs.Messages.{Sent, said, control, Written, spelled, written_bytes}
 
 -- nothing brings nothing

@@ -1,5 +1,5 @@
 -- What a client told and sent, over a list of events.
-use Rattle.std.proofs.Common.{◌≡◌, ◌⊎◌, inl, inr, ℕ, List, [], ◌∷◌, ◌++◌, take, drop, Option, None, Some, Result, Ok, Err, refl, sym, ap, subst, ◌∙◌, append_assoc}
+use Rattle.std.proofs.Common.{◌≡◌, ◌⊎◌, inl, inr, ℕ, List, [], ◌∷◌, ◌++◌, take, drop, None, Some, Result, Ok, Err, refl, sym, ap, subst, ◌∙◌, append_assoc}
 use Rattle.std.proofs.lemmas.List.{append-nil, take-append-drop}
 use Rattle.pva_frames.specs.declared.event.Event.{Event}
 use Rattle.pvd_codec.specs.Written.{CanEach}
@@ -52,6 +52,24 @@ taken_more ask events given taken old new n is a =
     (ap (λ (v : View). (taken ++ take n old.output) ++ v.output) is ∙ append_assoc taken (take n old.output) (drop n old.output)
     ∙ ap (λ (xs : List ℕ). taken ++ xs) (take-append-drop n old.output) ∙ a.bytes)
     a.written
+
+-- a client that hasn't failed stands where it stood
+pub handed_stands : (ask : Ask) (events : List Event) (given : List Told) (taken : List ℕ) (old new : View) (g : List Told) → Gives old new g → Stands ask events given taken old → Stands ask events (given ++ g) taken new
+handed_stands ask events given taken old new g gives s = record {
+  unfailed = ap (λ (v : View). v.fault) gives.others ∙ s.unfailed;
+  readable = s.readable;
+  state = ap (λ (v : View). v.state) gives.others ∙ s.state;
+  accounts = handed ask events given taken old new g gives s.accounts;
+}
+
+pub taken_stands : (ask : Ask) (events : List Event) (given : List Told) (taken : List ℕ) (old new : View) (n : ℕ) → new ≡ record old { output = drop n old.output } → Stands ask events given taken old
+    → Stands ask events given (taken ++ take n old.output) new
+taken_stands ask events given taken old new n is s = record {
+  unfailed = ap (λ (v : View). v.fault) is ∙ s.unfailed;
+  readable = s.readable;
+  state = ap (λ (v : View). v.state) is ∙ s.state;
+  accounts = taken_more ask events given taken old new n is s.accounts;
+}
 
 module _ (ask : Ask) where
   step_append : (s : State) (r : Result Taken ClientFault) (es fs : List Event)

@@ -1,6 +1,6 @@
 -- What a reply is to the turn that awaits one: its row of the standard, or a fault (pvAccess Protocol Specification,
 -- "Application Messages").
-use Rattle.std.specs.Prelude.{ℕ, ◌==◌, ◌||◌, Bool, List, Option, None, Some, Result, Ok, Err, if◌then◌else◌}
+use Rattle.std.specs.Prelude.{ℕ, ◌==◌, Option, None, Some, Result, Ok, Err, if◌then◌else◌}
 use Rattle.std.specs.Ordering.{nat_cmp}
 use Rattle.std.specs.FinSet.{FinSet}
 use Rattle.pva_wire.specs.declared.status.Status.{Status}

@@ -1,5 +1,5 @@
 -- What the calls of a client do.
-use Rattle.std.specs.Prelude.{◌≡◌, ◌⊎◌, ℕ, Bool, true, List, [], ◌∷◌, ◌++◌, map, Option, None, Some, Result, Ok, Err}
+use Rattle.std.specs.Prelude.{◌≡◌, ◌⊎◌, ℕ, List, [], ◌∷◌, ◌++◌, None, Some, Result, Ok, Err}
 use Rattle.pva_frames.specs.declared.event.Event.{Event}
 use Rattle.pva_frames.specs.declared.event.Whole.{Whole}
 use Rattle.pva_messages.specs.Reading.{reply_at, request_id}
@@ -8,9 +8,7 @@ use Rattle.pva_messages.specs.declared.part.Part.{Part}
 use Rattle.pva_messages.specs.declared.to_client.ToClient.{ToClient}
 use Rattle.pvd_codec.specs.Reading.{Read, State as Source}
 use Rattle.pvd_codec.specs.declared.fault.ValueCause.{ValueCause}
-use Rattle.pva_messages.specs.Fields.{Valued, PartData}
-use Rattle.pva_messages.specs.Laws.{IsWritable}
-use Rattle.pva_messages.specs.Replies as replies
+use Rattle.pva_messages.specs.Fields.{PartData}
 use Rattle.pva_messages.specs.Replies.{Reply}
 use Rattle.pva_messages.specs.Requests.{Request, CanSend, request_fields}
 use Rattle.pva_messages.specs.Written.{FitsField}
@@ -18,21 +16,18 @@ use Rattle.pva_messages.specs.declared.fault.MessageFault.{MessageFault}
 use Rattle.pvd_codec.specs.Written.{CanEach}
 use Rattle.pvd_codec.specs.declared.fault.ValueFault.{ValueFault}
 use Rattle.pvd_codec.specs.declared.fault.ValueFault.TheVariants as values
-use Rattle.pvd_value.specs.Fits.{fits_of}
 use Rattle.cli_text.specs.declared.fault.PutText.{PutText}
 use Rattle.cli_text.specs.declared.fault.PutText.TheVariants as puts
 use Rattle.cli_session.specs.declared.ask.Ask.{Ask}
-use Rattle.cli_session.specs.declared.fault.ClientFault as faults
 use Rattle.cli_session.specs.declared.fault.ClientFault.{ClientFault}
 use Rattle.cli_session.specs.declared.fault.ClientFault.TheVariants as fails
-use Rattle.cli_session.specs.declared.report.Report.{Report}
 use Rattle.cli_session.specs.declared.report.Telling.{Telling}
-use Rattle.cli_session.specs.State.{State, opening}
+use Rattle.cli_session.specs.State.{State}
 use Rattle.cli_session.specs.Laws.{CanWrite}
 use Rattle.cli_session.specs.Steps.{fault_in, type_for, Taken, Told, written_of, bytes_of, step, client_run}
 use Rattle.cli_session.specs.Steps.{client_told, client_sent, client_bytes, client_fault}
 use Rattle.cli_session.specs.Text.{text_of, client_text}
-use Rattle.cli_session.specs.Seen.{report_view, reports_view, telling_view}
+use Rattle.cli_session.specs.Seen.{telling_view}
 use Rattle.cli_session.specs.Views.{View}
 
 -- a message that wasn't read: for want of memory, or for its fault
@@ -55,8 +50,8 @@ PutsWords (Err fails.NoMemory) given = Unit {0}
 PutsWords (Err (fails.Words f)) given = given ≡ Err f
 PutsWords (Err other) given = ⊥
 
--- A reply that was read is what stands in the payload, and the types known behind it are those of the new state; a fault
--- is that of the message.
+-- A reply that was read is what stands in the payload, and the types known behind it are those of the new state; a
+-- fault is that of the message.
 abbrev pub reply_in : Whole → State → Read Source Reply
 reply_in whole s =
     reply_at whole.order (type_for s.req s.ty (request_id whole.order whole.command whole.payload)) whole.command
@@ -83,7 +78,8 @@ pub record Went (taken : Taken) (new : State) (before after : List ℕ) : Type 0
   pub written : CanEach CanWrite (written_of taken)
 
 -- What was told beside that.
-pub record Took (outcome : Result Taken ClientFault) (new : State) (before after : List ℕ) (told : List Told) : Type 0 where
+pub record Took (outcome : Result Taken ClientFault) (new : State) (before after : List ℕ) (told : List Told)
+    : Type 0 where
   pub taken : Taken
   pub is : outcome ≡ Ok taken
   pub went : Went taken new before after

@@ -1,5 +1,5 @@
 -- What a server reads of the bytes that a client has sent.
-use Rattle.std.specs.Prelude.{◌≡◌, ℕ, ◌+◌, ◌<◌, ◌≤◌, ◌^◌, List, [], ◌∷◌, length, drop, Option, None, Some, Ok}
+use Rattle.std.specs.Prelude.{◌≡◌, ℕ, ◌+◌, ◌<◌, ◌≤◌, ◌^◌, List, [], ◌∷◌, length, drop, None, Some, Ok}
 use Rattle.pva_wire.specs.declared.order.Order.{Order}
 use Rattle.pva_frames.specs.Laws.{stream, boundary}
 use Rattle.pva_frames.specs.Messages.{limit}
@@ -15,8 +15,8 @@ use Rattle.pva_messages.specs.Requests.{Request, request_command, part_place}
 use Rattle.pva_messages.specs.Written.{seen_part}
 use Rattle.cli_session.specs.Messages.{Sent, said, control, Written, spelled, written_bytes}
 
--- What can be sent: a message that says what its row has, with values that fit their types, all of which have a spelling;
--- a control message with a number of 32 bits.
+-- What can be sent: a message that says what its row has, with values that fit their types, all of which have a
+-- spelling; a control message with a number of 32 bits.
 abbrev pub CanSent : ℕ → Sent → Type 0
 CanSent segment (said m) = (0 < segment) × IsWritable m
 CanSent segment (control command number) = number < 2 ^ 32
@@ -39,8 +39,8 @@ events_at at [] = []
 events_at at (w ∷ ws) =
     event_at at w.order w.sent ∷ events_at (at + length (spelled w.order w.segment w.sent)) ws
 
--- The reader of a server makes of it the message that was said, and knows the same types as before. It leaves the part of a
--- put unread, which is then read under the type that the client gave it, with blank leaves where it marks none.
+-- The reader of a server makes of it the message that was said, and knows the same types as before. It leaves the part of
+-- a put unread, which is then read under the type that the client gave it, with blank leaves where it marks none.
 abbrev pub IsHeardAs : Order → Request → Type 0
 IsHeardAs order m =
     (types : Types)
@@ -56,7 +56,9 @@ IsHeard w = (m : Request) → w.sent ≡ said m → IsHeardAs w.order m
 -- The bytes of what was sent are, to a server, these messages one after another, and nothing more, and it reads each as
 -- what was said.
 pub record Heard (sent : List Written) : Type 0 where
-  pub events : stream (written_bytes sent) ≡ record { events = events_at 0 sent; left = Ok (boundary (length (written_bytes sent))) }
+  pub events :
+      stream (written_bytes sent)
+      ≡ record { events = events_at 0 sent; left = Ok (boundary (length (written_bytes sent))) }
   pub messages : CanEach IsHeard sent
 
 abbrev pub SentIsHeard : Type 0

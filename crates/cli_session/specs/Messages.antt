@@ -1,9 +1,8 @@
 -- What a client says at each turn (pvAccess Protocol Specification, "Application Messages").
-use Rattle.std.specs.Prelude.{ℕ, Bool, true, false, List, [], ◌∷◌, ◌++◌, Option, None, Some, codes, if◌then◌else◌}
+use Rattle.std.specs.Prelude.{ℕ, false, List, [], ◌∷◌, ◌++◌, Option, None, Some, codes}
 use Rattle.pva_wire.specs.declared.order.Order.{Order}
 use Rattle.pva_frames.specs.Spelling.{message_bytes, control_bytes}
 use Rattle.pvd_type.specs.Tree.{Tree, no_fields}
-use Rattle.pvd_value.specs.Data.{Data}
 use Rattle.pva_messages.specs.Fields.{Valued, PartData}
 use Rattle.pva_messages.specs.Laws.{request_payload}
 use Rattle.pva_messages.specs.Requests as requests

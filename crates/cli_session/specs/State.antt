@@ -15,8 +15,8 @@ use Rattle.cli_session.specs.Turns.{turns_of}
 -- The byte order that it writes in, and whether the server has told another since the last message; the most payload of
 -- a frame to the server; the types that the server has defined; the replies that are awaited, the next one first, and
 -- none once the operation has ended; its own id of the channel, once it was asked for, and the server's; the id of the
--- request that was begun last, and the type that its server gave it; what is put, once its words were read; and how many
--- updates of a monitor are awaited.
+-- request that was begun last, and the type that its server gave it; what is put, once its words were read; and how
+-- many updates of a monitor are awaited.
 pub record State : Type 0 where
   pub order : Order
   pub order_told : Bool

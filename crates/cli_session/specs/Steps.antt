@@ -3,7 +3,6 @@ use Rattle.std.specs.Prelude.{ℕ, ◌-◌, ◌==◌, ◌||◌, nat_lt, Bool, tr
 use Rattle.std.specs.Prelude.{Option, None, Some, Result, Ok, Err, if◌then◌else◌}
 use Rattle.std.specs.Ordering.{nat_cmp}
 use Rattle.std.specs.FinSet.{FinSet, empty}
-use Rattle.pva_wire.specs.declared.order.Order.{Order}
 use Rattle.pva_wire.specs.declared.status.Status.{Status}
 use Rattle.pva_frames.specs.declared.event.Whole.{Whole}
 use Rattle.pva_frames.specs.declared.event.Event.{Event}
@@ -28,7 +27,6 @@ use Rattle.cli_text.specs.declared.fault.PutText.TheVariants as puts
 use Rattle.cli_session.specs.declared.ask.Ask.{Ask}
 use Rattle.cli_session.specs.declared.ask.Operation.{Operation}
 use Rattle.cli_session.specs.declared.ask.Operation.TheVariants as operation
-use Rattle.cli_session.specs.declared.fault.ClientFault as faults
 use Rattle.cli_session.specs.declared.fault.ClientFault.{ClientFault}
 use Rattle.cli_session.specs.declared.fault.ClientFault.TheVariants.{UnknownReply, Words}
 use Rattle.cli_session.specs.declared.fault.ClientFault.TheVariants as fails
@@ -37,7 +35,7 @@ use Rattle.cli_session.specs.State.{State, opening, segment_for}
 use Rattle.cli_session.specs.Messages.{Sent, said, control, Written, written, written_bytes, messages, asked}
 use Rattle.cli_session.specs.Messages.{last_messages, window_of, acknowledgement}
 use Rattle.cli_session.specs.Answers.{Answer, greeted, accepted, created, begun, present, value, described, outcome}
-use Rattle.cli_session.specs.Answers.{done, update, refused, answer_of, foreign_id}
+use Rattle.cli_session.specs.Answers.{done, update, refused, answer_of, unless_own, foreign_id}
 
 -- What a client tells: a part of a value, with the leaves that changed more than once; a type; that the server refused;
 -- that the operation has ended.
@@ -108,8 +106,8 @@ updated ask s turn told =
     then saying (record s { left = s.left - 1 }) (acknowledgement s.sid (window_of ask.operation)) told
     else finished s turn told
 
--- What the words of a put give over a present value: the part that is put, or the first fault. Without a value the first
--- word names no field.
+-- What the words of a put give over a present value: the part that is put, or the first fault. Without a value the
+-- first word names no field.
 
 abbrev pub words_of : Operation → List (List ℕ)
 words_of (operation.Put words) = words.items
@@ -170,14 +168,14 @@ is_reply c =
     || (c == byte_of command.Get) || (c == byte_of command.Put) || (c == byte_of command.PutGet)
     || (c == byte_of command.Monitor) || (c == byte_of command.GetField) || (c == byte_of command.Rpc)
 
--- the type of the request that a reply names
-abbrev pub is_id : ℕ → Option ℕ → Bool
-is_id id None = false
-is_id id (Some own) = own == id
+-- the type of the request that a reply names, where it is the client's
+abbrev pub type_unless : Option Tree → Option ℕ → Option Tree
+type_unless ty None = ty
+type_unless ty (Some id) = None
 
 abbrev pub type_for : Option ℕ → Option Tree → Option ℕ → Option Tree
 type_for own ty None = None
-type_for own ty (Some id) = if is_id id own then ty else None
+type_for own ty (Some id) = type_unless ty (unless_own own id)
 
 -- Where the server has told to use another byte order, that of its next message is used from then on.
 abbrev pub in_order : State → Whole → State

@@ -1,6 +1,6 @@
 -- Which replies an operation awaits, one after another (pvAccess Protocol Specification, "Channel Life-cycle" and
 -- "Application Messages").
-use Rattle.std.specs.Prelude.{ℕ, List, [], ◌∷◌, ◌++◌}
+use Rattle.std.specs.Prelude.{ℕ, List, [], ◌∷◌}
 use Rattle.pva_messages.specs.Rows.{byte_of}
 use Rattle.pva_messages.specs.declared.command.Command.TheVariants as command
 use Rattle.cli_session.specs.declared.ask.Operation.{Operation}

@@ -5,23 +5,25 @@ ghost use Rattle.cli_session.specs.Steps.{words_of};
 
 use pvd_type::Name;
 
-/// What a client does with a channel (pvAccess Protocol Specification, "Application Messages").
+/// What a client does with a channel (pvAccess Protocol Specification, "Application Messages"). Its requests
+/// have the id 1, but for the put that brings the present value for a put-get, which has 2.
 #[derive(Drop)]
 pub enum Operation {
     /// Gets the value once.
     Get,
-    /// Puts what the words give over the present value. There is at least one word.
+    /// Puts what the words give over the present value. Without a word it fails as where the first word names
+    /// no field.
     Put(Vec<Name>),
     /// As a put, and gets the value that came of it.
     PutGet(Vec<Name>),
     /// Gets values as they change.
     Monitor {
-        /// How many updates the server keeps at most; it takes what it can.
+        /// How many updates the server is to keep at most; it takes what it can.
         queue: u32,
         /// How many updates the server may send before the first is acknowledged, where it is to wait for
         /// that.
         window: Option<u32>,
-        /// After how many updates the operation ends, at least 1.
+        /// After how many updates the operation ends; 0 counts as 1.
         count: u32,
     },
     /// Gets the type.
@@ -36,8 +38,9 @@ pub struct Ask {
     /// The channel.
     pub name: Name,
     pub operation: Operation,
-    /// The paths of the fields that a get, a put-get or a monitor is for; all where there are none. At most
-    /// 64 paths of 1 to 30 names, none of which is empty.
+    /// The paths of the fields that a get, a put-get or a monitor is for, names with dots between them; all
+    /// fields where there are none. Of a path 30 names count. An empty name, or more names than a type has
+    /// nodes (4,096), is told as want of memory.
     pub fields: Vec<Name>,
     /// Whether a get, a put or a put-get of a group is to be atomic; none leaves it to the server.
     pub atomic: Option<bool>,

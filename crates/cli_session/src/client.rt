@@ -135,6 +135,7 @@ impl Client {
         ensures fits { IfSome result (λ r. told_fits (report_view r) ≡ true) }
         ensures ask { ask_of self.new ≡ ask_of self.old }
         ensures accounts { (events : List Event) (given : List Told) (taken : List ℕ) → Accounts (ask_of self.old) events given taken (view_of self.old) → Accounts (ask_of self.old) events (given ++ reports_view result) taken (view_of self.new) }
+        ensures stands { (events : List Event) (given : List Told) (taken : List ℕ) → Stands (ask_of self.old) events given taken (view_of self.old) → Stands (ask_of self.old) events (given ++ reports_view result) taken (view_of self.new) }
     {
         self.reports.pop_front()
     }
@@ -152,6 +153,7 @@ impl Client {
         ensures view { view_of self.new ≡ record (view_of self.old) { output = drop count (view_of self.old).output } }
         ensures ask { ask_of self.new ≡ ask_of self.old }
         ensures accounts { (events : List Event) (given : List Told) (taken : List ℕ) → Accounts (ask_of self.old) events given taken (view_of self.old) → Accounts (ask_of self.old) events given (taken ++ take count (view_of self.old).output) (view_of self.new) }
+        ensures stands { (events : List Event) (given : List Told) (taken : List ℕ) → Stands (ask_of self.old) events given taken (view_of self.old) → Stands (ask_of self.old) events given (taken ++ take count (view_of self.old).output) (view_of self.new) }
     {
         self.sent += count;
         if self.sent == self.output.len() {

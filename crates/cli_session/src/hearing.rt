@@ -1,13 +1,12 @@
 // What a client does at an event.
 ghost use Rattle.std.specs.Prelude.{◌≡◌, ◌∷◌, [], true, IfOk, Ok, Err};
 ghost use Rattle.std.specs.Option.{option_copied};
-ghost use Rattle.pva_messages.specs.Replies.{Reply};
-ghost use Rattle.pva_messages.specs.Views.{part_view, part_data, update_view, valued_view, reply_view};
+ghost use Rattle.pva_messages.specs.Views.{part_view, part_data, reply_view};
 ghost use Rattle.cli_session.specs.Answers.{unless_own};
-ghost use Rattle.cli_session.specs.Calls.{words_fault, PutsWords};
-ghost use Rattle.cli_session.specs.Fitting.{CanPut, part_fits, update_fits, valued_fits, answer_fits, all_fit, reply_fits};
+ghost use Rattle.cli_session.specs.Calls.{PutsWords};
+ghost use Rattle.cli_session.specs.Fitting.{CanPut, part_fits, answer_fits, all_fit, reply_fits};
 ghost use Rattle.cli_session.specs.Seen.{answer_view, reports_view, telling_view};
-ghost use Rattle.cli_session.specs.Steps.{is_reply, is_id, type_for, read_words};
+ghost use Rattle.cli_session.specs.Steps.{is_reply, type_for, read_words};
 
 use crate::answer::{Answer, answer_of, discard};
 use crate::ask::Ask;
@@ -43,18 +42,14 @@ fn is_reply(command: u8) -> bool
         || command == Command::Rpc.byte()
 }
 
-/// Whether the client's own id, if it has one, is this one.
-fn is_id(id: u32, own: Option<u32>) -> bool
-    ensures { result ≡ is_id id own }
-{
-    own == Some(id)
-}
-
 /// An id that isn't the client's own.
 fn unless_own(own: Option<u32>, id: u32) -> Option<u32>
     ensures { result ≡ unless_own own id }
 {
-    if is_id(id, own) { None } else { Some(id) }
+    match own {
+        Some(own) if own == id => None,
+        _ => Some(id),
+    }
 }
 
 /// The type of the request that a reply names.
@@ -64,7 +59,10 @@ fn type_for<'a>(own: Option<u32>, ty: &'a Option<PvType>, named: Option<u32>) ->
     let Some(id) = named else {
         return None;
     };
-    if is_id(id, own) { ty.as_ref() } else { None }
+    match unless_own(own, id) {
+        None => ty.as_ref(),
+        Some(_) => None,
+    }
 }
 
 /// What the words of a put give over a present value.

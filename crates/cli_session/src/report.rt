@@ -1,6 +1,4 @@
-ghost use Rattle.std.specs.Prelude.{◌≡◌, true, IfOk, IfSome, [], ◌∷◌, OnErr};
-ghost use Rattle.std.specs.Ordering.{nat_cmp};
-ghost use Rattle.std.specs.FinSet.{FinSet};
+ghost use Rattle.std.specs.Prelude.{◌≡◌, true, IfOk};
 ghost use Rattle.pvd_value.specs.Leaves.{marked_leaves};
 ghost use Rattle.pva_messages.specs.Views.{part_view, update_view, valued_view};
 ghost use Rattle.cli_session.specs.Fitting.{part_fits, update_fits, valued_fits, all_fit};

@@ -1,11 +1,10 @@
 // The structures that a client sends.
-ghost use Rattle.std.specs.Prelude.{◌≡◌, ◌∷◌, [], ◌++◌, codes, IfOk, true};
+ghost use Rattle.std.specs.Prelude.{◌≡◌, ◌∷◌, [], codes, IfOk, true};
 ghost use Rattle.std.specs.Option.{option_copied};
 ghost use Rattle.pvd_type.specs.Numbers.{path_of, path_after};
-ghost use Rattle.pvd_type.specs.Tree.{node, struct, field, no_fields, leaf, plain};
+ghost use Rattle.pvd_type.specs.Tree.{node, struct, field};
 ghost use Rattle.pvd_type.specs.View.{shape_view, member_view, members_view};
-ghost use Rattle.pvd_type.specs.declared.shape.Scalar.TheVariants as scalar;
-ghost use Rattle.pvd_value.specs.Data.{members, more, end};
+ghost use Rattle.pvd_value.specs.Data.{members, more};
 ghost use Rattle.pvd_value.specs.Fits.{fits_of};
 ghost use Rattle.pvd_value.specs.View.{view, row_view};
 ghost use Rattle.cli_session.specs.Seen.{texts_seen, paths_seen, shape_seen, pair_view};

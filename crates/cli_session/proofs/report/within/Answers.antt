@@ -1,6 +1,6 @@
-use Rattle.std.proofs.Common.{◌≡◌, true, false, sym, ap, ◌∙◌, arith, rules}
+use Rattle.std.proofs.Common.{◌≡◌, true, arith, rules}
 use Rattle.std.specs.FinSet.{contains}
-use Rattle.cli_session.proofs.Marking.{has_none, has_more, has_none_more, marks_within}
+use Rattle.cli_session.proofs.Marking.{has_none, has_more, marks_within}
 use Rattle.cli_session.proofs.report.within.Goals as goal
 
 pub loop-number-init : goal.loop-number-init

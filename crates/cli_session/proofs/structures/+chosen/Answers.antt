@@ -1,8 +1,6 @@
-use Rattle.std.proofs.Common.{◌≡◌, ◌∷◌, ◌++◌, ◌-◌, [], suc, ℕ, map, false, take, drop, get_or, length, ap, sym, ◌∙◌, refl, arith, rules}
+use Rattle.std.proofs.Common.{◌≡◌, ◌∷◌, ◌++◌, ◌-◌, [], suc, map, false, drop, get_or, ap, sym, ◌∙◌, arith, rules}
 use Rattle.std.proofs.lemmas.List.{map-append, append-nil, get_or_default, drop_all}
-use Rattle.std.specs.Option.{option_copied}
 use Rattle.pvd_type.specs.Check.{contains}
-use Rattle.pvd_type.specs.Numbers.{path_after}
 use Rattle.pvd_type.specs.View.{member_view, names_of, fields_of}
 use Rattle.pvd_type.specs.declared.shape.Member.{Member}
 use Rattle.cli_session.specs.Seen.{path_seen, paths_seen}

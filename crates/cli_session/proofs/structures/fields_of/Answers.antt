@@ -1,11 +1,11 @@
-use Rattle.std.proofs.Common.{◌≡◌, List, map, take, ap, ◌∙◌}
+use Rattle.std.proofs.Common.{◌≡◌, List, map, ap, ◌∙◌}
 use Rattle.std.proofs.lemmas.List.{take_all}
 use Rattle.std.proofs.lemmas.Result.{IfOk-weaker}
 use Rattle.pvd_type.specs.Numbers.{path_of}
 use Rattle.pvd_type.specs.View.{members_view}
 use Rattle.pvd_type.specs.declared.shape.Member.{Member}
 use Rattle.std.specs.Global.{Vec}
-use Rattle.cli_session.specs.Seen.{path_seen, paths_seen}
+use Rattle.cli_session.specs.Seen.{paths_seen}
 use Rattle.cli_session.specs.Structures.{Path, chosen, deepest}
 use Rattle.cli_session.proofs.structures.fields_of.Goals as goal
 

@@ -1,4 +1,4 @@
-use Rattle.std.proofs.Common.{◌≡◌, ℕ, ◌<◌, ◌∷◌, [], List, map, length, ap, ◌∙◌, rules, arith}
+use Rattle.std.proofs.Common.{◌≡◌, ℕ, ◌<◌, [], List, length, ap, ◌∙◌, arith}
 use Rattle.std.proofs.lemmas.Result.{IfOk-weaker}
 use Rattle.pvd_type.specs.Tree.{Tree, field}
 use Rattle.std.proofs.lemmas.Bool.Decides.{nat_tests}
@@ -8,7 +8,7 @@ use Rattle.pvd_value.specs.Data.{Data, members, more}
 use Rattle.pvd_value.specs.View.{view}
 use Rattle.pvd_value.specs.declared.value.PvValue.{PvValue}
 use Rattle.cli_session.specs.Seen.{text_seen, texts_seen, pair_view}
-use Rattle.cli_session.specs.Structures.{Texts, structure, record_fields, record_row, request}
+use Rattle.cli_session.specs.Structures.{structure, record_fields, record_row, request}
 use Rattle.cli_session.proofs.Building.{has_record, some_mapped}
 use Rattle.cli_session.proofs.structures.request.Goals as goal
 

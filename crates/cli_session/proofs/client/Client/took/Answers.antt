@@ -1,7 +1,7 @@
 use Rattle.std.proofs.Common.{◌≡◌, ℕ, ◌≤◌, ◌+◌, [], List, length, drop, ap, sym, ◌∙◌, arith}
 use Rattle.std.proofs.lemmas.List.{drop_all, drop-drop}
 use Rattle.cli_session.specs.Views.{View, view_of, ask_of}
-use Rattle.cli_session.proofs.Standing.{taken_more}
+use Rattle.cli_session.proofs.Standing.{taken_more, taken_stands}
 use Rattle.cli_session.proofs.client.Client.took.Goals as goal
 
 pub returns-then-self-len-clause-view : goal.returns-then-self-len-clause-view
@@ -25,3 +25,11 @@ returns-then-self-len-clause-accounts c events given taken accounts =
 pub returns-else-self-len-clause-accounts : goal.returns-else-self-len-clause-accounts
 returns-else-self-len-clause-accounts c events given taken accounts =
     taken_more (ask_of c.args.self.now) events given taken (view_of c.args.self.now) _ c.args.count (returns-else-self-len-clause-view c) accounts
+
+pub returns-then-self-len-clause-stands : goal.returns-then-self-len-clause-stands
+returns-then-self-len-clause-stands c events given taken stands =
+    taken_stands (ask_of c.args.self.now) events given taken (view_of c.args.self.now) _ c.args.count (returns-then-self-len-clause-view c) stands
+
+pub returns-else-self-len-clause-stands : goal.returns-else-self-len-clause-stands
+returns-else-self-len-clause-stands c events given taken stands =
+    taken_stands (ask_of c.args.self.now) events given taken (view_of c.args.self.now) _ c.args.count (returns-else-self-len-clause-view c) stands

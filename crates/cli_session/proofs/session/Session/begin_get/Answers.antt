@@ -1,4 +1,4 @@
-use Rattle.std.proofs.Common.{◌≡◌, ℕ, List, Some, codes, refl, ap, ◌∙◌}
+use Rattle.std.proofs.Common.{ℕ, List, Some, codes, refl, ap, ◌∙◌}
 use Rattle.pva_messages.specs.Requests as requests
 use Rattle.cli_session.specs.Messages.{get_request}
 use Rattle.cli_session.specs.Seen.{pair_view}

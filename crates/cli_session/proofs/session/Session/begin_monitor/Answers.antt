@@ -1,4 +1,4 @@
-use Rattle.std.proofs.Common.{◌≡◌, ℕ, List, [], Some, codes, refl, ap, subst, ◌∙◌, sym}
+use Rattle.std.proofs.Common.{ℕ, List, [], Some, codes, refl, ap, subst, ◌∙◌, sym}
 use Rattle.std.specs.Prelude.{OnOk}
 use Rattle.pva_messages.specs.Requests as requests
 use Rattle.cli_session.specs.Calls.{Went}

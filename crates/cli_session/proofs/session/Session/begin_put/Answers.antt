@@ -1,4 +1,4 @@
-use Rattle.std.proofs.Common.{◌≡◌, ℕ, Some, refl, ap, ◌∙◌}
+use Rattle.std.proofs.Common.{ℕ, Some, ap, ◌∙◌}
 use Rattle.pva_messages.specs.Requests as requests
 use Rattle.pva_messages.specs.Requests.{absent}
 use Rattle.cli_session.specs.Messages.{put_request, put_id}

@@ -1,4 +1,4 @@
-use Rattle.std.proofs.Common.{◌≡◌, ℕ, List, None, Some, codes, refl, ap, ◌∙◌}
+use Rattle.std.proofs.Common.{ℕ, List, None, Some, codes, refl, ap, ◌∙◌}
 use Rattle.pva_messages.specs.Requests as requests
 use Rattle.pva_messages.specs.Requests.{absent}
 use Rattle.cli_session.specs.Messages.{put_get_request}

@@ -1,9 +1,7 @@
-use Rattle.std.proofs.Common.{◌≡◌, ◌==◌, Bool, true, false, cond, Ok, [], ◌∷◌, refl, ap, ◌∙◌, arith}
+use Rattle.std.proofs.Common.{◌≡◌, ◌==◌, true, false, Ok, refl, ap, arith}
 use Rattle.std.proofs.lemmas.Bool.Decides.{nat_tests}
-use Rattle.cli_session.specs.Messages.{control}
 use Rattle.cli_session.specs.Seen.{telling_view}
 use Rattle.cli_session.specs.State.{State}
-use Rattle.cli_session.specs.Steps.{Taken, quietly}
 use Rattle.cli_session.specs.Views.{state_of}
 use Rattle.cli_session.proofs.Sending.{quiet, echoed, control_of}
 use Rattle.cli_session.proofs.session.Session.hear_control.Goals as goal

@@ -1,6 +1,6 @@
-use Rattle.std.proofs.Common.{◌≡◌, true, false, refl, sym, ap, ◌∙◌, rules}
+use Rattle.std.proofs.Common.{◌≡◌, false, refl, rules}
 use Rattle.cli_session.specs.Seen.{telling_view}
-use Rattle.cli_session.specs.Steps.{is_reply, in_order, heard_whole}
+use Rattle.cli_session.specs.Steps.{is_reply, in_order}
 use Rattle.cli_session.specs.Views.{state_of}
 use Rattle.cli_session.proofs.Replied.{passed_over}
 use Rattle.cli_session.proofs.Sending.{quiet}

@@ -1,11 +1,11 @@
-use Rattle.std.proofs.Common.{◌≡◌, ◌-◌, ℕ, Bool, true, cond, Option, Ok, List, [], ◌++◌, refl, ap, subst, ◌∙◌, arith}
+use Rattle.std.proofs.Common.{◌≡◌, ◌-◌, ℕ, Bool, cond, Option, Ok, [], ap, subst, arith}
 use Rattle.std.proofs.lemmas.Bool.{lt-ltb}
 use Rattle.std.proofs.lemmas.List.{append-nil}
-use Rattle.cli_session.specs.Calls.{Went, Took}
+use Rattle.cli_session.specs.Calls.{Went}
 use Rattle.cli_session.specs.Messages.{acknowledgement, window_of}
 use Rattle.cli_session.specs.Seen.{reports_view}
 use Rattle.cli_session.specs.State.{State}
-use Rattle.cli_session.specs.Steps.{Taken, Told, saying, finished, updated}
+use Rattle.cli_session.specs.Steps.{Taken, saying, finished, updated}
 use Rattle.cli_session.specs.Views.{state_of}
 use Rattle.cli_session.proofs.session.Session.update.Goals as goal
 
