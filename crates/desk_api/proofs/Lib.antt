@@ -3,6 +3,7 @@ pub mod Recording
 pub mod Stating
 pub mod Adding
 pub mod Showing
+pub mod Watching
 pub mod Rising
 pub mod Noting
 pub mod Holding
@@ -12,3 +13,6 @@ pub mod Reading
 pub mod Acting
 pub mod Strict
 pub mod Telling
+pub mod Lasting
+pub mod Folding
+pub mod Staying

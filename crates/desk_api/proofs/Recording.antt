@@ -4,6 +4,7 @@ use Rattle.std.specs.Option.{option_map}
 use Rattle.std.specs.List.{list_all, position_from}
 use Rattle.std.specs.Map.{keys_of}
 use Rattle.indexmap.specs.IndexMap.{insert_entry}
+use Rattle.pvd_type.specs.Numbers.{leaves}
 use Rattle.pvd_type.specs.declared.memory.NoMemory.{NoMemory}
 use Rattle.std.proofs.Common.{true, false, cond, arith, sym, ◌∙◌, ap, subst, length-append, Global}
 use Rattle.std.proofs.lemmas.Bool.{false≢true}
@@ -38,6 +39,7 @@ AreKept es =
     × (map (λ e. e.1.ty) es ≡ map (λ e. record_tree e.1.config.value) es)
     × (list_all is_record_name (map (λ e. string_bytes e.0) es) ≡ true)
     × (length es ≤ 4000)
+    × (map (λ e. e.1.leaves) es ≡ map (λ e. leaves (record_tree e.1.config.value)) es)
 
 -- the number under which a map has a name is that of its channel
 pub at_place : (kind : ChannelKind) (n : ℕ) (name : List ℕ) (es : Entries) → channel_at kind n (map (λ e. string_bytes e.0) es) name ≡ option_map (channel_of kind) (position_from (λ k. bytes_eq name (string_bytes k)) n (keys_of es))
@@ -58,6 +60,17 @@ shows_type es rec e is types =
     let both : Some e.1.ty ≡ Some (record_tree e.1.config.value) = sym ty ∙ ap (λ l. slice_get l rec) types ∙ tree in
     let same : e.1.ty ≡ record_tree e.1.config.value = cc in
     same ∙ ap type_shown (sym config)
+
+-- the leaves kept of a record are those of the type that it shows
+pub shows_leaves : (es : Entries) (rec : ℕ) (e : String Global × Served) → slice_get es rec ≡ Some e → map (λ x. x.1.leaves) es ≡ map (λ x. leaves (record_tree x.1.config.value)) es
+    → e.1.leaves ≡ leaves (type_shown (slice_get (map (λ x. x.1.config.value) es) rec))
+shows_leaves es rec e is all =
+    let own : slice_get (map (λ x. x.1.leaves) es) rec ≡ Some e.1.leaves = slice_get-map (λ x. x.1.leaves) es rec ∙ ap (option_map (λ x. x.1.leaves)) is in
+    let of_tree : slice_get (map (λ x. leaves (record_tree x.1.config.value)) es) rec ≡ Some (leaves (record_tree e.1.config.value)) = slice_get-map (λ x. leaves (record_tree x.1.config.value)) es rec ∙ ap (option_map (λ x. leaves (record_tree x.1.config.value))) is in
+    let config : slice_get (map (λ x. x.1.config.value) es) rec ≡ Some e.1.config.value = slice_get-map (λ x. x.1.config.value) es rec ∙ ap (option_map (λ x. x.1.config.value)) is in
+    let both : Some e.1.leaves ≡ Some (leaves (record_tree e.1.config.value)) = sym own ∙ ap (λ l. slice_get l rec) all ∙ of_tree in
+    let same : e.1.leaves ≡ leaves (record_tree e.1.config.value) = cc in
+    same ∙ ap (λ o. leaves (type_shown o)) (sym config)
 
 -- a name that none of the records has isn't in the map
 pub turned : (xs ys : List ℕ) → bytes_eq xs ys ≡ bytes_eq ys xs
@@ -104,11 +117,13 @@ both_true true true x y = refl
 both_true true false x y = absurd (false≢true y)
 both_true false b x y = absurd (false≢true x)
 
-pub kept_more : (es : Entries) (k : String Global) (v : Served) → AreKept es → IsTrue (is_record_name (string_bytes k)) → IsValid v.config.value v.opening → v.ty ≡ record_tree v.config.value → length es < 4000 → AreKept (es ++ (k, v) ∷ [])
-kept_more es k v all named valid ty few = (
+pub kept_more : (es : Entries) (k : String Global) (v : Served) → AreKept es → IsTrue (is_record_name (string_bytes k)) → IsValid v.config.value v.opening → v.ty ≡ record_tree v.config.value → v.leaves ≡ leaves (record_tree v.config.value) → length es < 4000
+    → AreKept (es ++ (k, v) ∷ [])
+kept_more es k v all named valid ty own few = (
   subst (λ (z : List Config × List RecState). AreValid z.0 z.1) (λ i. (sym (map-append (λ (e : String Global × Served). e.1.config.value) es ((k, v) ∷ [])) i, sym (map-append (λ (e : String Global × Served). e.1.opening) es ((k, v) ∷ [])) i))
       (valid_more (map (λ e. e.1.config.value) es) (map (λ e. e.1.opening) es) v.config.value v.opening all.0 valid),
   map-append (λ (e : String Global × Served). e.1.ty) es ((k, v) ∷ []) ∙ (λ i. all.1 i ++ ty i ∷ []) ∙ sym (map-append (λ (e : String Global × Served). record_tree e.1.config.value) es ((k, v) ∷ [])),
   ap (list_all is_record_name) (map-append (λ (e : String Global × Served). string_bytes e.0) es ((k, v) ∷ [])) ∙ list_all-append is_record_name (map (λ e. string_bytes e.0) es) (string_bytes k ∷ []) ∙ both_true (list_all is_record_name (map (λ e. string_bytes e.0) es)) (is_record_name (string_bytes k)) all.2 named,
   omega (arith, few, length-append es ((k, v) ∷ [])),
+  map-append (λ (e : String Global × Served). e.1.leaves) es ((k, v) ∷ []) ∙ (λ i. all.4 i ++ own i ∷ []) ∙ sym (map-append (λ (e : String Global × Served). leaves (record_tree e.1.config.value)) es ((k, v) ∷ [])),
 )

@@ -80,7 +80,7 @@ described_fits : (config : Option Config) → fits_of 16 (described config) (sca
 described_fits (Some config) = refl
 described_fits None = blank_fits 16 (scalar_tree Text) (omega arith)
 
-group_fits : (g : GroupData) (states : List RecState) → AreReady states g → fits_of 16 (group_shown g states) (group_tree g) ≡ true
+pub group_fits : (g : GroupData) (states : List RecState) → AreReady states g → fits_of 16 (group_shown g states) (group_tree g) ≡ true
 unfolding structure_of
 group_fits g states ready = group_shown_fits g (slots_of (in_order (entries_of g.members))) refl states ready
 

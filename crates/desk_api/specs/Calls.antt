@@ -141,7 +141,8 @@ entries_of_actions atomic (Err answer) = Err answer
 abbrev pub asked_entries : Asked → Result (List (List (ℕ × Action))) FieldAnswer
 asked_entries a = entries_of_actions (is_atomic a.site a.channel a.atomic) (asked_actions a)
 
--- An entry with these actions was added, which holds what such an entry holds, at the put's moment. Nothing is looked at.
+-- An entry with these actions was added, which holds what such an entry holds, at the put's moment. Nothing is looked
+-- at.
 pub record IsAdded (a : Asked) (actions : List (ℕ × Action)) (mark : Mark) : Type 0 where
   pub at : ℕ
   pub entry : Entry
@@ -203,8 +204,8 @@ ArePut a (Err (answers.NoMemory done)) marks = IsStopped a done marks
 
 -- ---- a put and then a get of the same channel
 
--- One entry was added with all actions of the put. It holds the records of the get too, and the get's answer is what the
--- channel shows of them right after it.
+-- One entry was added with all actions of the put. It holds the records of the get too, and the get's answer is what
+-- the channel shows of them right after it.
 pub record IsDoneAndGot (a : Asked) (done : Done) (value : Data) (marks : List Mark) : Type 0 where
   pub actions : List (ℕ × Action)
   pub asked : asked_actions a ≡ Ok actions

@@ -1,5 +1,6 @@
 -- Subscriptions, as the marks of their seat tell them, and what they are given.
-use Rattle.std.specs.Prelude.{◌≡◌, ◌==◌, ℕ, Bool, true, List, [], ◌∷◌, ◌++◌, map, Option, None, Some, is_some, option_map, if◌then◌else◌}
+use Rattle.std.specs.Prelude.{◌≡◌, ◌==◌, ℕ, Bool, List, [], ◌∷◌, ◌++◌, map, Option, None, Some, is_some, option_map}
+use Rattle.std.specs.Prelude.{if◌then◌else◌}
 use Rattle.std.specs.FinSet.{FinSet}
 use Rattle.std.specs.Ordering.{nat_cmp}
 use Rattle.rec_kinds.specs.declared.state.RecState.{RecState}
@@ -16,8 +17,8 @@ use Rattle.desk_api.specs.declared.channel.Channel.{Channel}
 use Rattle.desk_api.specs.declared.mark.Mark.{Mark}
 use Rattle.desk_api.specs.declared.mark.Mark.TheVariants.{Read, Entered, Overweight, Begun, Crowded, Popped, Dropped}
 
--- A living subscription: where it began, the leaves of a channel that it asked for, how many updates its queue may hold, and
--- its pops so far, each with its place and what it took.
+-- A living subscription: where it began, the leaves of a channel that it asked for, how many updates its queue may
+-- hold, and its pops so far, each with its place and what it took.
 pub record Living : Type 0 where
   pub place : ℕ
   pub channel : Channel
@@ -33,6 +34,9 @@ popped_too at update l = record {
   size = l.size;
   pops = l.pops ++ (at, update) ∷ [];
 }
+
+abbrev pub at_first : Living → Living
+at_first l = record { place = l.place; channel = l.channel; mask = l.mask; size = l.size; pops = [] }
 
 -- The living subscription in a slot, behind one mark more of its seat and behind all of these marks.
 
@@ -56,6 +60,15 @@ living log slot = living_after slot None log
 
 abbrev pub lives : List Mark → ℕ → Bool
 lives log slot = is_some (living log slot)
+
+-- The log has the beginning of this subscription in this slot, and the marks behind it lead from there to how it is
+-- now.
+pub record BeganIn (log : List Mark) (slot : ℕ) (l : Living) : Type 0 where
+  pub before : List Mark
+  pub after : List Mark
+  pub index : ℕ
+  pub log_is : log ≡ before ++ Begun l.place index slot l.channel l.mask l.size ∷ after
+  pub since : living_after slot (Some (at_first l)) after ≡ Some l
 
 -- The subscription in a history: what it watches there, and the states at its place.
 abbrev pub subscription : History → Living → Subscription (List RecState) Entry
@@ -86,8 +99,8 @@ given [] = []
 given ((at, None) ∷ pops) = given pops
 given ((at, Some update) ∷ pops) = update ∷ given pops
 
--- The updates that were handed out and those that are still queued, merged in order into a blank value, are what is shown
--- behind the first n entries: each requested field as of the last entry that posted it.
+-- The updates that were handed out and those that are still queued, merged in order into a blank value, are what is
+-- shown behind the first n entries: each requested field as of the last entry that posted it.
 abbrev pub IsFolded : History → Living → ℕ → Type 0
 IsFolded h l n =
     folded (blank (subscription h l).watch) (map (told_of h l) (given l.pops) ++ map update_of (unread_of h l n))

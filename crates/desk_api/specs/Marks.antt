@@ -1,5 +1,6 @@
 -- What the steps of a desk's calls find and do, and when that is true.
-use Rattle.std.specs.Prelude.{◌≡◌, ℕ, ◌+◌, ◌<◌, ◌≤◌, ◌⊎◌, ◌==◌, true, false, List, [], ◌∷◌, ◌++◌, length, take, Option, Some, slice_get, ⊤}
+use Rattle.std.specs.Prelude.{◌≡◌, ℕ, ◌+◌, ◌<◌, ◌≤◌, ◌⊎◌, ◌==◌, true, false, List, [], ◌∷◌, ◌++◌, length, take, Option}
+use Rattle.std.specs.Prelude.{Some, slice_get, ⊤}
 use Rattle.std.specs.FinSet.{FinSet}
 use Rattle.std.specs.Ordering.{nat_cmp}
 use Rattle.std.specs.List.{list_any}
@@ -80,9 +81,10 @@ pub record IsTrueRead (h : History) (at : ℕ) (channel : Channel) (footprint : 
   pub footprint_is : IsLookOf h.base.site channel footprint
   pub found_is : AreStatesOf (state_at h at) footprint found
 
--- What makes an entry's mark true: the history has it there, as this seat's, up to it the entries aren't above the limit,
--- and the records that were looked at then are found as they are right after it.
-pub record IsTrueEntry (h : History) (seat at : ℕ) (entry : Entry) (looked : List ℕ) (found : List RecState) : Type 0 where
+-- What makes an entry's mark true: the history has it there, as this seat's, up to it the entries aren't above the
+-- limit, and the records that were looked at then are found as they are right after it.
+pub record IsTrueEntry (h : History) (seat at : ℕ) (entry : Entry) (looked : List ℕ)
+    (found : List RecState) : Type 0 where
   pub there : slice_get (entries h) at ≡ Some (seat, entry)
   pub light : kept_at h at + weight entry ≤ h.base.limit
   pub found_is : AreStatesOf (state_at h (at + 1)) looked found
@@ -96,8 +98,8 @@ pub record IsTrueOverweight (h : History) (at : ℕ) (footprint : List ℕ) (act
   pub limit_is : limit ≡ h.base.limit
   pub above : limit < kept + added
 
--- What makes a beginning true: the roll has it, as this seat's, in the least slot that no living subscription had, with fewer
--- than 1,024 of them alive before it. By its own marks the seat had none in that slot.
+-- What makes a beginning true: the roll has it, as this seat's, in the least slot that no living subscription had, with
+-- fewer than 1,024 of them alive before it. By its own marks the seat had none in that slot.
 pub record IsTrueBegun (h : History) (seat : ℕ) (before : List Mark) (at index slot : ℕ) (channel : Channel)
     (mask : FinSet nat_cmp) (size : ℕ) : Type 0 where
   pub within : at ≤ length (entries h)
@@ -114,7 +116,8 @@ pub record IsTrueCrowded (h : History) (at index count : ℕ) : Type 0 where
   pub count_is : count ≡ alive (take index (roll h))
   pub full : count ≡ 1024
 
--- What makes a pop true: the seat's subscription lives in the slot, and what was taken is the oldest unread update there.
+-- What makes a pop true: the seat's subscription lives in the slot, and what was taken is the oldest unread update
+-- there.
 pub record IsTruePopped (h : History) (before : List Mark) (at slot : ℕ) (update : Option Update) : Type 0 where
   pub within : at ≤ length (entries h)
   pub subscribed : Living

@@ -14,8 +14,8 @@ use Rattle.desk_api.specs.declared.channel.ChannelKind.{ChannelKind}
 use Rattle.desk_api.specs.declared.channel.ChannelKind.TheVariants.{Rec, Desc, Group, Service}
 use Rattle.desk_api.specs.declared.history.SiteData.{SiteData}
 
--- The leaves of a channel that are posted where a record is written: all leaves of the record's own channel, in a group those
--- that the record triggers, and none of a description (QSRV manual, "Group PV definitions", `+trigger`).
+-- The leaves of a channel that are posted where a record is written: all leaves of the record's own channel, in a group
+-- those that the record triggers, and none of a description (QSRV manual, "Group PV definitions", `+trigger`).
 
 abbrev pub triggered_in : Option GroupData → ℕ → FinSet nat_cmp
 triggered_in None rec = empty

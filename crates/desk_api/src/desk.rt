@@ -1,5 +1,5 @@
 // What a session asks of its desk.
-ghost use Rattle.std.specs.Prelude.{◌≡◌, true, IfErr, IfOk, IfSome, IsTrue, OnOk, option_map, Some, ◌≤◌, length};
+ghost use Rattle.std.specs.Prelude.{◌≡◌, true, IfErr, IfOk, IfSome, IsTrue, OnOk, option_map, ◌≤◌, length};
 ghost use Rattle.desk_api.specs.declared.mark.Seat.{Seat};
 ghost use Rattle.desk_api.specs.Sites as sites;
 ghost use Rattle.desk_api.specs.Types as types;

@@ -1,5 +1,5 @@
 // Laws of the definitions. Each is the contract of a function that does nothing.
-ghost use Rattle.std.specs.Prelude.{◌≡◌, ℕ, ◌+◌, ◌≤◌, ◌==◌, Bool, true, List, [], ◌++◌, length, Option, Some, IsTrue};
+ghost use Rattle.std.specs.Prelude.{◌≡◌, ℕ, ◌+◌, ◌≤◌, ◌==◌, Bool, true, List, [], ◌++◌, length, Option, Some, Result, IsTrue};
 ghost use Rattle.std.specs.List.{list_all, list_any};
 ghost use Rattle.std.specs.List.Sorted.{IsStrictlyIncreasing};
 ghost use Rattle.histories.specs.History.{Begins};
@@ -7,10 +7,10 @@ ghost use Rattle.journal_core.specs.Legality.{AreProcessed, AreValid};
 ghost use Rattle.journal_core.specs.declared.entry.Entry.{Entry};
 ghost use Rattle.desk_api.specs.History.{History, entries, state_at, kept_at, IsLegal};
 ghost use Rattle.histories.specs.History.{AllTrue};
-ghost use Rattle.desk_api.specs.Living.{Living, living, IsFolded, PopsUpTo};
+ghost use Rattle.desk_api.specs.Living.{Living, BeganIn, living, living_after, IsFolded, PopsUpTo};
 ghost use Rattle.desk_api.specs.Marks.{AllHold, IsTrueEntry, IsTrueRead, IsFoldedAtEnd};
 ghost use Rattle.journal_core.specs.Moments.{Moment};
-ghost use Rattle.desk_api.specs.Calls.{Adds, AreFindings, laid_by, looks_of};
+ghost use Rattle.desk_api.specs.Calls.{Adds, Asked, AreFindings, AreGet, ArePut, ArePutGet, AreSnapshot, laid_by, looks_of};
 ghost use Rattle.desk_api.specs.Puts.{footprint_by, footprint_with};
 ghost use Rattle.desk_api.specs.Sites.{AreOver, all_records, channel_named, channel_of, footprint_of, is_channel};
 ghost use Rattle.desk_api.specs.Types.{type_of};
@@ -20,6 +20,12 @@ ghost use Rattle.desk_api.specs.declared.channel.ChannelKind.TheVariants.{Servic
 ghost use Rattle.desk_api.specs.declared.history.SiteData.{SiteData};
 ghost use Rattle.desk_api.specs.declared.mark.Mark.{Mark};
 ghost use Rattle.desk_api.specs.declared.mark.Seat.{Seat};
+ghost use Rattle.desk_api.specs.declared.put.Done.{Done};
+ghost use Rattle.desk_api.specs.declared.put.PutAnswer.{PutAnswer};
+ghost use Rattle.desk_api.specs.declared.rows.RecRow.{RecRow};
+ghost use Rattle.pvd_type.specs.declared.memory.NoMemory.{NoMemory};
+ghost use Rattle.pvd_value.specs.declared.value.PvValue.{PvValue};
+ghost use Rattle.std.specs.Global.{Vec};
 ghost use Rattle.pvd_value.specs.Fits.{fits_of};
 ghost use Rattle.rec_kinds.specs.declared.datum.Action.{Action};
 ghost use Rattle.rec_kinds.specs.declared.state.RecState.{RecState};
@@ -96,6 +102,17 @@ pub fn truth_lasts()
 pub fn updates_fold()
     ensures living { (h : History) (seat : ℕ) (before marks : List Mark) → AllHold seat h before marks → (slot : ℕ) (l : Living) → living marks slot ≡ Some l → (n : ℕ) → PopsUpTo l n → IsFolded h l n }
     ensures ended { (h : History) (seat : ℕ) (before marks : List Mark) → AllHold seat h before marks → AllTrue (IsFoldedAtEnd h) [] marks }
-{
-    mon_queue::updates_fold::<LinkedList<RecState>, Entry>();
-}
+{}
+
+/// A living subscription began in the log, with its channel, its leaves and its size; the marks behind that tell its pops.
+pub fn subscriptions_begin()
+    ensures { (log : List Mark) (slot : ℕ) (l : Living) → living log slot ≡ Some l → BeganIn log slot l }
+{}
+
+/// A call that is none of subscriptions leaves what lives in each slot.
+pub fn other_calls_leave_subscriptions()
+    ensures gets { (slot : ℕ) (o : Option Living) (site : SiteData) (channel : Channel) (atomic : Option Bool) (result : Result PvValue NoMemory) (marks : List Mark) → AreGet site channel atomic result marks → living_after slot o marks ≡ o }
+    ensures puts { (slot : ℕ) (o : Option Living) (a : Asked) (result : Result Done PutAnswer) (marks : List Mark) → ArePut a result marks → living_after slot o marks ≡ o }
+    ensures put_gets { (slot : ℕ) (o : Option Living) (a : Asked) (result : Result (Done × PvValue) PutAnswer) (marks : List Mark) → ArePutGet a result marks → living_after slot o marks ≡ o }
+    ensures snapshots { (slot : ℕ) (o : Option Living) (site : SiteData) (result : Result (Vec RecRow) NoMemory) (marks : List Mark) → AreSnapshot site result marks → living_after slot o marks ≡ o }
+{}

@@ -18,6 +18,9 @@ mod site;
 mod sub;
 #[cfg(test)]
 mod tests;
+mod views;
+#[cfg(test)]
+mod views_tests;
 
 pub use channel::{Channel, ChannelKind};
 pub use desk::Desk;
@@ -28,8 +31,8 @@ pub use history::{Base, SiteData};
 pub use journal_core::Entry;
 pub use laws::{
     calls_in_turn, entries_write_inside, footprints_rise, found_channels, gets_show_their_place,
-    looks_show_states, put_gets_show_their_entry, snapshots_show_their_place, truth_lasts,
-    updates_fold, values_fit,
+    looks_show_states, other_calls_leave_subscriptions, put_gets_show_their_entry,
+    snapshots_show_their_place, subscriptions_begin, truth_lasts, updates_fold, values_fit,
 };
 pub use mark::{Mark, Seat};
 pub use mon_queue::Update;

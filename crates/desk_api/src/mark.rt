@@ -60,7 +60,11 @@ pub enum Mark {
         update: Option<Update>,
     },
     /// The subscription in a slot ended, as the item of the roll with this number.
-    Dropped { place: u64, index: u64, slot: u32 },
+    Dropped {
+        place: u64,
+        index: u64,
+        slot: u32,
+    },
 }
 
 /// What a desk means to contracts.

@@ -9,6 +9,7 @@ ghost use Rattle.desk_api.specs.Records.{AreNew, IsFaultIn, IsFirstFault, channe
 ghost use Rattle.desk_api.specs.Sites as sites;
 ghost use Rattle.desk_api.specs.Sites.{first_named, names_from};
 ghost use Rattle.desk_api.specs.Types.{type_shown};
+ghost use Rattle.pvd_type.specs.Numbers.{leaves};
 ghost use Rattle.group_view.specs.Seen.{configs_seen};
 ghost use Rattle.journal_core.specs.Legality.{AreValid};
 ghost use Rattle.rec_kinds.specs.Building.{IsBuildFault};
@@ -17,7 +18,7 @@ ghost use Rattle.rec_kinds.specs.Validity.{IsValid};
 use crate::channel::{Channel, ChannelKind};
 use crate::fault::SiteFault;
 use indexmap::IndexMap;
-use pvd_type::{NoMemory, PvType};
+use pvd_type::{BitSet, NoMemory, PvType};
 use rec_fields::type_of;
 use rec_kinds::{BuildFault, RecConfig, RecState, RecText, build, longout};
 use std::alloc::Global;
@@ -38,16 +39,17 @@ fn unbuilt(alloc: Global, stated: &RecText, fault: BuildFault) -> SiteFault
     }
 }
 
-/// How a record is configured, the state that it opens with, and the type that it shows.
+/// How a record is configured, the state that it opens with, the type that it shows and the leaves of that.
 #[derive(Drop)]
 struct Served {
     config: Arc<RecConfig>,
     opening: RecState,
     ty: PvType,
+    leaves: BitSet,
 }
 
 /// Lets a value go in a function of its own, since its parts would else be let go one by one in the caller's proof.
-fn discard<T: Drop>(_value: T) {}
+pub(crate) fn discard<T: Drop>(_value: T) {}
 
 /// Puts a record into a map under its name.
 fn put_in(
@@ -80,6 +82,7 @@ impl Model for Records {
     ghost use Rattle.std.specs.Prelude.{◌≡◌, ◌≤◌, [], true, length, map, string_bytes};
     ghost use Rattle.std.specs.List.{list_all};
     ghost use Rattle.journal_core.specs.Legality.{AreValid};
+    ghost use Rattle.pvd_type.specs.Numbers as numbers;
     ghost use Rattle.rec_fields.specs.Types.{record_tree};
     ghost use Rattle.desk_api.specs.Sites.{is_record_name};
     ghost use Rattle.desk_api.specs.declared.history.SiteData.{SiteData};
@@ -88,7 +91,7 @@ impl Model for Records {
 
     ghost view = { λ r. record { names = map (λ e. string_bytes e.0) r.by_name.entries; configs = map (λ e. e.1.config.value) r.by_name.entries; opening = map (λ e. e.1.opening) r.by_name.entries; groups = [] } };
 
-    ghost invariant = { λ r. AreValid (map (λ e. e.1.config.value) r.by_name.entries) (map (λ e. e.1.opening) r.by_name.entries) × (map (λ e. e.1.ty) r.by_name.entries ≡ map (λ e. record_tree e.1.config.value) r.by_name.entries) × (list_all is_record_name (map (λ e. string_bytes e.0) r.by_name.entries) ≡ true) × (length r.by_name.entries ≤ 4000) };
+    ghost invariant = { λ r. AreValid (map (λ e. e.1.config.value) r.by_name.entries) (map (λ e. e.1.opening) r.by_name.entries) × (map (λ e. e.1.ty) r.by_name.entries ≡ map (λ e. record_tree e.1.config.value) r.by_name.entries) × (list_all is_record_name (map (λ e. string_bytes e.0) r.by_name.entries) ≡ true) × (length r.by_name.entries ≤ 4000) × (map (λ e. e.1.leaves) r.by_name.entries ≡ map (λ e. numbers.leaves (record_tree e.1.config.value)) r.by_name.entries) };
 }
 
 impl Records {
@@ -161,10 +164,12 @@ impl Records {
     {
         let name = String::from_str(alloc, name)?;
         let ty = type_of(alloc, &config)?;
+        let leaves = ty.leaves(alloc)?;
         let served = Served {
             config: Arc::new(alloc, config)?,
             opening,
             ty,
+            leaves,
         };
         put_in(&mut self.by_name, name, served)
     }
@@ -254,5 +259,14 @@ impl Records {
     {
         let (_, served) = self.by_name.get_index(rec).unwrap();
         &served.ty
+    }
+
+    /// The leaves of the type that a record shows, by its number.
+    pub(crate) fn leaves_at(&self, rec: usize) -> &BitSet
+        requires { rec < length self.now.names }
+        ensures { result.now ≡ leaves (type_shown (slice_get self.now.configs rec)) }
+    {
+        let (_, served) = self.by_name.get_index(rec).unwrap();
+        &served.leaves
     }
 }

@@ -1,5 +1,6 @@
 // The records that are served, as they are configured.
 ghost use Rattle.std.specs.Prelude.{◌≡◌, ◌<◌, ◌≤◌, ◌++◌, [], IfErr, IfOk, IsTrue, Ok, Some, length, option_map, option_copied, slice_get};
+ghost use Rattle.std.specs.FinSet as set;
 ghost use Rattle.std.specs.List.{AllByRecursion, range_with_len};
 ghost use Rattle.group_view.specs.Groups.{IsOver};
 ghost use Rattle.desk_api.specs.Grouping.{IsFaultOfGroups};
@@ -10,6 +11,8 @@ ghost use Rattle.desk_api.specs.Records.{AreNew, IsLoadFault, records_of, unload
 ghost use Rattle.desk_api.specs.Sites as sites;
 ghost use Rattle.desk_api.specs.Types as types;
 ghost use Rattle.journal_core.specs.Legality.{AreValid};
+ghost use Rattle.nt_types.specs.Types.{scalar_tree};
+ghost use Rattle.pvd_type.specs.declared.shape.Scalar.TheVariants.{Text};
 
 use crate::channel::{Channel, ChannelKind};
 use crate::fault::SiteFault;
@@ -17,7 +20,7 @@ use crate::groups::Groups;
 use crate::records::Records;
 use db_load::{LoadFault, read_records};
 use group_view::Group;
-use pvd_type::{Name, NoMemory, PvType};
+use pvd_type::{BitSet, Name, NoMemory, PvType};
 use rec_fields::desc_type;
 use rec_kinds::{RecConfig, RecState, RecText};
 use std::alloc::Global;
@@ -111,10 +114,13 @@ pub struct Site {
     pub(crate) numbers: Vec<u32>,
     /// The type of every description.
     text: PvType,
+    /// The leaves that a record triggers of a channel that doesn't show it: none.
+    nothing: BitSet,
 }
 
 impl Model for Site {
     ghost use Rattle.std.specs.Prelude.{◌≡◌, length};
+    ghost use Rattle.std.specs.FinSet as set;
     ghost use Rattle.std.specs.List.{AllByRecursion, range_with_len};
     ghost use Rattle.group_view.specs.Groups.{IsOver};
     ghost use Rattle.nt_types.specs.Types.{scalar_tree};
@@ -126,7 +132,7 @@ impl Model for Site {
 
     ghost view = { λ s. with_groups s.records s.groups };
 
-    ghost invariant = { λ s. (s.text ≡ scalar_tree Text) × (s.numbers.items ≡ range_with_len 0 (length s.records.names)) × AllByRecursion (IsOver s.records.configs) s.groups };
+    ghost invariant = { λ s. (s.text ≡ scalar_tree Text) × (s.numbers.items ≡ range_with_len 0 (length s.records.names)) × AllByRecursion (IsOver s.records.configs) s.groups × (s.nothing ≡ set.empty) };
 }
 
 impl Site {
@@ -162,6 +168,7 @@ impl Site {
             groups,
             numbers,
             text: desc_type(alloc)?,
+            nothing: BitSet::new(alloc),
         })
     }
 
@@ -219,6 +226,20 @@ impl Site {
             ChannelKind::Group => Some(self.group(number).type_of()),
             ChannelKind::Service => None,
         }
+    }
+
+    /// The type of every description.
+    pub(crate) fn text(&self) -> &PvType
+        ensures { result.now ≡ scalar_tree Text }
+    {
+        &self.text
+    }
+
+    /// No leaf.
+    pub(crate) fn no_leaf(&self) -> &BitSet
+        ensures { result.now ≡ set.empty }
+    {
+        &self.nothing
     }
 
     /// The name of a record, by its number.

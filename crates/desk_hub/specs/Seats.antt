@@ -39,10 +39,12 @@ has_slot h seat slot = is_holder seat (holder (roll h) slot)
 abbrev pub own_slot : History → ℕ → Subs → ℕ → Option (Watching Channel)
 own_slot h seat subs slot = only (has_slot h seat slot) (slot_in subs slot)
 
--- What is kept of a living subscription: what it is shown at the end of the history, and the updates of its unread runs there.
+-- What is kept of a living subscription: what it is shown at the end of the history, and the updates of its unread runs
+-- there.
 pub record KeepsLiving (h : History) (l : Living) (x : Watching Channel) : Type 0 where
   pub channel_is : channel_of x ≡ l.channel
-  pub keeps : Keeps (subscription h l).watch l.size (scene_at (subscription h l) (commits h) (now h)) (unread_of h l (now h)) x
+  pub keeps :
+      Keeps (subscription h l).watch l.size (scene_at (subscription h l) (commits h) (now h)) (unread_of h l (now h)) x
   pub later : PopsUpTo l (now h)
   pub size_is : (1 ≤ l.size) × (l.size ≤ 64)
 
@@ -56,8 +58,8 @@ pub record SlotsStand (h : History) (subs : Subs) : Type 0 where
   pub stand : Stand (may_be_watched h.base.site) (channel_view h.base.site) subs
   pub held : Follows (roll h) subs
 
--- What is kept of a seat with this log: in each slot that it holds the subscription that its log has there, and in no other slot has
--- its log one.
+-- What is kept of a seat with this log: in each slot that it holds the subscription that its log has there, and in no
+-- other slot has its log one.
 pub record KeepsSeat (h : History) (subs : Subs) (seat : ℕ) (log : List Mark) : Type 0 where
   pub stands : SlotsStand h subs
   pub each : (slot : ℕ) → KeepsSlot h (living log slot) (own_slot h seat subs slot)

@@ -1,5 +1,5 @@
 -- What a step of one seat does for all seats.
-use Rattle.std.specs.Prelude.{◌≡◌, ◌≢◌, ◌<◌, ℕ, true, List, [], ◌∷◌, ◌++◌, length, Option, Some}
+use Rattle.std.specs.Prelude.{◌≡◌, ◌≢◌, ℕ, true, List, [], ◌∷◌, ◌++◌, length, Option, Some}
 use Rattle.std.specs.FinSet.{FinSet}
 use Rattle.std.specs.Ordering.{nat_cmp}
 use Rattle.histories.specs.History.{Begins as GoesOn}
@@ -26,11 +26,12 @@ use Rattle.desk_api.specs.declared.mark.Mark.{Mark}
 use Rattle.desk_api.specs.declared.mark.Mark.TheVariants.{Entered, Begun, Popped, Dropped}
 use Rattle.desk_hub.specs.Seats.{Subs, now, SlotsStand, KeepsSeat}
 
--- The seat adds these marks, and the history goes on from h to k. What is kept of the seat is kept with them, and what is kept of every
--- other seat, with any log, stays kept.
+-- The seat adds these marks, and the history goes on from h to k. What is kept of the seat is kept with them, and what
+-- is kept of every other seat, with any log, stays kept.
 pub record KeepsAll (h k : History) (subs more : Subs) (seat : ℕ) (log marks : List Mark) : Type 0 where
   pub own : KeepsSeat k more seat (log ++ marks)
-  pub others : (other : ℕ) (theirs : List Mark) → other ≢ seat → KeepsSeat h subs other theirs → KeepsSeat k more other theirs
+  pub others : (other : ℕ) (theirs : List Mark) → other ≢ seat → KeepsSeat h subs other theirs
+      → KeepsSeat k more other theirs
 
 -- The history goes on by this item of the seat alone.
 pub record Rolls (h k : History) (seat : ℕ) (item : Item) : Type 0 where
@@ -65,11 +66,13 @@ abbrev pub StartsNot : Subs → Subs → NotBegun → Type 0
 StartsNot subs more TooMany = SlotsStay subs more × ((h : History) → SlotsStand h subs → alive (roll h) ≡ 1024)
 StartsNot subs more NoMemory = SlotsStay subs more
 
--- Of these states the same is seen, in each subscription under the requested leaves that the entry takes anew, as of those right after it.
+-- Of these states the same is seen, in each subscription under the requested leaves that the entry takes anew, as of
+-- those right after it.
 abbrev pub SeenAsAfter : History → Entry → List RecState → Subs → Type 0
 SeenAsAfter h e states subs =
     (slot : ℕ) (x : Watching Channel) → slot_in subs slot ≡ Some x
-    → let w = watch_of (channel_view h.base.site) x in SeenAlike w (anew w e) states (written (state_at h (now h)) e.writes)
+    → let w = watch_of (channel_view h.base.site) x in
+    SeenAlike w (anew w e) states (written (state_at h (now h)) e.writes)
 
 -- The history goes on by this entry of the seat alone.
 pub record Commits (h k : History) (seat : ℕ) (e : Entry) : Type 0 where

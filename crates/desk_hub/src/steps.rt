@@ -15,7 +15,9 @@ ghost use Rattle.mon_shown.specs.declared.watching.Watching.{Watching};
 use desk_api::{Channel, Site};
 use journal_core::Entry;
 use mon_queue::Update;
-use mon_shown::{NotBegun, Readied, Subscriptions};
+use mon_shown::{
+    NotBegun, Readied, Subscriptions, entries_are_kept, slots_are_least, slots_follow_the_roll,
+};
 use pvd_type::{BitSet, NoMemory};
 use rec_kinds::RecState;
 use std::alloc::Global;
@@ -39,6 +41,8 @@ pub fn begin(
     ensures starts_not { IfErr result (StartsNot subs.old subs.new) }
     ensures stand { Stand (may_be_watched site.now) (channel_view site.now) subs.new }
 {
+    slots_are_least::<Channel>();
+    slots_follow_the_roll::<Channel>();
     subs.subscribe(alloc, site, channel, mask, states, size)
 }
 
@@ -56,6 +60,7 @@ pub fn end(site: &Site, subs: &mut Subscriptions<Channel>, slot: u32)
     ensures ends { Ends site.now subs.old slot subs.new }
     ensures stand { Stand (may_be_watched site.now) (channel_view site.now) subs.new }
 {
+    slots_follow_the_roll::<Channel>();
     subs.clear(site, slot);
 }
 
@@ -80,5 +85,6 @@ pub fn post(subs: &mut Subscriptions<Channel>, ready: Readied)
     requires { MayTakeAll subs.old ready }
     ensures { (site : SiteData) (states : List RecState) (entry : Entry) → AreReady (channel_view site) states entry subs.old ready → Posts site states entry subs.old subs.new }
 {
+    entries_are_kept::<Channel>();
     subs.take_all(ready);
 }

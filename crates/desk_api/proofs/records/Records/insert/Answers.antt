@@ -2,6 +2,7 @@ use Rattle.std.specs.Prelude.{◌≡◌, String, ◌<◌, ℕ, List, length, map
 use Rattle.std.proofs.Common.{sym, ◌∙◌, ap, subst, arith, Global}
 use Rattle.std.proofs.lemmas.List.{length-map}
 use Rattle.db_load.specs.Forms.{is_among}
+use Rattle.pvd_type.specs.Numbers.{leaves}
 use Rattle.rec_fields.specs.Types.{record_tree}
 use Rattle.rec_kinds.specs.Configs.{Config}
 use Rattle.rec_kinds.specs.Validity.{IsValid}
@@ -32,7 +33,8 @@ invariant_of-self c =
     let own : c.in_ok-new.field-0.value ≡ c.args.config = (c.in_ok-new.ensures {u = tt}).ok in
     let valid : IsValid c.in_ok-new.field-0.value c.args.opening = subst (λ (x : Config). IsValid x c.args.opening) (sym own) c.requires.valid in
     let typed : c.in_ok-ty.ty ≡ record_tree c.in_ok-new.field-0.value = (c.in_ok-ty.ensures {u = tt}) ∙ ap record_tree (sym own) in
-    after_put c.put_in.result AreKept es _ _ _ fresh c.put_in.ensures.ok c.put_in.ensures.err c.self.invariant (kept_more es _ _ c.self.invariant named valid typed few)
+    let listed : c.in_ok-leaves.leaves ≡ leaves (record_tree c.in_ok-new.field-0.value) = (c.in_ok-leaves.ensures {u = tt}) ∙ ap leaves typed in
+    after_put c.put_in.result AreKept es _ _ _ fresh c.put_in.ensures.ok c.put_in.ensures.err c.self.invariant (kept_more es _ _ c.self.invariant named valid typed listed few)
 
 pub returns : goal.returns
 returns c =

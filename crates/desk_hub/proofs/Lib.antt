@@ -1,0 +1,9 @@
+pub mod Courses
+pub mod Logs
+pub mod Living
+pub mod Rolling
+pub mod Popping
+pub mod Beginning
+pub mod Ending
+pub mod Posting
+pub mod Props
