@@ -33,6 +33,7 @@ use Rattle.desk_api.specs.History.{IsLegal}
 use Rattle.desk_api.specs.declared.channel.Channel.{Channel}
 use Rattle.desk_api.specs.declared.history.SiteData.{SiteData}
 use Rattle.desk_api.specs.declared.mark.Seat.{Seat}
+use Rattle.desk_api.specs.declared.sub.Sub.{Sub}
 use Rattle.srv_session.specs.State.{State, Requests, is_full}
 use Rattle.srv_session.specs.Replies.{is_call, refused}
 use Rattle.srv_session.specs.Tasks.{Task, refuse, nothing_wanted, root_for, wanted_for, unfit_for, unfit, beginning, beginning_as, beginning_on}
@@ -64,7 +65,7 @@ fault_refused old new seat legal moment kind req sub sid channel (faults.BadOpti
     subst (λ (r : Result Wanted RequestFault). Takes (show seat old) (show seat new) moment (beginning_as kind req sub sid channel r) result) (sym is) (f seat legal moment)
 fault_refused old new seat legal moment kind req sub sid channel faults.NoMemory told (Ok u) is f = absurd f
 fault_refused old new seat legal moment kind req sub sid channel faults.NoMemory told (Err e) is f =
-    gave_up seat moment (state_of old) (state_of new) (output_of old) (output_of new) (beginning_as kind req sub sid channel told) (Err e) legal refl f
+    gave_up seat moment (state_of old) (state_of new) (output_of old) (output_of new) (beginning_as kind req sub sid channel told) (Err e) legal refl f.output f.subscribed
 
 -- Which row decides.
 module _ (site : SiteData) (s : State) (kind : AskKind) (req sub sid : ℕ) (v : Valued) (o : Option Channel) where
@@ -98,7 +99,7 @@ module _ (site : SiteData) (s : State) (kind : AskKind) (req sub sid : ℕ) (v :
         let test : is_full s.requests ≡ false = grind (arith, nat_tests) in free none ∙ ap (λ (b : Bool). cond b too_many others) test
 
     -- there is no place for it
-    pub place_refused : (old new : Session) (seat : Seat) → IsLegal seat.seen → (moment : Moment) (answer : TableAnswer) (t : Tables Channel (Unit {0})) (result : Result (Unit {0}) NoMemory) → s.requests ≡ t.asks
+    pub place_refused : (old new : Session) (seat : Seat) → IsLegal seat.seen → (moment : Moment) (answer : TableAnswer) (t : Tables Channel Sub) (result : Result (Unit {0}) NoMemory) → s.requests ≡ t.asks
         → Refuses t req answer → RefusesPlace old new kind req sub answer result → Takes (show seat old) (show seat new) moment (beginning site s kind req sub sid v o) result
     place_refused old new seat legal moment places.InUse t result same some f =
         subst (λ (x : Task). Takes (show seat old) (show seat new) moment x result) (sym (id_in_use (subst (λ (r : Requests). IsSome (get r req)) (sym same) some))) (f seat legal moment)
@@ -107,7 +108,7 @@ module _ (site : SiteData) (s : State) (kind : AskKind) (req sub sid : ℕ) (v :
         (sym (are_too_many (ap (λ (r : Requests). get r req) same ∙ full.0) (ap (λ (r : Requests). len r) same ∙ full.1.full))) (f seat legal moment)
     place_refused old new seat legal moment places.NoMemory t (Ok u) same short f = absurd f
     place_refused old new seat legal moment places.NoMemory t (Err e) same short f =
-        gave_up seat moment (state_of old) (state_of new) (output_of old) (output_of new) (beginning site s kind req sub sid v o) (Err e) legal refl f
+        gave_up seat moment (state_of old) (state_of new) (output_of old) (output_of new) (beginning site s kind req sub sid v o) (Err e) legal refl f.output f.subscribed
 
 -- What a message brings fits.
 

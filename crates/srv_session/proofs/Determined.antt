@@ -20,7 +20,15 @@ use Rattle.rec_fields.specs.declared.puts.FieldAnswer.TheVariants.{Refused}
 use Rattle.chan_table.specs.declared.ask.AskKind.{AskKind}
 use Rattle.chan_table.specs.declared.ask.AskKind.TheVariants as kinds
 use Rattle.desk_api.specs.Calls as calls
-use Rattle.desk_api.specs.Calls.{AreLooks, AreAdded, ArePut, ArePutGetBy, asked_actions, asked_entries, entries_of_actions, laid_by, looks_of, rows_shown}
+use Rattle.desk_api.specs.declared.sub.Sub.{Sub}
+use Rattle.desk_api.specs.declared.sub.SubAnswer.{SubAnswer}
+use Rattle.desk_api.specs.declared.sub.SubAnswer.TheVariants as sub_answers
+use Rattle.mon_queue.specs.declared.update.Update.{Update}
+use Rattle.pvd_request.specs.declared.request.Request.{Request as Wanted}
+use Rattle.histories.specs.History.{AllTrue}
+use Rattle.histories.proofs.Judged.{true_front, true_back}
+use Rattle.std.specs.FinMap.{get as at}
+use Rattle.desk_api.specs.Calls.{AreSubscribe, AreLooks, AreAdded, ArePut, ArePutGetBy, asked_actions, asked_entries, entries_of_actions, laid_by, looks_of, rows_shown}
 use Rattle.pvd_value.specs.View.{view}
 use Rattle.pvd_value.specs.declared.value.PvValue.{PvValue}
 use Rattle.rec_kinds.specs.declared.state.RecState.{RecState}
@@ -32,17 +40,20 @@ use Rattle.desk_api.specs.Views.{value_of, laid}
 use Rattle.desk_api.specs.declared.channel.Channel.{Channel}
 use Rattle.desk_api.specs.declared.history.SiteData.{SiteData}
 use Rattle.desk_api.specs.declared.mark.Mark.{Mark}
-use Rattle.desk_api.specs.declared.mark.Mark.TheVariants.{Read, Entered, Overweight}
+use Rattle.desk_api.specs.declared.mark.Mark.TheVariants.{Read, Entered, Overweight, Begun, Crowded, Popped, Dropped}
 use Rattle.desk_api.specs.declared.put.Done.{Done}
 use Rattle.desk_api.specs.declared.put.PutAnswer.{PutAnswer}
 use Rattle.desk_api.specs.declared.put.PutAnswer.TheVariants as answers
-use Rattle.srv_session.specs.State.{State, Asked}
-use Rattle.srv_session.specs.Tasks.{Task, pass_over, echo_control, refuse, tell, validate, echo, create, destroy_channel, begin, get, put, put_get, respond, snapshot, destroy_request, Hearing, asks, not_built, unreadable, heard}
+use Rattle.srv_session.specs.State.{State, Asked, channel_at}
+use Rattle.srv_session.specs.Tasks.{Task, pass_over, echo_control, refuse, tell, validate, echo, create, destroy_channel, begin, get, put, put_get, respond, snapshot, subscribe, steer, destroy_request, Hearing, asks, unreadable, over_range, heard}
 use Rattle.pva_messages.specs.Replies.{Reply}
 use Rattle.rpc_services.specs.Answers.{snapshot_tree}
-use Rattle.srv_session.specs.Replies.{Sent, said, error, got, answered, called}
-use Rattle.srv_session.specs.Rows.{Says, GetRow, asked, refusal_text, put_status, PutRow, put_get_reply, PutGetRow, rows_data, SnapshotRow, Row}
-use Rattle.srv_session.specs.Steps.{Step, knowing, IsAnswer, bytes_of, after_step, AreSteps, events_of, marks_of, out_of}
+use Rattle.srv_session.specs.Replies as replies
+use Rattle.srv_session.specs.Replies.{Sent, said, error, begun, got, answered, called}
+use Rattle.srv_session.specs.Rows.{Says, GetRow, asked, refusal_text, put_status, PutRow, put_get_reply, PutGetRow, rows_data, SnapshotRow, AreEndingsOf, EndsThese, subscribed_reply, SubscribeRow, Row}
+use Rattle.srv_session.specs.Steps.{Step, hears, pops, knowing, IsAnswer, PopRow, IsFreeBegun, update_sent, bytes_of, after_step, AreSteps, turns_of, marks_of, out_of}
+use Rattle.srv_session.specs.Calls.{Holds}
+use Rattle.srv_session.proofs.Kept.{holds_step}
 
 -- two ways to split a list of marks, and what was sent by the first parts
 pub record Same (m n k l : List Mark) (x y : List Sent) : Type 0 where
@@ -102,6 +113,10 @@ abbrev is_entry : Mark → Bool
 is_entry (Read at channel footprint found) = false
 is_entry (Entered at entry looked found) = true
 is_entry (Overweight at footprint actions kept weight limit) = false
+is_entry (Begun at index slot channel mask size) = false
+is_entry (Crowded at index count) = false
+is_entry (Popped at slot update) = false
+is_entry (Dropped at index slot) = false
 
 abbrev AllEntries : List Mark → Type 0
 AllEntries [] = Unit {0}
@@ -213,6 +228,10 @@ abbrev found_in : Mark → List RecState
 found_in (Read at channel footprint found) = found
 found_in (Entered at entry looked found) = found
 found_in (Overweight at footprint actions kept weight limit) = []
+found_in (Begun at index slot channel mask size) = []
+found_in (Crowded at index count) = []
+found_in (Popped at slot update) = []
+found_in (Dropped at index slot) = []
 
 -- what an option has, or else this
 abbrev reply_in : Reply → Option Reply → Reply
@@ -350,6 +369,52 @@ same_snapshot site req sub m n k l x y p q e =
       sent = p.sent_is ∙ ap (λ (z : List RecRow). said (called req sub snapshot_tree (rows_data z)) ∷ []) rows ∙ sym q.sent_is;
     }
 
+-- Monitors.
+
+-- a list of one mark
+pub one_mark : (a b : Mark) (m n k l : List Mark) → m ≡ a ∷ [] → n ≡ b ∷ [] → m ++ k ≡ n ++ l → (a ≡ b) × ((m ≡ n) × (k ≡ l))
+one_mark a b m n k l p q e =
+    (ap (head_or a) (sym (ap (λ (z : List Mark). z ++ k) p) ∙ e ∙ ap (λ (z : List Mark). z ++ l) q), split m n k l (ap length p ∙ sym (ap length q)) e)
+
+as_many_endings : (slots : List ℕ) (marks : List Mark) → AreEndingsOf slots marks → length marks ≡ length slots
+as_many_endings [] [] p = refl
+as_many_endings [] (mark ∷ marks) p = absurd p
+as_many_endings (slot ∷ slots) [] p = absurd p
+as_many_endings (slot ∷ slots) (mark ∷ marks) p = ap suc (as_many_endings slots marks p.1)
+
+same_ends : (slots : List ℕ) (these : List Sent) (m n k l : List Mark) (x y : List Sent) → EndsThese slots these m x → EndsThese slots these n y → m ++ k ≡ n ++ l → Same m n k l x y
+same_ends slots these m n k l x y p q e =
+    let both = split m n k l (as_many_endings slots m p.endings ∙ sym (as_many_endings slots n q.endings)) e in
+    record { marks = both.0; later = both.1; sent = p.sent_is ∙ sym q.sent_is }
+
+-- what is said of a subscription's mark
+subscribed_by : SiteData → ℕ → ℕ → Channel → Mark → Reply
+subscribed_by site req sub channel (Begun at index slot c mask size) = begun kinds.Monitor req sub (type_of site channel)
+subscribed_by site req sub channel mark = replies.refused kinds.Monitor req sub (codes "too many monitors")
+
+record ToldBy (site : SiteData) (req sub : ℕ) (channel : Channel) (marks : List Mark) (told : Reply) : Type 0 where
+  mark : Mark
+  marks_are : marks ≡ mark ∷ []
+  told_is : told ≡ subscribed_by site req sub channel mark
+
+told_by : (site : SiteData) (req sub : ℕ) (channel : Channel) (wanted : Wanted) (answer : Result Sub SubAnswer) (marks : List Mark) (told : Reply)
+    → AreSubscribe channel wanted.mask wanted.queue answer marks → subscribed_reply site req sub channel answer ≡ Some told → ToldBy site req sub channel marks told
+unfolding subscribed_by
+told_by site req sub channel wanted (Ok living) marks told p s =
+    record { mark = Begun p.at p.index living.slot channel wanted.mask wanted.queue; marks_are = p.marks_are; told_is = sym (ap (reply_in told) s) }
+told_by site req sub channel wanted (Err (sub_answers.TooManyMonitors count)) marks told p s =
+    record { mark = Crowded p.at p.index count; marks_are = p.marks_are; told_is = sym (ap (reply_in told) s) }
+told_by site req sub channel wanted (Err sub_answers.NoMemory) marks told p s = absurd (none-some told s)
+
+same_subscribe : (site : SiteData) (req sub : ℕ) (channel : Channel) (wanted : Wanted) (m n k l : List Mark) (x y : List Sent)
+    → SubscribeRow site req sub channel wanted m x → SubscribeRow site req sub channel wanted n y → m ++ k ≡ n ++ l → Same m n k l x y
+same_subscribe site req sub channel wanted m n k l x y p q e =
+    let a = told_by site req sub channel wanted p.answer m p.told p.is_subscribe p.told_is in
+    let b = told_by site req sub channel wanted q.answer n q.told q.is_subscribe q.told_is in
+    let one = one_mark a.mark b.mark m n k l a.marks_are b.marks_are e in
+    let told : p.told ≡ q.told = a.told_is ∙ ap (subscribed_by site req sub channel) one.0 ∙ sym b.told_is in
+    record { marks = one.1.0; later = one.1.1; sent = p.sent_is ∙ ap (λ (r : Reply). said r ∷ []) told ∙ sym q.sent_is }
+
 same_row : (site : SiteData) (s : State) (task : Task) (m n k l : List Mark) (x y : List Sent) → Row site s task m x → Row site s task n y → m ++ k ≡ n ++ l → Same m n k l x y
 same_row site s pass_over m n k l x y p q e = same_says _ m n k l x y p q e
 same_row site s (echo_control number) m n k l x y p q e = same_says _ m n k l x y p q e
@@ -361,38 +426,93 @@ same_row site s (snapshot req sub) m n k l x y p q e = same_snapshot site req su
 same_row site s (validate buffer registry user host) m n k l x y p q e = same_says _ m n k l x y p q e
 same_row site s (echo payload) m n k l x y p q e = same_says _ m n k l x y p q e
 same_row site s (create names) m n k l x y p q e = same_says _ m n k l x y p q e
-same_row site s (destroy_channel sid cid) m n k l x y p q e = same_says _ m n k l x y p q e
+same_row site s (destroy_channel sid cid) m n k l x y p q e = same_ends _ _ m n k l x y p q e
+same_row site s (subscribe req sub sid channel wanted count) m n k l x y p q e = same_subscribe site req sub channel wanted m n k l x y p q e
+same_row site s (steer req count started ask) m n k l x y p q e = same_says _ m n k l x y p q e
 same_row site s (begin kind req sub sid channel wanted) m n k l x y p q e = same_says _ m n k l x y p q e
 same_row site s (get kind req sub ask channel) m n k l x y p q e = same_get site kind req sub ask channel m n k l x y p q e
 same_row site s (put req sub ask channel mask value) m n k l x y p q e = same_put site req sub ask channel mask value m n k l x y p q e
-same_row site s (destroy_request req) m n k l x y p q e = same_says _ m n k l x y p q e
+same_row site s (destroy_request req) m n k l x y p q e = same_ends _ _ m n k l x y p q e
 
 pub same_answer : (site : SiteData) (s : State) (hearing : Hearing) (m n k l : List Mark) (x y : List Sent) → IsAnswer site s hearing m x → IsAnswer site s hearing n y → m ++ k ≡ n ++ l → Same m n k l x y
 same_answer site s (asks task types) m n k l x y p q e = same_row site (knowing s types) task m n k l x y p q e
-same_answer site s not_built m n k l x y p q e = absurd p
 same_answer site s (unreadable fault) m n k l x y p q e = absurd p
+same_answer site s over_range m n k l x y p q e = absurd p
 
-abbrev pub event_or : Event → List Event → Event
-event_or a [] = a
-event_or a (b ∷ bs) = b
+-- Pops.
 
-abbrev pub later_events : List Event → List Event
-later_events [] = []
-later_events (b ∷ bs) = bs
+abbrev slot_or : ℕ → Mark → ℕ
+slot_or d (Popped at slot update) = slot
+slot_or d mark = d
 
-no_events : {e : Event} {es : List Event} → [] ≡ e ∷ es → ⊥
-no_events is = cc
+abbrev update_in : Mark → Option Update
+update_in (Popped at slot update) = update
+update_in mark = None
 
--- steps of the same events and marks
-pub same_out : (site : SiteData) (s : State) (xs ys : List Step) → AreSteps site s xs → AreSteps site s ys → events_of xs ≡ events_of ys → marks_of xs ≡ marks_of ys → out_of site s xs ≡ out_of site s ys
-same_out site s [] [] a b events marks = refl
-same_out site s [] (y ∷ ys) a b events marks = absurd (no_events events)
-same_out site s (x ∷ xs) [] a b events marks = absurd (no_events (sym events))
-same_out site s (x ∷ xs) (y ∷ ys) a b events marks =
-    let first : x.event ≡ y.event = ap (event_or x.event) events in
-    let here = subst (λ (e : Event). IsAnswer site s (heard site s e) y.marks y.sent) (sym first) b.0 in
-    let same = same_answer site s (heard site s x.event) x.marks y.marks (marks_of xs) (marks_of ys) x.sent y.sent a.0 here marks in
-    let step : x ≡ y = λ i. record { event = first i; marks = same.marks i; sent = same.sent i } in
+same_some : {A : Type 0} {x y : A} → Some x ≡ Some y → x ≡ y
+same_some e = cc
+
+-- Where no two requests have one slot, the mark tells the request.
+same_pop : (site : SiteData) (s : State) (log : List Mark) (a b : ℕ) (m n k l : List Mark) (x y : List Sent) → Holds log s → PopRow site s a m x → PopRow site s b n y → m ++ k ≡ n ++ l
+    → (a ≡ b) × Same m n k l x y
+same_pop site s log a b m n k l x y holds p q e =
+    let u = p.is_pop in
+    let v = q.is_pop in
+    let one = one_mark (Popped u.place u.sub.slot p.update) (Popped v.place v.sub.slot q.update) m n k l u.marks_are v.marks_are e in
+    let slot : u.sub.slot ≡ v.sub.slot = ap (slot_or 0) one.0 in
+    let update : p.update ≡ q.update = ap update_in one.0 in
+    let req : a ≡ b = holds.apart a b u.ask v.ask u.sub v.sub u.is_due.here v.is_due.here u.is_due.subscribed v.is_due.subscribed slot in
+    let ask : u.ask ≡ v.ask = same_some (sym u.is_due.here ∙ ap (λ (r : ℕ). at s.requests r) req ∙ v.is_due.here) in
+    let channel : p.channel ≡ q.channel = same_some (sym u.is_due.open_ ∙ ap (λ (z : Asked). channel_at s.channels z.sid) ask ∙ v.is_due.open_) in
+    (req, record {
+      marks = one.1.0;
+      later = one.1.1;
+      sent = p.sent_is ∙ (λ i. update_sent site (req i) (channel i) (update i)) ∙ sym q.sent_is;
+    })
+
+abbrev pub turn_or : Event → List (Option Event) → Event
+turn_or a [] = a
+turn_or a (None ∷ turns) = a
+turn_or a (Some b ∷ turns) = b
+
+abbrev is_pop_first : List (Option Event) → Bool
+is_pop_first [] = false
+is_pop_first (None ∷ turns) = true
+is_pop_first (Some e ∷ turns) = false
+
+abbrev pub later_turns : List (Option Event) → List (Option Event)
+later_turns [] = []
+later_turns (t ∷ turns) = turns
+
+no_turns : {t : Option Event} {ts : List (Option Event)} → [] ≡ t ∷ ts → ⊥
+no_turns is = cc
+
+-- Steps about the same, in one order, with the same marks: no subscription begins where one lives.
+pub same_out : (site : SiteData) (s : State) (log : List Mark) (xs ys : List Step) → Holds log s → AllTrue IsFreeBegun log (marks_of xs) → AreSteps site s xs → AreSteps site s ys
+    → turns_of xs ≡ turns_of ys → marks_of xs ≡ marks_of ys → out_of site s xs ≡ out_of site s ys
+same_out site s log [] [] holds free a b turns marks = refl
+same_out site s log [] (hears e n y ∷ ys) holds free a b turns marks = absurd (no_turns turns)
+same_out site s log [] (pops r n y ∷ ys) holds free a b turns marks = absurd (no_turns turns)
+same_out site s log (hears e m x ∷ xs) [] holds free a b turns marks = absurd (no_turns (sym turns))
+same_out site s log (pops r m x ∷ xs) [] holds free a b turns marks = absurd (no_turns (sym turns))
+same_out site s log (hears e m x ∷ xs) (pops r n y ∷ ys) holds free a b turns marks = absurd (false≢true (ap is_pop_first turns))
+same_out site s log (pops r m x ∷ xs) (hears e n y ∷ ys) holds free a b turns marks = absurd (false≢true (sym (ap is_pop_first turns)))
+same_out site s log (hears d m x ∷ xs) (hears e n y ∷ ys) holds free a b turns marks =
+    let first : d ≡ e = ap (turn_or d) turns in
+    let here = subst (λ (z : Event). IsAnswer site s (heard site s z) n y) (sym first) b.0 in
+    let same = same_answer site s (heard site s d) m n (marks_of xs) (marks_of ys) x y a.0 here marks in
+    let step : hears d m x ≡ hears e n y = λ i. hears (first i) (same.marks i) (same.sent i) in
+    let next = holds_step site s log (hears d m x) holds a.0 (true_front IsFreeBegun log m (marks_of xs) free) in
     (λ i. bytes_of s (step i) ++ out_of site (after_step site s (step i)) xs)
-    ∙ ap (λ (z : List ℕ). bytes_of s y ++ z)
-    (same_out site (after_step site s y) xs ys (subst (λ (z : Step). AreSteps site (after_step site s z) xs) step a.1) b.1 (ap later_events events) same.later)
+    ∙ ap (λ (z : List ℕ). bytes_of s (hears e n y) ++ z)
+    (same_out site (after_step site s (hears e n y)) (log ++ m) xs ys (subst (λ (z : Step). Holds (log ++ m) (after_step site s z)) step next) (true_back IsFreeBegun log m (marks_of xs) free)
+    (subst (λ (z : Step). AreSteps site (after_step site s z) xs) step a.1) b.1 (ap later_turns turns) same.later)
+same_out site s log (pops q m x ∷ xs) (pops r n y ∷ ys) holds free a b turns marks =
+    let both = same_pop site s log q r m n (marks_of xs) (marks_of ys) x y holds a.0 b.0 marks in
+    let same = both.1 in
+    let step : pops q m x ≡ pops r n y = λ i. pops (both.0 i) (same.marks i) (same.sent i) in
+    let next = holds_step site s log (pops q m x) holds a.0 (true_front IsFreeBegun log m (marks_of xs) free) in
+    (λ i. bytes_of s (step i) ++ out_of site (after_step site s (step i)) xs)
+    ∙ ap (λ (z : List ℕ). bytes_of s (pops r n y) ++ z)
+    (same_out site (after_step site s (pops r n y)) (log ++ m) xs ys (subst (λ (z : Step). Holds (log ++ m) (after_step site s z)) step next) (true_back IsFreeBegun log m (marks_of xs) free)
+    (subst (λ (z : Step). AreSteps site (after_step site s z) xs) step a.1) b.1 (ap later_turns turns) same.later)

@@ -151,3 +151,42 @@ not_here s kind sid req text is = by_result (found_for s kind sid req) is
     by_result : (r : Result (Asked × Channel) (List ℕ)) → IsFound (Err text) r → r ≡ Err text.now
     by_result (Ok x) f = absurd f
     by_result (Err told) f = ap Err (sym f)
+
+-- What was found for a message of a kind is there, and of that kind.
+pub record IsFoundAt (s : State) (kind : AskKind) (sid req : ℕ) (found : Asked × Channel) : Type 0 where
+  pub here : at s.requests req ≡ Some found.0
+  pub open_ : channel_at s.channels sid ≡ Some found.1
+  pub kind_is : is_kind kind found.0.kind ≡ true
+
+abbrev done : Asked × Channel → Result (Asked × Channel) (List ℕ)
+done x = Ok x
+
+pub found_at : (s : State) (kind : AskKind) (sid req : ℕ) (found : Asked × Channel) → found_for s kind sid req ≡ Ok found → IsFoundAt s kind sid req found
+found_at s kind sid req found is = by_place (request_on s sid req) refl is
+  where
+    by_place : (o : Option (Asked × Channel)) → request_on s sid req ≡ o → in_phase kind o ≡ Ok found → IsFoundAt s kind sid req found
+    by_place None at_ e = absurd (err_ok e)
+      where
+        err_ok : {x : List ℕ} {y : Asked × Channel} → Err x ≡ Ok y → ⊥
+        err_ok e = cc
+    by_place (Some x) at_ e = by_kind (is_kind kind x.0.kind) refl e
+      where
+        by_kind : (b : Bool) → is_kind kind x.0.kind ≡ b → cond b (Ok x) (Err (codes "wrong phase")) ≡ Ok found → IsFoundAt s kind sid req found
+        by_kind true k e =
+            let on = is_on_it s sid req x.0 x.1 at_ in
+            subst (λ (y : Asked × Channel). IsFoundAt s kind sid req y) (same_ok e) (record { here = on.there; open_ = on.open_; kind_is = k })
+          where
+            same_ok : {x y : Asked × Channel} → done x ≡ done y → x ≡ y
+            same_ok e = cc
+        by_kind false k e = absurd (err_ok e)
+          where
+            err_ok : {x : List ℕ} {y : Asked × Channel} → Err x ≡ Ok y → ⊥
+            err_ok e = cc
+
+-- a request of that kind is a monitor
+pub monitor_kind : (k : AskKind) → is_kind kinds.Monitor k ≡ true → k ≡ kinds.Monitor
+monitor_kind kinds.Get is = absurd (false≢true is)
+monitor_kind kinds.Put is = absurd (false≢true is)
+monitor_kind kinds.PutGet is = absurd (false≢true is)
+monitor_kind kinds.Rpc is = absurd (false≢true is)
+monitor_kind kinds.Monitor is = refl

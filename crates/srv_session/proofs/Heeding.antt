@@ -24,14 +24,14 @@ use Rattle.desk_api.specs.declared.history.Base.{Base}
 use Rattle.desk_api.specs.declared.history.SiteData.{SiteData}
 use Rattle.desk_api.specs.declared.mark.Seat.{Seat}
 use Rattle.journal_core.specs.Moments.{Moment}
-use Rattle.srv_session.specs.State.{State}
-use Rattle.srv_session.specs.Tasks.{Task, pass_over, echo_control, echo, Hearing, asks, not_built, unreadable, heard, fault_in, heard_message, heard_read, heard_whole, is_heard}
-use Rattle.srv_session.specs.Steps.{knowing, IsAnswer, PartOf, after_hearing}
+use Rattle.srv_session.specs.State.{State, slots_of}
+use Rattle.srv_session.specs.Tasks.{Task, pass_over, echo_control, echo, Hearing, asks, unreadable, over_range, heard, fault_in, heard_message, heard_read, heard_whole, is_heard}
+use Rattle.srv_session.specs.Steps.{knowing, IsAnswer, PartOf, after_hearing, left_by_hearing}
 use Rattle.srv_session.specs.Calls.{IsOf, Shown, site_of, Takes, Responds, Heeds, Handles}
 use Rattle.srv_session.specs.Views.{stop_by, stopping}
 use Rattle.srv_session.specs.declared.stop.SessionStop.{SessionStop}
 use Rattle.srv_session.specs.declared.stop.SessionStop.TheVariants as stops
-use Rattle.srv_session.proofs.Rows.{no_part_of, shown}
+use Rattle.srv_session.proofs.Rows.{no_part_of, none_left_by, shown}
 use Rattle.srv_session.proofs.OnSite.{event_on_site}
 
 -- A task is answered, and so is what asks it.
@@ -46,7 +46,7 @@ heeds old new moment task (Ok u) t = record {
   state = t.state;
   output = t.output;
 }
-heeds old new moment task (Err e) t = record { marks = t.marks; part_is = t.part_is; adds = t.adds; moments = t.moments; output = t.output }
+heeds old new moment task (Err e) t = record { marks = t.marks; part_is = t.part_is; adds = t.adds; moments = t.moments; subscribed = t.subscribed; output = t.output }
 
 pub heeds_as : (old new : Shown) (moment : Moment) (task : Task) (answer : Result (Unit {0}) NoMemory) (result : Result (Unit {0}) SessionStop) → result ≡ stopping answer
     → Takes old new moment task answer → Heeds old new moment (asks task old.state.types) result
@@ -69,6 +69,7 @@ responds old new moment e task (Err x) is t = record {
   part_is = subst (λ (h : Hearing). PartOf (site_of old) old.state h t.marks) (sym is) t.part_is;
   adds = t.adds;
   moments = t.moments;
+  subscribed = t.subscribed ∙ ap (λ (h : Hearing). slots_of (left_by_hearing (site_of old) old.state h t.marks).requests) (sym is);
   output = t.output;
 }
 
@@ -98,24 +99,26 @@ handled_on_site old new moment e (Err x) t on_site = tt
 -- A message that isn't answered: it has no answer, or memory ran out for reading it.
 
 abbrev pub StopsAt : SessionStop → Hearing → Type 0
-StopsAt stops.NotBuilt h = h ≡ not_built
 StopsAt (stops.Message fault) h = h ≡ unreadable fault
+StopsAt (stops.Window fault) h = h ≡ over_range
 StopsAt stops.NoMemory h = Unit {0}
 
 pub not_heard : (seat : Seat) (s t : State) (out after : List ℕ) (moment : Moment) (h : Hearing) (stop : SessionStop) (result : Result (Unit {0}) SessionStop)
-    → IsErrAnd result (λ (x : SessionStop). x ≡ stop) → StopsAt stop h → IsLegal seat.seen → after ≡ out → Heeds (shown seat s out) (shown seat t after) moment h result
-not_heard seat s t out after moment h stop (Ok u) failed stopped legal same = absurd failed
-not_heard seat s t out after moment h stop (Err x) failed stopped legal same =
+    → IsErrAnd result (λ (x : SessionStop). x ≡ stop) → StopsAt stop h → IsLegal seat.seen → after ≡ out → slots_of t.requests ≡ slots_of s.requests
+    → Heeds (shown seat s out) (shown seat t after) moment h result
+not_heard seat s t out after moment h stop (Ok u) failed stopped legal same stay = absurd failed
+not_heard seat s t out after moment h stop (Err x) failed stopped legal same stay =
     subst (λ (z : SessionStop). Heeds (shown seat s out) (shown seat t after) moment h (Err z)) (sym failed) (by_stop stop stopped)
   where
     by_stop : (stop : SessionStop) → StopsAt stop h → Heeds (shown seat s out) (shown seat t after) moment h (Err stop)
-    by_stop stops.NotBuilt is = record { heard_is = is; seat = refl; output = same }
-    by_stop (stops.Message fault) is = record { heard_is = is; seat = refl; output = same }
+    by_stop (stops.Message fault) is = record { heard_is = is; seat = refl; subscribed = stay; output = same }
+    by_stop (stops.Window fault) is = record { heard_is = is; seat = refl; subscribed = stay; output = same }
     by_stop stops.NoMemory is = record {
       marks = [];
       part_is = no_part_of seat.seen.base.site s h;
       adds = adds_nothing seat legal;
       moments = tt;
+      subscribed = stay ∙ sym (none_left_by seat.seen.base.site s h);
       output = same;
     }
 
@@ -188,13 +191,13 @@ known_heeds seat s out new moment known (asks task types) (Ok u) t = record {
   state = t.state;
   output = t.output;
 }
-known_heeds seat s out new moment known not_built (Ok u) t = absurd t.answers
 known_heeds seat s out new moment known (unreadable fault) (Ok u) t = absurd t.answers
-known_heeds seat s out new moment known h (Err stops.NotBuilt) t = record { heard_is = t.heard_is; seat = t.seat; output = t.output }
-known_heeds seat s out new moment known h (Err (stops.Message fault)) t = record { heard_is = t.heard_is; seat = t.seat; output = t.output }
-known_heeds seat s out new moment known (asks task types) (Err stops.NoMemory) t = record { marks = t.marks; part_is = t.part_is; adds = t.adds; moments = t.moments; output = t.output }
-known_heeds seat s out new moment known not_built (Err stops.NoMemory) t = record { marks = t.marks; part_is = t.part_is; adds = t.adds; moments = t.moments; output = t.output }
-known_heeds seat s out new moment known (unreadable fault) (Err stops.NoMemory) t = record { marks = t.marks; part_is = t.part_is; adds = t.adds; moments = t.moments; output = t.output }
+known_heeds seat s out new moment known over_range (Ok u) t = absurd t.answers
+known_heeds seat s out new moment known h (Err (stops.Message fault)) t = record { heard_is = t.heard_is; seat = t.seat; subscribed = t.subscribed; output = t.output }
+known_heeds seat s out new moment known h (Err (stops.Window fault)) t = record { heard_is = t.heard_is; seat = t.seat; subscribed = t.subscribed; output = t.output }
+known_heeds seat s out new moment known (asks task types) (Err stops.NoMemory) t = record { marks = t.marks; part_is = t.part_is; adds = t.adds; moments = t.moments; subscribed = t.subscribed; output = t.output }
+known_heeds seat s out new moment known (unreadable fault) (Err stops.NoMemory) t = record { marks = t.marks; part_is = t.part_is; adds = t.adds; moments = t.moments; subscribed = t.subscribed; output = t.output }
+known_heeds seat s out new moment known over_range (Err stops.NoMemory) t = record { marks = t.marks; part_is = t.part_is; adds = t.adds; moments = t.moments; subscribed = t.subscribed; output = t.output }
 
 -- A message that is read.
 module _ (site : SiteData) (s : State) (whole : Whole) (is : is_heard s whole.command ≡ true) where

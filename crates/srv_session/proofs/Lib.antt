@@ -1,6 +1,8 @@
 pub mod Tables
+pub mod Owning
 pub mod Rows
 pub mod OnSite
+pub mod Kept
 pub mod Steps
 pub mod Determined
 pub mod Replying

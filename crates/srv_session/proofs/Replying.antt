@@ -28,12 +28,12 @@ use Rattle.desk_api.specs.declared.channel.Channel.{Channel}
 use Rattle.desk_api.specs.declared.mark.Seat.{Seat}
 use Rattle.desk_api.specs.declared.put.Done.{Done}
 use Rattle.desk_api.specs.declared.put.PutAnswer.{PutAnswer}
-use Rattle.srv_session.specs.State.{State, Asked}
-use Rattle.srv_session.specs.Replies.{said, control, methods, greetings, spelled, spelled_all, outcome, IsServed, is_call, answered, begun, got, called, command_of_kind}
+use Rattle.srv_session.specs.State.{State, Asked, slots_of}
+use Rattle.srv_session.specs.Replies.{said, control, methods, greetings, spelled, spelled_all, outcome, is_call, answered, begun, got, called, command_of_kind}
 use Rattle.srv_session.specs.Tasks.{get, put, put_get, snapshot}
 use Rattle.srv_session.specs.Rows.{asked, put_status, put_get_reply, rows_data, behind}
 use Rattle.srv_session.specs.Calls.{Takes}
-use Rattle.srv_session.specs.Views.{HasOneType}
+use Rattle.srv_session.specs.Views.{HasOneType, HasPart, IsOkAlone}
 use Rattle.srv_session.proofs.Rows.{shown, part_moments, whole_is_part, put_moments, put_get_moments, snapshot_moments, snapshot_is_part}
 
 -- The greeting was written.
@@ -84,46 +84,47 @@ both_types : (b : Bool) (t : Option Tree) → b ≡ true → reply.type_field b 
 both_types true t is = refl
 both_types false t is = absurd (false≢true is)
 
-pub answered_fields : (kind : AskKind) (req sub : ℕ) (problem : Option (List ℕ)) → IsServed kind → IfNone problem (begins sub ≡ is_call kind)
+pub answered_fields : (kind : AskKind) (req sub : ℕ) (problem : Option (List ℕ)) → IfNone problem (IsOkAlone kind sub)
     → reply_fields (answered kind req sub (outcome problem)) ≡ field.word req ∷ field.byte sub ∷ field.status (outcome problem) ∷ []
-answered_fields kinds.Get req sub None served none =
+answered_fields kinds.Get req sub None none =
     ap (λ (l : List Field). field.word req ∷ field.byte sub ∷ field.status good ∷ (l ++ [])) (bare (begins sub) None none)
-answered_fields kinds.Get req sub (Some text) served none = refl
-answered_fields kinds.Put req sub None served none =
+answered_fields kinds.Get req sub (Some text) none = refl
+answered_fields kinds.Put req sub None none =
     ap (λ (l : List Field). field.word req ∷ field.byte sub ∷ field.status good ∷ (l ++ [])) (bare (begins sub) None none)
-answered_fields kinds.Put req sub (Some text) served none = refl
-answered_fields kinds.PutGet req sub None served none =
+answered_fields kinds.Put req sub (Some text) none = refl
+answered_fields kinds.PutGet req sub None none =
     ap (λ (l : List Field). field.word req ∷ field.byte sub ∷ field.status good ∷ ((l ++ l) ++ [])) (bare (begins sub) None none)
-answered_fields kinds.PutGet req sub (Some text) served none = refl
-answered_fields kinds.Rpc req sub None served none =
+answered_fields kinds.PutGet req sub (Some text) none = refl
+answered_fields kinds.Rpc req sub None none =
     ap (λ (l : List Field). field.word req ∷ field.byte sub ∷ field.status good ∷ l) (bare_call (begins sub) None none)
-answered_fields kinds.Rpc req sub (Some text) served none = refl
-answered_fields kinds.Monitor req sub problem served none = absurd served
+answered_fields kinds.Rpc req sub (Some text) none = refl
+answered_fields kinds.Monitor req sub None none = absurd none
+answered_fields kinds.Monitor req sub (Some text) none = refl
 
-pub answered_command : (kind : AskKind) (req sub : ℕ) (status : Status) → IsServed kind → reply_command (answered kind req sub status) ≡ byte_of (command_of_kind kind)
-answered_command kinds.Get req sub status served = refl
-answered_command kinds.Put req sub status served = refl
-answered_command kinds.PutGet req sub status served = refl
-answered_command kinds.Rpc req sub status served = refl
-answered_command kinds.Monitor req sub status served = absurd served
+pub answered_command : (kind : AskKind) (req sub : ℕ) (status : Status) → reply_command (answered kind req sub status) ≡ byte_of (command_of_kind kind)
+answered_command kinds.Get req sub status = refl
+answered_command kinds.Put req sub status = refl
+answered_command kinds.PutGet req sub status = refl
+answered_command kinds.Rpc req sub status = refl
+answered_command kinds.Monitor req sub status = refl
 
-pub got_fields : (kind : AskKind) (req sub : ℕ) (ty : Tree) (mask : FinSet nat_cmp) (value : Data) → IsServed kind → is_call kind ≡ false → begins sub ≡ false
+pub got_fields : (kind : AskKind) (req sub : ℕ) (ty : Tree) (mask : FinSet nat_cmp) (value : Data) → HasPart kind → begins sub ≡ false
     → reply_fields (got kind req sub ty mask value) ≡ field.word req ∷ field.byte sub ∷ field.status good ∷ field.part (record { ty = ty; mask = mask; value = value }) ∷ []
-got_fields kinds.Get req sub ty mask value served call none =
+got_fields kinds.Get req sub ty mask value part none =
     ap (λ (l : List Field). field.word req ∷ field.byte sub ∷ field.status good ∷ (l ++ field.part (record { ty = ty; mask = mask; value = value }) ∷ [])) (bare (begins sub) None none)
-got_fields kinds.Put req sub ty mask value served call none =
+got_fields kinds.Put req sub ty mask value part none =
     ap (λ (l : List Field). field.word req ∷ field.byte sub ∷ field.status good ∷ (l ++ field.part (record { ty = ty; mask = mask; value = value }) ∷ [])) (bare (begins sub) None none)
-got_fields kinds.PutGet req sub ty mask value served call none =
+got_fields kinds.PutGet req sub ty mask value part none =
     ap (λ (l : List Field). field.word req ∷ field.byte sub ∷ field.status good ∷ ((l ++ l) ++ field.part (record { ty = ty; mask = mask; value = value }) ∷ [])) (bare (begins sub) None none)
-got_fields kinds.Rpc req sub ty mask value served call none = absurd (false≢true (sym call))
-got_fields kinds.Monitor req sub ty mask value served call none = absurd served
+got_fields kinds.Rpc req sub ty mask value part none = absurd part
+got_fields kinds.Monitor req sub ty mask value part none = absurd part
 
-pub got_command : (kind : AskKind) (req sub : ℕ) (ty : Tree) (mask : FinSet nat_cmp) (value : Data) → IsServed kind → reply_command (got kind req sub ty mask value) ≡ byte_of (command_of_kind kind)
-got_command kinds.Get req sub ty mask value served = refl
-got_command kinds.Put req sub ty mask value served = refl
-got_command kinds.PutGet req sub ty mask value served = refl
-got_command kinds.Rpc req sub ty mask value served = refl
-got_command kinds.Monitor req sub ty mask value served = absurd served
+pub got_command : (kind : AskKind) (req sub : ℕ) (ty : Tree) (mask : FinSet nat_cmp) (value : Data) → HasPart kind → reply_command (got kind req sub ty mask value) ≡ byte_of (command_of_kind kind)
+got_command kinds.Get req sub ty mask value part = refl
+got_command kinds.Put req sub ty mask value part = refl
+got_command kinds.PutGet req sub ty mask value part = refl
+got_command kinds.Rpc req sub ty mask value part = absurd part
+got_command kinds.Monitor req sub ty mask value part = absurd part
 
 -- the reply that begins a request
 pub begun_is : (kind : AskKind) (req sub : ℕ) (ty : Tree) → HasOneType kind → begun_reply (command_of_kind kind) req sub ty ≡ begun kind req sub ty
@@ -131,14 +132,14 @@ begun_is kinds.Get req sub ty served = refl
 begun_is kinds.Put req sub ty served = refl
 begun_is kinds.PutGet req sub ty served = absurd served
 begun_is kinds.Rpc req sub ty served = absurd served
-begun_is kinds.Monitor req sub ty served = absurd served
+begun_is kinds.Monitor req sub ty served = refl
 
 pub begun_command : (kind : AskKind) (req sub : ℕ) (ty : Tree) → HasOneType kind → reply_command (begun kind req sub ty) ≡ byte_of (command_of_kind kind)
 begun_command kinds.Get req sub ty served = refl
 begun_command kinds.Put req sub ty served = refl
 begun_command kinds.PutGet req sub ty served = absurd served
 begun_command kinds.Rpc req sub ty served = absurd served
-begun_command kinds.Monitor req sub ty served = absurd served
+begun_command kinds.Monitor req sub ty served = refl
 
 can_begin : (b back : Bool) (t : Tree) → b ≡ true → OnlyWhere b (Some t) × ExactlyWhere {A = PartData} (not b && back) None
 can_begin true back t is = ((λ e. absurd (false≢true (sym e))), refl)
@@ -153,7 +154,7 @@ may_begin kinds.Get req sub ty served is = can_begin_whole (begins sub) ty is
 may_begin kinds.Put req sub ty served is = can_begin (begins sub) (asks_back sub) ty is
 may_begin kinds.PutGet req sub ty served is = absurd served
 may_begin kinds.Rpc req sub ty served is = absurd served
-may_begin kinds.Monitor req sub ty served is = absurd served
+may_begin kinds.Monitor req sub ty served is = (is, λ e. absurd (false≢true (sym e)))
 
 -- the reply that begins a put-get
 pub both_fields : (req sub : ℕ) (ty : Tree) → begins sub ≡ true
@@ -169,23 +170,24 @@ called_fields req sub ty value is = ap (λ (l : List Field). field.word req ∷ 
 
 module _ (here there : Seat) (moment : Moment) (s t : State) (out after : List ℕ) (kind : AskKind) (req sub : ℕ) (ask : Asked) (channel : Channel) where
   -- memory ran out in it
-  pub not_got : (result : Result (Unit {0}) NoMemory) → Calls here there (IsPartOfGet here.seen.base.site channel ask.atomic) → IsErr result → after ≡ out
+  pub not_got : (result : Result (Unit {0}) NoMemory) → Calls here there (IsPartOfGet here.seen.base.site channel ask.atomic) → IsErr result → after ≡ out → slots_of t.requests ≡ slots_of s.requests
       → Takes (shown here s out) (shown there t after) moment (get kind req sub ask channel) result
-  not_got (Ok u) calls failed same = absurd (false≢true failed)
-  not_got (Err e) calls failed same = record {
+  not_got (Ok u) calls failed same stay = absurd (false≢true failed)
+  not_got (Err e) calls failed same stay = record {
     marks = calls.marks;
     part_is = calls.named;
     adds = calls.adds;
     moments = part_moments moment here.seen.base.site channel ask.atomic calls.marks calls.named;
+    subscribed = stay;
     output = same;
   }
 
   module _ (value : Data) (calls : Calls here there (IsGet here.seen.base.site channel ask.atomic value)) where
     -- it gave a value, and memory ran out for the reply
-    pub got_unsaid : (result : Result (Unit {0}) NoMemory) → IsErr result → after ≡ out
+    pub got_unsaid : (result : Result (Unit {0}) NoMemory) → IsErr result → after ≡ out → slots_of t.requests ≡ slots_of s.requests
         → Takes (shown here s out) (shown there t after) moment (get kind req sub ask channel) result
-    got_unsaid result failed same =
-        not_got result (record { marks = calls.marks; adds = calls.adds; named = whole_is_part here.seen.base.site channel ask.atomic value calls.marks calls.named }) failed same
+    got_unsaid result failed same stay =
+        not_got result (record { marks = calls.marks; adds = calls.adds; named = whole_is_part here.seen.base.site channel ask.atomic value calls.marks calls.named }) failed same stay
 
     -- it was written
     pub told : (ty : Tree) → ty ≡ type_of here.seen.base.site channel → t ≡ record s { requests = behind req sub s.requests }
@@ -207,14 +209,15 @@ module _ (here there : Seat) (moment : Moment) (s t : State) (out after : List �
 -- What became of a put is told, or memory ran out for that.
 module _ (here there : Seat) (moment : Moment) (s t : State) (out after : List ℕ) (req sub : ℕ) (ask : Asked) (channel : Channel) (mask : FinSet nat_cmp) (value : Data) (answer : Result Done PutAnswer)
     (calls : Calls here there (ArePut (asked here.seen.base.site ask channel mask value moment) answer)) where
-  pub put_unsaid : (result : Result (Unit {0}) NoMemory) → IsErr result → after ≡ out
+  pub put_unsaid : (result : Result (Unit {0}) NoMemory) → IsErr result → after ≡ out → slots_of t.requests ≡ slots_of s.requests
       → Takes (shown here s out) (shown there t after) moment (put req sub ask channel mask value) result
-  put_unsaid (Ok u) failed same = absurd (false≢true failed)
-  put_unsaid (Err x) failed same = record {
+  put_unsaid (Ok u) failed same stay = absurd (false≢true failed)
+  put_unsaid (Err x) failed same stay = record {
     marks = calls.marks;
     part_is = (moment, answer, calls.named);
     adds = calls.adds;
     moments = put_moments (asked here.seen.base.site ask channel mask value moment) answer calls.marks calls.named;
+    subscribed = stay;
     output = same;
   }
 
@@ -234,14 +237,15 @@ module _ (here there : Seat) (moment : Moment) (s t : State) (out after : List �
 -- The same of a put-get.
 module _ (here there : Seat) (moment : Moment) (s t : State) (out after : List ℕ) (req sub : ℕ) (ask : Asked) (channel : Channel) (mask : FinSet nat_cmp) (value : Data) (answer : Result (Done × PvValue) PutAnswer)
     (calls : Calls here there (ArePutGet (asked here.seen.base.site ask channel mask value moment) answer)) where
-  pub put_get_unsaid : (result : Result (Unit {0}) NoMemory) → IsErr result → after ≡ out
+  pub put_get_unsaid : (result : Result (Unit {0}) NoMemory) → IsErr result → after ≡ out → slots_of t.requests ≡ slots_of s.requests
       → Takes (shown here s out) (shown there t after) moment (put_get req sub ask channel mask value) result
-  put_get_unsaid (Ok u) failed same = absurd (false≢true failed)
-  put_get_unsaid (Err x) failed same = record {
+  put_get_unsaid (Ok u) failed same stay = absurd (false≢true failed)
+  put_get_unsaid (Err x) failed same stay = record {
     marks = calls.marks;
     part_is = (moment, answer, calls.named);
     adds = calls.adds;
     moments = put_get_moments (asked here.seen.base.site ask channel mask value moment) answer calls.marks calls.named;
+    subscribed = stay;
     output = same;
   }
 
@@ -260,22 +264,23 @@ module _ (here there : Seat) (moment : Moment) (s t : State) (out after : List �
 
 -- The same of a look at all records.
 module _ (here there : Seat) (moment : Moment) (s t : State) (out after : List ℕ) (req sub : ℕ) where
-  pub not_looked : (result : Result (Unit {0}) NoMemory) → Calls here there (IsPartOfSnapshot here.seen.base.site) → IsErr result → after ≡ out
+  pub not_looked : (result : Result (Unit {0}) NoMemory) → Calls here there (IsPartOfSnapshot here.seen.base.site) → IsErr result → after ≡ out → slots_of t.requests ≡ slots_of s.requests
       → Takes (shown here s out) (shown there t after) moment (snapshot req sub) result
-  not_looked (Ok u) calls failed same = absurd (false≢true failed)
-  not_looked (Err x) calls failed same = record {
+  not_looked (Ok u) calls failed same stay = absurd (false≢true failed)
+  not_looked (Err x) calls failed same stay = record {
     marks = calls.marks;
     part_is = calls.named;
     adds = calls.adds;
     moments = snapshot_moments moment here.seen.base.site calls.marks calls.named;
+    subscribed = stay;
     output = same;
   }
 
   module _ (rows : List RecRow) (calls : Calls here there (IsSnapshot here.seen.base.site rows)) where
-    pub look_unsaid : (result : Result (Unit {0}) NoMemory) → IsErr result → after ≡ out
+    pub look_unsaid : (result : Result (Unit {0}) NoMemory) → IsErr result → after ≡ out → slots_of t.requests ≡ slots_of s.requests
         → Takes (shown here s out) (shown there t after) moment (snapshot req sub) result
-    look_unsaid result failed same =
-        not_looked result (record { marks = calls.marks; adds = calls.adds; named = snapshot_is_part here.seen.base.site rows calls.marks calls.named }) failed same
+    look_unsaid result failed same stay =
+        not_looked result (record { marks = calls.marks; adds = calls.adds; named = snapshot_is_part here.seen.base.site rows calls.marks calls.named }) failed same stay
 
     pub look_said : t ≡ record s { requests = behind req sub s.requests }
         → after ≡ out ++ spelled s.order s.segment (said (called req sub snapshot_tree (rows_data rows)))

@@ -22,11 +22,12 @@ use Rattle.desk_api.specs.declared.mark.Seat.{Seat}
 use Rattle.desk_api.specs.declared.put.Done.{Done}
 use Rattle.desk_api.specs.declared.put.PutAnswer.{PutAnswer}
 use Rattle.desk_api.specs.declared.put.PutAnswer.TheVariants as answers
-use Rattle.srv_session.specs.State.{State}
-use Rattle.srv_session.specs.Tasks.{Task, pass_over, echo_control, refuse, tell, validate, echo, create, destroy_channel, begin, get, put, put_get, respond, snapshot, destroy_request, Hearing, asks, not_built, unreadable, heard}
+use Rattle.desk_api.specs.declared.sub.SubAnswer.TheVariants as sub_answers
+use Rattle.srv_session.specs.State.{State, slots_of}
+use Rattle.srv_session.specs.Tasks.{Task, pass_over, echo_control, refuse, tell, validate, echo, create, destroy_channel, begin, get, put, put_get, respond, snapshot, subscribe, steer, destroy_request, Hearing, asks, unreadable, over_range, heard}
 use Rattle.srv_session.specs.Replies.{Sent, spelled, spelled_all}
-use Rattle.srv_session.specs.Rows.{Says, Row, Part, after_task}
-use Rattle.srv_session.specs.Steps.{knowing, PartOf, NextPart}
+use Rattle.srv_session.specs.Rows.{Says, Row, Part, after_task, left_by}
+use Rattle.srv_session.specs.Steps.{knowing, PartOf, NextPart, left_by_hearing}
 use Rattle.srv_session.specs.Calls.{Shown, Answered, Takes}
 
 -- No mark is a part of every row.
@@ -47,7 +48,9 @@ no_part site s (put_get req sub ask channel mask value) =
 no_part site s (validate buffer registry user host) = refl
 no_part site s (echo payload) = refl
 no_part site s (create names) = refl
-no_part site s (destroy_channel sid cid) = refl
+no_part site s (destroy_channel sid cid) = tt
+no_part site s (subscribe req sub sid channel wanted count) = (Err sub_answers.NoMemory, refl)
+no_part site s (steer req count started ask) = refl
 no_part site s (begin kind req sub sid channel wanted) = refl
 no_part site s (get kind req sub ask channel) = record { looks = tt }
 no_part site s (put req sub ask channel mask value) =
@@ -56,12 +59,38 @@ no_part site s (destroy_request req) = refl
 
 pub no_part_of : (site : SiteData) (s : State) (hearing : Hearing) → PartOf site s hearing []
 no_part_of site s (asks task types) = no_part site (knowing s types) task
-no_part_of site s not_built = refl
 no_part_of site s (unreadable fault) = refl
+no_part_of site s over_range = refl
 
 pub no_next_part : (site : SiteData) (s : State) (events : List Event) → NextPart site s events []
-no_next_part site s [] = refl
-no_next_part site s (e ∷ more) = no_part_of site s (heard site s e)
+no_next_part site s [] = inl refl
+no_next_part site s (e ∷ more) = inl (no_part_of site s (heard site s e))
+
+-- where no mark was made the subscriptions are as before
+
+pub none_left : (site : SiteData) (s : State) (task : Task) → slots_of (left_by site s task []).requests ≡ slots_of s.requests
+none_left site s pass_over = refl
+none_left site s (echo_control number) = refl
+none_left site s (refuse r) = refl
+none_left site s (tell r) = refl
+none_left site s (validate buffer registry user host) = refl
+none_left site s (echo payload) = refl
+none_left site s (create names) = refl
+none_left site s (destroy_channel sid cid) = refl
+none_left site s (begin kind req sub sid channel wanted) = refl
+none_left site s (get kind req sub ask channel) = refl
+none_left site s (put req sub ask channel mask value) = refl
+none_left site s (put_get req sub ask channel mask value) = refl
+none_left site s (respond req sub r) = refl
+none_left site s (snapshot req sub) = refl
+none_left site s (subscribe req sub sid channel wanted count) = refl
+none_left site s (steer req count started ask) = refl
+none_left site s (destroy_request req) = refl
+
+pub none_left_by : (site : SiteData) (s : State) (hearing : Hearing) → slots_of (left_by_hearing site s hearing []).requests ≡ slots_of s.requests
+none_left_by site s (asks task types) = none_left site (knowing s types) task
+none_left_by site s (unreadable fault) = refl
+none_left_by site s over_range = refl
 
 -- The moments of entries: a get makes none, and those of a put have the moment that was asked for.
 
@@ -142,13 +171,15 @@ module _ (seat : Seat) (moment : Moment) (s t : State) (before after : List ℕ)
   -- these were sent
   pub said_all : (sent : List Sent) → Row seat.seen.base.site s task [] sent → OnOk result (t ≡ after_task seat.seen.base.site s task [])
       → OnOk result (after ≡ before ++ spelled_all s.order s.segment sent) → OnErr result (after ≡ before)
+      → OnErr result (slots_of t.requests ≡ slots_of s.requests)
       → Takes (shown seat s before) (shown seat t after) moment task result
-  said_all sent row state ok err = by_result result state ok err
+  said_all sent row state ok err stay = by_result result state ok err stay
     where
       by_result : (r : Result (Unit {0}) NoMemory) → OnOk r (t ≡ after_task seat.seen.base.site s task [])
           → OnOk r (after ≡ before ++ spelled_all s.order s.segment sent) → OnErr r (after ≡ before)
+          → OnErr r (slots_of t.requests ≡ slots_of s.requests)
           → Takes (shown seat s before) (shown seat t after) moment task r
-      by_result (Ok u) state ok err = record {
+      by_result (Ok u) state ok err stay = record {
         marks = [];
         sent = sent;
         row = row;
@@ -157,17 +188,18 @@ module _ (seat : Seat) (moment : Moment) (s t : State) (before after : List ℕ)
         state = state;
         output = ok;
       }
-      by_result (Err e) state ok err = record {
+      by_result (Err e) state ok err stay = record {
         marks = [];
         part_is = no_part seat.seen.base.site s task;
         adds = adds_nothing seat legal;
         moments = tt;
+        subscribed = stay ∙ sym (none_left seat.seen.base.site s task);
         output = err;
       }
 
   -- memory ran out before anything was asked of the desk, and nothing was written
-  pub gave_up : IsErr result → after ≡ before → Takes (shown seat s before) (shown seat t after) moment task result
-  gave_up is_err same = by_result result is_err
+  pub gave_up : IsErr result → after ≡ before → slots_of t.requests ≡ slots_of s.requests → Takes (shown seat s before) (shown seat t after) moment task result
+  gave_up is_err same stay = by_result result is_err
     where
       by_result : (r : Result (Unit {0}) NoMemory) → IsErr r → Takes (shown seat s before) (shown seat t after) moment task r
       by_result (Ok u) is = absurd (false≢true is)
@@ -176,6 +208,7 @@ module _ (seat : Seat) (moment : Moment) (s t : State) (before after : List ℕ)
         part_is = no_part seat.seen.base.site s task;
         adds = adds_nothing seat legal;
         moments = tt;
+        subscribed = stay ∙ sym (none_left seat.seen.base.site s task);
         output = same;
       }
 
@@ -189,15 +222,16 @@ one_sent s x before after (Err e) ok = tt
 pub said_one : (seat : Seat) (moment : Moment) (s t : State) (before after : List ℕ) (task : Task) (result : Result (Unit {0}) NoMemory) (x : Sent) → IsLegal seat.seen
     → Row seat.seen.base.site s task [] (x ∷ []) → OnOk result (t ≡ after_task seat.seen.base.site s task [])
     → OnOk result (after ≡ before ++ spelled s.order s.segment x) → OnErr result (after ≡ before)
+    → OnErr result (slots_of t.requests ≡ slots_of s.requests)
     → Takes (shown seat s before) (shown seat t after) moment task result
-said_one seat moment s t before after task result x legal row state ok err =
-    said_all seat moment s t before after task result legal (x ∷ []) row state (one_sent s x before after result ok) err
+said_one seat moment s t before after task result x legal row state ok err stay =
+    said_all seat moment s t before after task result legal (x ∷ []) row state (one_sent s x before after result ok) err stay
 
 -- nothing was sent
 pub nothing_said : (seat : Seat) (moment : Moment) (s t : State) (before after : List ℕ) (task : Task) → IsLegal seat.seen → Row seat.seen.base.site s task [] []
     → t ≡ after_task seat.seen.base.site s task [] → after ≡ before → Takes (shown seat s before) (shown seat t after) moment task (Ok tt)
 nothing_said seat moment s t before after task legal row state same =
-    said_all seat moment s t before after task (Ok tt) legal [] row state (same ∙ sym (append-nil before)) tt
+    said_all seat moment s t before after task (Ok tt) legal [] row state (same ∙ sym (append-nil before)) tt tt
 
 -- the task under another name
 pub as_task : (old new : Shown) (moment : Moment) (task other : Task) (result : Result (Unit {0}) NoMemory) → other ≡ task → Takes old new moment task result → Takes old new moment other result

@@ -53,12 +53,12 @@ module _ {V : Type 0} (m : FinMap nat_cmp V) where
       alike q (inl e) = ap (get (remove m k)) e ∙ got_removed k ∙ sym none ∙ ap (get m) (sym e)
       alike q (inr apart) = got_left k q apart
 
-both_parts : (a b : Bool) → T (a && b) → T a × T b
+pub both_parts : (a b : Bool) → T (a && b) → T a × T b
 both_parts true b h = (tt, h)
 both_parts false b h = absurd h
 
 -- all of these keys are at or above n
-abbrev AllFrom : {V : Type 0} → ℕ → List (ℕ × V) → Type 0
+abbrev pub AllFrom : {V : Type 0} → ℕ → List (ℕ × V) → Type 0
 AllFrom n [] = Unit {0}
 AllFrom n (e ∷ es) = (n ≤ e.0) × AllFrom n es
 
@@ -71,7 +71,7 @@ less x y h =
     ] refl h
 
 module _ {V : Type 0} where
-  above : (x : ℕ) (es : List (ℕ × V)) → T (below_all nat_cmp x es) → AllFrom (x + 1) es
+  pub above : (x : ℕ) (es : List (ℕ × V)) → T (below_all nat_cmp x es) → AllFrom (x + 1) es
   above x [] h = tt
   above x (e ∷ es) h =
       let parts = both_parts (is_lt (nat_cmp x e.0)) (below_all nat_cmp x es) h in

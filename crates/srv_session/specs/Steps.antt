@@ -1,14 +1,16 @@
 -- A session as a list of steps. What it reads, what its desk did and what it says are functions of that list.
-use Rattle.std.specs.Prelude.{◌≡◌, ◌==◌, ◌-◌, ◌⊎◌, ℕ, true, List, [], ◌∷◌, ◌++◌, Option, None, Some, option_map, ⊤, if◌then◌else◌}
+use Rattle.std.specs.Prelude.{◌≡◌, ◌==◌, ◌-◌, ◌⊎◌, ℕ, true, false, List, [], ◌∷◌, ◌++◌, Option, None, Some, option_map, ⊤, if◌then◌else◌}
 use Rattle.std.specs.FinMap.{get as at, insert}
 use Rattle.pva_frames.specs.declared.event.Event.{Event}
 use Rattle.pvd_desc.specs.Types.{Types}
 use Rattle.mon_queue.specs.declared.update.Update.{Update}
+use Rattle.histories.specs.History.{AllTrue}
+use Rattle.desk_api.specs.Living.{lives}
 use Rattle.desk_api.specs.Types.{type_of}
 use Rattle.desk_api.specs.declared.channel.Channel.{Channel}
 use Rattle.desk_api.specs.declared.history.SiteData.{SiteData}
 use Rattle.desk_api.specs.declared.mark.Mark.{Mark}
-use Rattle.desk_api.specs.declared.mark.Mark.TheVariants.{Popped}
+use Rattle.desk_api.specs.declared.mark.Mark.TheVariants.{Begun, Popped}
 use Rattle.desk_api.specs.declared.sub.Sub.{Sub}
 use Rattle.srv_session.specs.State.{State, Requests, Asked, channel_at, is_due, slots_of}
 use Rattle.srv_session.specs.Tasks.{Hearing, asks, unreadable, over_range, heard}
@@ -119,6 +121,15 @@ turns_of (pops req marks sent ∷ xs) = None ∷ turns_of xs
 abbrev pub marks_of : List Step → List Mark
 marks_of [] = []
 marks_of (x ∷ xs) = marks_in x ++ marks_of xs
+
+-- A subscription begins in a slot where none lives by the marks before.
+
+abbrev pub IsFreeBegun : Mark → List Mark → Type 0
+IsFreeBegun (Begun place index slot channel mask size) before = lives before slot ≡ false
+IsFreeBegun mark before = ⊤
+
+abbrev pub BeginFree : List Mark → Type 0
+BeginFree marks = AllTrue IsFreeBegun [] marks
 
 abbrev pub out_of : SiteData → State → List Step → List ℕ
 out_of site s [] = []

@@ -7,6 +7,7 @@ use denote.Ref.{Bor}
 use Rattle.pvd_codec.specs.declared.fault.ValueFault.{ValueFault}
 use Rattle.pvd_codec.specs.declared.fault.ValueFault.TheVariants as values
 use Rattle.pva_messages.specs.Requests as said
+use Rattle.pva_messages.specs.Subcommands.{begins}
 use Rattle.pva_messages.specs.Requests.{Request, part_place}
 use Rattle.pva_messages.specs.declared.fault.MessageFault.{MessageFault}
 use Rattle.pvd_type.specs.declared.memory.NoMemory.{NoMemory}
@@ -83,6 +84,18 @@ HasOneType kinds.Get = Unit {0}
 HasOneType kinds.Put = Unit {0}
 HasOneType kinds.Monitor = Unit {0}
 HasOneType kind = ⊥
+
+-- gets, puts and put-gets bring leaves of a value
+abbrev pub HasPart : AskKind → Type 0
+HasPart kinds.Get = Unit {0}
+HasPart kinds.Put = Unit {0}
+HasPart kinds.PutGet = Unit {0}
+HasPart kind = ⊥
+
+-- OK alone is said to the beginning of a call, and else to no beginning; to a monitor it never is
+abbrev pub IsOkAlone : AskKind → ℕ → Type 0
+IsOkAlone kinds.Monitor sub = ⊥
+IsOkAlone kind sub = begins sub ≡ is_call kind
 
 -- a request is there, which began on this channel, and is no call
 pub record IsThere (s : State) (sid req : ℕ) (found : Found) : Type 0 where
