@@ -1,7 +1,8 @@
 // One connection, from its greeting to its end.
 ghost use Rattle.std.specs.Prelude.{◌≡◌, ◌<◌, OnOk, length};
 ghost use Rattle.srv_stream.specs.Faults.{EndsAtFirstFault};
-ghost use Rattle.srv_session.specs.Calls.{Finished, Holds, IsOf};
+ghost use Rattle.srv_session.specs.Calls.{AreLiving, Finished, Holds, IsOf};
+ghost use Rattle.srv_session.specs.State.{slots_of};
 ghost use Rattle.srv_stream.specs.Served.{Served};
 ghost use Rattle.srv_stream.specs.Streams.{Feeds, moment_told, shown_in};
 ghost use Rattle.srv_stream.specs.Turning.{IsDue, WritesSome, ReadsSome, ended_inside, may_pump, over_by};
@@ -24,7 +25,8 @@ fn feed<D: Desk, C: Clock>(
 ) -> Result<(), Ended>
     requires site { IsOf (D.seat desk.old).seen.base.site (view_of serving.old).state }
     requires holds { Holds (D.seat desk.old).log (view_of serving.old).state }
-    ensures holds { Holds (D.seat desk.new).log (view_of serving.new).state }
+    ensures holds { OnOk result (Holds (D.seat desk.new).log (view_of serving.new).state) }
+    ensures living { AreLiving (D.seat desk.new).log (slots_of (view_of serving.new).state.requests) }
     ensures feeds { Feeds (D.seat desk.old) (D.seat desk.new) (moment_told (C.moment clock.now)) (view_of serving.old) (view_of serving.new) piece.now result }
 {
     let (seconds, nanoseconds) = clock.now();
@@ -122,7 +124,8 @@ fn read_some<D: Desk, L: Link, C: Clock>(
 ) -> Result<Option<Ended>, Ended>
     requires site { IsOf (D.seat desk.old).seen.base.site (view_of serving.old).state }
     requires holds { Holds (D.seat desk.old).log (view_of serving.old).state }
-    ensures holds { Holds (D.seat desk.new).log (view_of serving.new).state }
+    ensures holds { OnOk result (Holds (D.seat desk.new).log (view_of serving.new).state) }
+    ensures living { AreLiving (D.seat desk.new).log (slots_of (view_of serving.new).state.requests) }
     ensures reads { ReadsSome (D.seat desk.old) (D.seat desk.new) (L.wire link.old) (L.wire link.new) (moment_told (C.moment clock.now)) (view_of serving.old) (view_of serving.new) result }
 {
     let mut buffer = [0u8; 4096];
@@ -137,7 +140,7 @@ fn read_some<D: Desk, L: Link, C: Clock>(
 
 /// Ends the subscriptions, and the connection so.
 fn end<D: Desk>(serving: Serving, desk: &mut D, ended: Ended) -> Ended
-    requires { Holds (D.seat desk.old).log (view_of serving).state }
+    requires { AreLiving (D.seat desk.old).log (slots_of (view_of serving).state.requests) }
     ensures finished { Finished (shown_in (D.seat desk.old) (view_of serving)) (D.seat desk.new) }
     ensures ended { result ≡ ended }
 {

@@ -37,7 +37,8 @@ pub struct Serving {
 }
 
 impl Serving {
-    ghost use Rattle.srv_session.specs.Calls.{Finished, Holds, IsOf, Pumps};
+    ghost use Rattle.srv_session.specs.Calls.{AreLiving, Finished, Holds, IsOf, Pumps};
+    ghost use Rattle.srv_session.specs.State.{slots_of};
     ghost use Rattle.srv_stream.specs.Streams.{Feeds, TakesSome, AnswersEvent, SameStream, shown_in};
     ghost use Rattle.srv_stream.specs.Views.{view_of, first_view};
 
@@ -86,7 +87,8 @@ impl Serving {
         requires holds { Holds (D.seat desk.old).log (view_of self.old).state }
         ensures answers { AnswersEvent (D.seat desk.old) (D.seat desk.new) moment (view_of self.old) (view_of self.new) event.now result }
         ensures site { OnOk result (IsOf (D.seat desk.new).seen.base.site (view_of self.new).state) }
-        ensures holds { Holds (D.seat desk.new).log (view_of self.new).state }
+        ensures holds { OnOk result (Holds (D.seat desk.new).log (view_of self.new).state) }
+        ensures living { AreLiving (D.seat desk.new).log (slots_of (view_of self.new).state.requests) }
     {
         desk.has_legal_history();
         match event {
@@ -120,7 +122,8 @@ impl Serving {
         requires holds { Holds (D.seat desk.old).log (view_of self.old).state }
         ensures answers { AnswersEvent (D.seat desk.old) (D.seat desk.new) moment (view_of self.old) (view_of self.new) (Message (whole_of message.now)) result }
         ensures site { OnOk result (IsOf (D.seat desk.new).seen.base.site (view_of self.new).state) }
-        ensures holds { Holds (D.seat desk.new).log (view_of self.new).state }
+        ensures holds { OnOk result (Holds (D.seat desk.new).log (view_of self.new).state) }
+        ensures living { AreLiving (D.seat desk.new).log (slots_of (view_of self.new).state.requests) }
     {
         match self.session.handle_message(alloc, message, desk, moment) {
             Ok(()) => Ok(()),
@@ -139,7 +142,8 @@ impl Serving {
         requires holds { Holds (D.seat desk.old).log (view_of self.old).state }
         ensures feeds { Feeds (D.seat desk.old) (D.seat desk.new) (Some moment) (view_of self.old) (view_of self.new) [] result }
         ensures site { OnOk result (IsOf (D.seat desk.new).seen.base.site (view_of self.new).state) }
-        ensures holds { Holds (D.seat desk.new).log (view_of self.new).state }
+        ensures holds { OnOk result (Holds (D.seat desk.new).log (view_of self.new).state) }
+        ensures living { AreLiving (D.seat desk.new).log (slots_of (view_of self.new).state.requests) }
     {
         desk.has_legal_history();
         'events: loop {
@@ -172,7 +176,8 @@ impl Serving {
         requires holds { Holds (D.seat desk.old).log (view_of self.old).state }
         ensures takes { TakesSome (D.seat desk.old) (D.seat desk.new) (Some moment) (view_of self.old) (view_of self.new) piece.now result }
         ensures site { OnOk result (IsOf (D.seat desk.new).seen.base.site (view_of self.new).state) }
-        ensures holds { Holds (D.seat desk.new).log (view_of self.new).state }
+        ensures holds { OnOk result (Holds (D.seat desk.new).log (view_of self.new).state) }
+        ensures living { AreLiving (D.seat desk.new).log (slots_of (view_of self.new).state.requests) }
     {
         desk.has_legal_history();
         if let Some(message) = self.stream.lend(piece) {
@@ -203,7 +208,8 @@ impl Serving {
         requires holds { Holds (D.seat desk.old).log (view_of self.old).state }
         ensures feeds { Feeds (D.seat desk.old) (D.seat desk.new) (Some moment) (view_of self.old) (view_of self.new) piece.now result }
         ensures site { OnOk result (IsOf (D.seat desk.new).seen.base.site (view_of self.new).state) }
-        ensures holds { Holds (D.seat desk.new).log (view_of self.new).state }
+        ensures holds { OnOk result (Holds (D.seat desk.new).log (view_of self.new).state) }
+        ensures living { AreLiving (D.seat desk.new).log (slots_of (view_of self.new).state.requests) }
     {
         desk.has_legal_history();
         let mut at = 0;
@@ -227,7 +233,8 @@ impl Serving {
         ensures pumps { Pumps (shown_in (D.seat desk.old) (view_of self.old)) (shown_in (D.seat desk.new) (view_of self.new)) result }
         ensures stream { SameStream (view_of self.old) (view_of self.new) }
         ensures site { OnOk result (IsOf (D.seat desk.new).seen.base.site (view_of self.new).state) }
-        ensures holds { Holds (D.seat desk.new).log (view_of self.new).state }
+        ensures holds { OnOk result (Holds (D.seat desk.new).log (view_of self.new).state) }
+        ensures living { AreLiving (D.seat desk.new).log (slots_of (view_of self.new).state.requests) }
     {
         desk.has_legal_history();
         self.session.pump(desk)
@@ -235,7 +242,7 @@ impl Serving {
 
     /// Ends the session and its subscriptions. What is still to be written goes with it. It takes no memory.
     pub fn finish<D: Desk>(self, desk: &mut D)
-        requires { Holds (D.seat desk.old).log (view_of self).state }
+        requires { AreLiving (D.seat desk.old).log (slots_of (view_of self).state.requests) }
         ensures { Finished (shown_in (D.seat desk.old) (view_of self)) (D.seat desk.new) }
     {
         self.session.finish(desk);
