@@ -55,10 +55,20 @@ pub record WroteNothing (start end : Wire) (v w : View) : Type 0 where
   pub idled : Idled start end
   pub view : w ≡ v
 
+-- it failed, or memory ran out, and nothing was taken
+
+pub record WriteFailed (start end : Wire) (v w : View) : Type 0 where
+  pub failed : Failed start end
+  pub view : w ≡ v
+
+pub record WriteWithout (start end : Wire) (v w : View) : Type 0 where
+  pub unchanged : Unchanged start end
+  pub view : w ≡ v
+
 abbrev pub WritesSome : Wire → Wire → View → View → Result (Unit {0}) Ended → Type 0
 WritesSome start end v w (Ok u) = Wrote start end v w ⊎ WroteNothing start end v w
-WritesSome start end v w (Err ends.WriteFault) = Failed start end
-WritesSome start end v w (Err ends.NoMemory) = Unchanged start end
+WritesSome start end v w (Err ends.WriteFault) = WriteFailed start end v w
+WritesSome start end v w (Err ends.NoMemory) = WriteWithout start end v w
 WritesSome start end v w (Err other) = ⊥
 
 -- A read.

@@ -1,5 +1,5 @@
 // One connection, from its greeting to its end.
-ghost use Rattle.std.specs.Prelude.{◌≡◌, ◌<◌, OnOk, length};
+ghost use Rattle.std.specs.Prelude.{◌≡◌, ◌<◌, length};
 ghost use Rattle.srv_stream.specs.Faults.{EndsAtFirstFault};
 ghost use Rattle.srv_session.specs.Calls.{AreLiving, Finished, Holds, IsOf};
 ghost use Rattle.srv_session.specs.State.{slots_of};
@@ -25,7 +25,6 @@ fn feed<D: Desk, C: Clock>(
 ) -> Result<(), Ended>
     requires site { IsOf (D.seat desk.old).seen.base.site (view_of serving.old).state }
     requires holds { Holds (D.seat desk.old).log (view_of serving.old).state }
-    ensures holds { OnOk result (Holds (D.seat desk.new).log (view_of serving.new).state) }
     ensures living { AreLiving (D.seat desk.new).log (slots_of (view_of serving.new).state.requests) }
     ensures feeds { Feeds (D.seat desk.old) (D.seat desk.new) (moment_told (C.moment clock.now)) (view_of serving.old) (view_of serving.new) piece.now result }
 {
@@ -124,7 +123,6 @@ fn read_some<D: Desk, L: Link, C: Clock>(
 ) -> Result<Option<Ended>, Ended>
     requires site { IsOf (D.seat desk.old).seen.base.site (view_of serving.old).state }
     requires holds { Holds (D.seat desk.old).log (view_of serving.old).state }
-    ensures holds { OnOk result (Holds (D.seat desk.new).log (view_of serving.new).state) }
     ensures living { AreLiving (D.seat desk.new).log (slots_of (view_of serving.new).state.requests) }
     ensures reads { ReadsSome (D.seat desk.old) (D.seat desk.new) (L.wire link.old) (L.wire link.new) (moment_told (C.moment clock.now)) (view_of serving.old) (view_of serving.new) result }
 {
