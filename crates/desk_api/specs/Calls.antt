@@ -1,5 +1,5 @@
 -- What the calls of a desk add, and what they answer.
-use Rattle.std.specs.Prelude.{◌≡◌, ◌⊎◌, ℕ, Bool, true, false, List, [], ◌∷◌, ◌++◌, length, map, take, Option, None}
+use Rattle.std.specs.Prelude.{◌≡◌, ◌+◌, ◌⊎◌, ℕ, Bool, true, false, List, [], ◌∷◌, ◌++◌, length, map, take, Option, None}
 use Rattle.std.specs.Prelude.{Some, Result, Ok, Err, slice_get, ⊤}
 use Rattle.std.specs.FinSet.{FinSet}
 use Rattle.std.specs.Ordering.{nat_cmp}
@@ -315,17 +315,19 @@ AreSubscribe channel mask size (Ok sub) marks = HasBegun channel mask size sub.s
 AreSubscribe channel mask size (Err (sub_answers.TooManyMonitors count)) marks = IsCrowded count marks
 AreSubscribe channel mask size (Err sub_answers.NoMemory) marks = marks ≡ []
 
--- The seat's last mark is that so many live, and the roll that it has then seen has just the items that leave them.
-pub record EndsCrowded (s : Seat) (count : ℕ) : Type 0 where
-  pub before : List Mark
-  pub at : ℕ
-  pub index : ℕ
-  pub log_is : s.log ≡ before ++ Crowded at index count ∷ []
-  pub roll_is : index ≡ length (roll s.seen)
+-- How long the roll is right behind a mark that tells it: with the item that it added, or with just the items that it speaks of.
+abbrev pub roll_behind : Mark → Option ℕ
+roll_behind (Begun at index slot channel mask size) = Some (index + 1)
+roll_behind (Dropped at index slot) = Some (index + 1)
+roll_behind (Crowded at index count) = Some index
+roll_behind mark = None
 
-abbrev pub TellsCrowd : Seat → SubAnswer → Type 0
-TellsCrowd s (sub_answers.TooManyMonitors count) = EndsCrowded s count
-TellsCrowd s sub_answers.NoMemory = ⊤
+-- The roll that the seat has seen ends where the seat's last mark left it.
+pub record EndsAtLastRoll (s : Seat) : Type 0 where
+  pub before : List Mark
+  pub mark : Mark
+  pub log_is : s.log ≡ before ++ mark ∷ []
+  pub roll_is : roll_behind mark ≡ Some (length (roll s.seen))
 
 -- the subscription in this slot was popped, and this was taken
 pub record IsPop (slot : ℕ) (update : Option Update) (marks : List Mark) : Type 0 where

@@ -1,10 +1,10 @@
 // What a session asks of its desk.
-ghost use Rattle.std.specs.Prelude.{◌≡◌, true, IfErr, IfOk, IfSome, IsTrue, OnOk, option_map, ◌≤◌, length};
+ghost use Rattle.std.specs.Prelude.{◌≡◌, true, IfOk, IfSome, IsTrue, OnOk, option_map, ◌≤◌, length};
 ghost use Rattle.desk_api.specs.declared.mark.Seat.{Seat};
 ghost use Rattle.desk_api.specs.Sites as sites;
 ghost use Rattle.desk_api.specs.Types as types;
 ghost use Rattle.desk_api.specs.History.{IsLegal};
-ghost use Rattle.desk_api.specs.Calls.{Calls, AreGet, ArePut, ArePutGet, AreSnapshot, AreSubscribe, TellsCrowd, IsPop, IsEnding, FitsSubscribed, OnTold, OnSubscribed, EndsAtItsMarks};
+ghost use Rattle.desk_api.specs.Calls.{Calls, AreGet, ArePut, ArePutGet, AreSnapshot, AreSubscribe, EndsAtLastRoll, IsPop, IsEnding, FitsSubscribed, OnTold, OnSubscribed, EndsAtItsMarks};
 ghost use Rattle.desk_api.specs.Living.{lives};
 ghost use Rattle.desk_api.specs.Triggers.{may_be_watched};
 ghost use Rattle.pvd_value.specs.Fits.{fits_of};
@@ -135,7 +135,7 @@ pub trait Desk {
         requires leaves { types.HoldsLeaves (types.type_of (seat self.old).seen.base.site channel) mask.now }
         requires size { (1 ≤ size) × (size ≤ 64) }
         ensures calls { Calls (seat self.old) (seat self.new) (AreSubscribe channel mask.now size result) }
-        ensures crowded { IfErr result (TellsCrowd (seat self.new)) }
+        ensures rolled { OnSubscribed result (EndsAtLastRoll (seat self.new)) }
         ensures ends { OnSubscribed result (EndsAtItsMarks (seat self.old) (seat self.new)) }
         ensures base { (seat self.new).seen.base ≡ (seat self.old).seen.base };
 
@@ -151,6 +151,7 @@ pub trait Desk {
     fn unsubscribe(&mut self, sub: Sub)
         requires { lives (seat self.old).log sub.slot ≡ true }
         ensures calls { Calls (seat self.old) (seat self.new) (IsEnding sub.slot) }
+        ensures rolled { EndsAtLastRoll (seat self.new) }
         ensures ends { EndsAtItsMarks (seat self.old) (seat self.new) }
         ensures base { (seat self.new).seen.base ≡ (seat self.old).seen.base };
 }

@@ -6,3 +6,5 @@ pub mod Soloing
 pub mod Beginning
 pub mod Reading
 pub mod Combining
+pub mod Keeping
+pub mod Lived

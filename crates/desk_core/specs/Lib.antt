@@ -4,4 +4,5 @@ pub mod Ports
 pub mod Effects
 pub mod Begun
 pub mod PutGets
+pub mod Subscribing
 pub mod Desks

@@ -10,12 +10,16 @@ mod group_tests;
 mod log;
 mod looks;
 #[cfg(test)]
+mod monitor_tests;
+#[cfg(test)]
 mod put_get_tests;
 mod solo;
 #[cfg(test)]
 mod tests;
 
-pub use desk_api::{Channel, Desk, Done, Moment, NoMemory, PutAnswer, PvType, PvValue, Site};
+pub use desk_api::{
+    Channel, Desk, Done, Moment, NoMemory, PutAnswer, PvType, PvValue, Site, Sub, SubAnswer, Update,
+};
 pub use driving::drive;
 pub use pva_outside::Port;
 pub use solo::SoloDesk;

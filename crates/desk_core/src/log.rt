@@ -5,10 +5,13 @@ ghost use Rattle.desk_api.specs.Views.{found_in};
 ghost use Rattle.desk_api.specs.declared.mark.Mark.TheVariants as marks;
 ghost use Rattle.desk_core.specs.Looking.{look_of, looked};
 ghost use Rattle.desk_core.specs.Standing.{base_of};
+ghost use Rattle.desk_core.specs.Subscribing.{begun_in, crowded, dropped, popped};
 
 use atomic_table::{Play, Table, TableRule};
 use desk_api::{Channel, NoMemory, RecState, Seat, Site};
 use journal_core::Entry;
+use mon_queue::Update;
+use pvd_type::BitSet;
 use std::alloc::Global;
 use std::marker::{Brand, Model, PhantomData};
 
@@ -70,9 +73,14 @@ pub struct Log {
 
 impl Model for Log {
     ghost use Rattle.std.specs.Prelude.{◌≡◌};
+    ghost use Rattle.std.specs.Coded.{codes};
+    ghost use Rattle.pvd_type.specs.contracts.set.BitSet as bits;
+    ghost use Rattle.pvd_value.specs.contracts.value.PvValue as values;
     ghost use Rattle.desk_api.specs.declared.mark.Seat.{Seat};
 
     ghost Value = { Seat };
+
+    ghost coded = { Prim.hlevel (codes, bits.the_row.coded, values.the_row.coded) };
 
     ghost view = { λ log. log.seat.me.0 };
 
@@ -137,6 +145,44 @@ pub(crate) fn note_overweight<B: Picks>(
 )
     requires { B.mark ≡ (λ at. marks.Overweight at _entry.now.footprint _entry.now.actions _kept _weight _limit) }
     ensures { log.new ≡ with_mark log.old (λ at. marks.Overweight at _entry.now.footprint _entry.now.actions _kept _weight _limit) }
+{
+    log.add::<B>();
+}
+
+/// Notes that a subscription to these leaves of a channel began in this slot.
+pub(crate) fn note_begun<B: Picks>(
+    log: &mut Log,
+    _slot: u32,
+    _channel: Channel,
+    _mask: &BitSet,
+    _size: u32,
+)
+    requires { B.mark ≡ begun_in log.old _slot _channel _mask.now _size }
+    ensures { log.new ≡ with_mark log.old (begun_in log.old _slot _channel _mask.now _size) }
+{
+    log.add::<B>();
+}
+
+/// Notes that no subscription began, since so many live.
+pub(crate) fn note_crowded<B: Picks>(log: &mut Log, _count: u32)
+    requires { B.mark ≡ crowded log.old _count }
+    ensures { log.new ≡ with_mark log.old (crowded log.old _count) }
+{
+    log.add::<B>();
+}
+
+/// Notes that a pop of this slot took this update, or found none.
+pub(crate) fn note_popped<B: Picks>(log: &mut Log, _slot: u32, _update: &Option<Update>)
+    requires { B.mark ≡ popped _slot _update.now }
+    ensures { log.new ≡ with_mark log.old (popped _slot _update.now) }
+{
+    log.add::<B>();
+}
+
+/// Notes that the subscription of this slot ended.
+pub(crate) fn note_dropped<B: Picks>(log: &mut Log, _slot: u32)
+    requires { B.mark ≡ dropped log.old _slot }
+    ensures { log.new ≡ with_mark log.old (dropped log.old _slot) }
 {
     log.add::<B>();
 }

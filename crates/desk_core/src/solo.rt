@@ -1,46 +1,59 @@
 // A desk that nobody shares.
-ghost use Rattle.std.specs.Prelude.{◌≡◌, ◌<◌, ◌≤◌, [], ◌∷◌, false, length, map, option_map, slice_get, Some, true, IfOk, IsTrue, OnOk};
+ghost use Rattle.std.proofs.Props.{props};
+ghost use Rattle.std.specs.Prelude.{◌≡◌, ◌<◌, ◌≤◌, [], ◌∷◌, false, length, map, option_map, slice_get, Some, true, IfOk, IfSome, IsTrue, OnOk};
 ghost use Rattle.std.specs.List.{AllByRecursion};
 ghost use Rattle.desk_api.specs.History.{IsLegal, commits};
 ghost use Rattle.desk_api.specs.Calls.{first_seat, Calls, OnTold, EndsAtItsMarks};
 ghost use Rattle.desk_core.specs.Ports.{ports_there, ports_wanted};
 ghost use Rattle.desk_core.specs.Standing.{Stands, answer_of, base_of};
+ghost use Rattle.desk_core.specs.Subscribing.{IsNotBegunNow};
+ghost use Rattle.desk_hub.proofs.Props.{seat_prop};
+ghost use Rattle.desk_hub.specs.Seats.{KeepsSeat};
 ghost use Rattle.group_view.specs.Puts.{MayBeDoneBy};
 ghost use Rattle.journal_core.proofs.Facts.{are_legal_prop, are_valid_prop};
 ghost use Rattle.journal_core.specs.Legality.{AreValid};
+ghost use Rattle.pvd_type.specs.contracts.set.BitSet as bits;
 ghost use Rattle.pvd_value.specs.Fits.{fits_of};
 ghost use Rattle.pvd_value.specs.View.{view};
 
 use crate::cells::{Cells, groups_over_records, names_and_configs, opening_of};
 use crate::driving::discard;
 use crate::entering::enter;
-use crate::log::{Log, Terms};
+use crate::log::{Log, Terms, note_begun, note_crowded, note_dropped, note_popped};
 use crate::looks::note_looks;
 use desk_api::{
     Action, Channel, ChannelKind, Desk, Done, FieldAnswer, Moment, NoMemory, PutAnswer, PvType,
-    PvValue, RecRow, Site, entries_write_inside, looks_show_states,
+    PvValue, RecRow, Site, Sub, SubAnswer, Update, entries_write_inside, looks_show_states,
+};
+use desk_hub::{
+    NotBegun, Subscriptions, a_new_desk_keeps, begin, end, logs_tell_slots, marks_keep, pop,
 };
 use journal_core::History;
 use pva_outside::Port;
 use pvd_type::{BitSet, Name};
 use std::alloc::Global;
+use std::marker::Brand;
 
-/// The desk of a site that nobody else reads or writes, with the ports of its records. No call of it waits.
+/// The desk of a site that nobody else reads or writes, with the ports of its records and its subscriptions. No call of it waits.
 #[derive(Drop)]
 pub struct SoloDesk<P> {
     terms: Terms,
     history: History,
     cells: Cells<P>,
+    /// The living subscriptions.
+    subs: Subscriptions<Channel>,
     /// Its seat, which takes no bytes: the history and the marks of its calls.
     pub log: Log,
     /// The history is the one that the desk keeps, the cells are its last states, and every entry is the desk's own.
-    pub ghost stands: { Stands (base_of terms) cells.states.items history log },
+    pub ghost stands: { Stands (base_of terms) cells.states.items history log } by { Prim.hlevel (props, bits.the_row.coded) },
     /// The history is legal.
     ghost legal: { IsLegal log.seen } by { are_legal_prop log.seen.base.site.configs log.seen.base.site.opening (commits log.seen) },
     /// Each record is in a state that is valid for it.
     ghost valid: { AreValid terms.site.configs cells.states.items } by { are_valid_prop terms.site.configs cells.states.items },
     /// A record has a port exactly where its configuration says so.
     ghost ported: { ports_there cells.ports.items ≡ ports_wanted terms.site.configs },
+    /// The subscriptions are those that the log tells, each with what it is shown and what it has unread.
+    ghost keeps: { KeepsSeat log.seen subs log.number log.log } by { seat_prop log.seen subs log.number log.log },
 }
 
 /// Why a put isn't done that gives no action.
@@ -58,7 +71,7 @@ impl<P: Port + Drop> SoloDesk<P> {
 
     /// A desk of this site, with a port for each record whose configuration says that it has one, each at its record's place
     /// (EPICS record reference, "DTYP", "OUT"). The entries may weigh no more than the limit together. The history is the
-    /// site's opening states with no entry, and the log is empty. No port is driven.
+    /// site's opening states with no entry, no subscription lives, and the log is empty. No port is driven.
     pub fn new(
         alloc: Global,
         site: Site,
@@ -72,6 +85,8 @@ impl<P: Port + Drop> SoloDesk<P> {
         let states = opening_of(alloc, &site)?;
         let history = History::new(alloc, opening_of(alloc, &site)?);
         let terms = Terms { site, limit };
+        let subs = Subscriptions::new(alloc);
+        a_new_desk_keeps();
         match Log::new(alloc, &terms) {
             Ok(log) => Ok(SoloDesk {
                 terms,
@@ -81,6 +96,7 @@ impl<P: Port + Drop> SoloDesk<P> {
                     ports,
                     before: Vec::new(alloc),
                 },
+                subs,
                 log,
             }),
             Err(no_memory) => Err(no_memory),
@@ -113,7 +129,8 @@ impl<P: Port> SoloDesk<P> {
     ghost use Rattle.desk_core.specs.Desks.{ports_of};
     ghost use Rattle.desk_api.specs.Puts.{entries_by};
 
-    /// Adds the entry of these actions behind so many others of its put, and tells its place. All of its memory is taken before.
+    /// Adds the entry of these actions behind so many others of its put, and tells its place. All of its memory, and that of what it
+    /// posts, is taken before.
     fn put_entry(
         &mut self,
         alloc: Global,
@@ -128,20 +145,23 @@ impl<P: Port> SoloDesk<P> {
         ensures terms { self.new.terms ≡ self.old.terms }
     {
         entries_write_inside();
+        marks_keep();
         let Ok(entry) = self
             .cells
             .draft(alloc, &self.terms.site, actions, &[], moment)
         else {
             return Err(PutAnswer::NoMemory { done });
         };
-        let limit = self.terms.limit;
+        let cells = self.cells.states.as_slice();
         match enter(
+            alloc,
+            &self.terms,
             &mut self.history,
             &mut self.log,
-            limit,
+            &mut self.subs,
             entry,
             &[],
-            &[],
+            cells,
             done,
         ) {
             Ok(place) => Ok(place),
@@ -203,6 +223,22 @@ impl<P: Port> SoloDesk<P> {
     }
 }
 
+/// How many subscriptions may live at a time.
+const MOST: u32 = 1024;
+
+/// What is answered where no subscription begins. It is noted where too many live.
+fn not_begun(log: &mut Log, cause: NotBegun) -> SubAnswer
+    ensures { IsNotBegunNow log.old log.new cause result }
+{
+    match cause {
+        NotBegun::TooMany => {
+            note_crowded::<Brand>(log, MOST);
+            SubAnswer::TooManyMonitors(MOST)
+        }
+        NotBegun::NoMemory => SubAnswer::NoMemory,
+    }
+}
+
 /// The service of the server.
 const SERVICE: Channel = Channel {
     kind: ChannelKind::Service,
@@ -235,7 +271,9 @@ impl<P: Port> SoloDesk<P> {
     {
         entries_write_inside();
         looks_show_states();
-        let site = &self.terms.site;
+        marks_keep();
+        let terms = &self.terms;
+        let site = &terms.site;
         names_and_configs(site);
         groups_over_records(site);
         let Ok(drafted) = self
@@ -244,14 +282,15 @@ impl<P: Port> SoloDesk<P> {
         else {
             return Err(PutAnswer::NoMemory { done: 0 });
         };
-        let limit = self.terms.limit;
         let looked = site.footprint_of(channel);
         let cells = self.cells.states.as_slice();
         let (entry, value) = drafted;
         match enter(
+            alloc,
+            terms,
             &mut self.history,
             &mut self.log,
-            limit,
+            &mut self.subs,
             entry,
             looked,
             cells,
@@ -298,8 +337,10 @@ impl<P: Port> SoloDesk<P> {
 }
 
 impl<P: Port> Desk for SoloDesk<P> {
-    ghost use Rattle.desk_api.specs.Calls.{AreGet, ArePut, ArePutGet, AreSnapshot, now};
+    ghost use Rattle.desk_api.specs.Calls.{AreGet, ArePut, ArePutGet, AreSnapshot, AreSubscribe, FitsSubscribed, IsEnding, IsPop, OnSubscribed, EndsAtLastRoll, now};
+    ghost use Rattle.desk_api.specs.Living.{lives};
     ghost use Rattle.desk_api.specs.Sites as sites;
+    ghost use Rattle.desk_api.specs.Triggers.{may_be_watched};
     ghost use Rattle.desk_api.specs.Types as types;
     ghost use Rattle.desk_core.specs.Desks.{ports_of};
     ghost use Rattle.desk_core.specs.Ports.{DrivesPorts};
@@ -357,6 +398,7 @@ impl<P: Port> Desk for SoloDesk<P> {
         names_and_configs(site);
         groups_over_records(site);
         looks_show_states();
+        marks_keep();
         note_looks(&mut self.log, site, channel, atomic, cells);
         Ok(value)
     }
@@ -389,6 +431,7 @@ impl<P: Port> Desk for SoloDesk<P> {
         let whole = self.terms.site.is_atomic(channel, atomic);
         self.put_entries(alloc, whole, actions, moment)
     }
+
     /// Puts the marked leaves and gets the channel, as every desk does it. The ports are driven as by the put alone.
     fn put_get(
         &mut self,
@@ -431,7 +474,78 @@ impl<P: Port> Desk for SoloDesk<P> {
         let Ok(rows) = site.rows(alloc, cells) else {
             return Err(NoMemory);
         };
+        marks_keep();
         note_looks(&mut self.log, site, SERVICE, None, cells);
         Ok(rows)
+    }
+
+    /// Begins a subscription, as every desk does it. It drives no port.
+    fn subscribe(
+        &mut self,
+        alloc: Global,
+        channel: Channel,
+        mask: &BitSet,
+        size: u32,
+    ) -> Result<Sub, SubAnswer>
+        requires channel { may_be_watched self.old.log.seen.base.site channel ≡ true }
+        requires leaves { types.HoldsLeaves (types.type_of self.old.log.seen.base.site channel) mask.now }
+        requires size { (1 ≤ size) × (size ≤ 64) }
+        ensures calls { Calls self.old.log self.new.log (AreSubscribe channel mask.now size result) }
+        ensures rolled { OnSubscribed result (EndsAtLastRoll self.new.log) }
+        ensures ends { OnSubscribed result (EndsAtItsMarks self.old.log self.new.log) }
+        ensures base { self.new.log.seen.base ≡ self.old.log.seen.base }
+        ensures ports { ports_of P.port self.new ≡ ports_of P.port self.old }
+    {
+        let Ok(requested) = mask.clone_in(alloc) else {
+            return Err(SubAnswer::NoMemory);
+        };
+        marks_keep();
+        let cells = self.cells.states.as_slice();
+        match begin(
+            alloc,
+            &self.terms.site,
+            &mut self.subs,
+            channel,
+            requested,
+            cells,
+            size,
+        ) {
+            Ok(slot) => {
+                note_begun::<Brand>(&mut self.log, slot, channel, mask, size);
+                Ok(Sub { slot })
+            }
+            Err(cause) => Err(not_begun(&mut self.log, cause)),
+        }
+    }
+
+    /// The oldest unread update, as every desk gives it. It drives no port, and nothing is added to the history.
+    fn pop(&mut self, sub: &Sub) -> Option<Update>
+        requires { lives self.old.log.log sub.now.slot ≡ true }
+        ensures calls { Calls self.old.log self.new.log (IsPop sub.now.slot result) }
+        ensures ends { EndsAtItsMarks self.old.log self.new.log }
+        ensures fits { IfSome result (FitsSubscribed self.old.log sub.now.slot) }
+        ensures base { self.new.log.seen.base ≡ self.old.log.seen.base }
+        ensures seen { self.new.log.seen ≡ self.old.log.seen }
+        ensures ports { ports_of P.port self.new ≡ ports_of P.port self.old }
+    {
+        logs_tell_slots();
+        let slot = sub.slot;
+        let update = pop(&mut self.subs, slot);
+        note_popped::<Brand>(&mut self.log, slot, &update);
+        update
+    }
+
+    /// Ends a subscription, as every desk does it. It drives no port.
+    fn unsubscribe(&mut self, sub: Sub)
+        requires { lives self.old.log.log sub.slot ≡ true }
+        ensures calls { Calls self.old.log self.new.log (IsEnding sub.slot) }
+        ensures rolled { EndsAtLastRoll self.new.log }
+        ensures ends { EndsAtItsMarks self.old.log self.new.log }
+        ensures base { self.new.log.seen.base ≡ self.old.log.seen.base }
+        ensures ports { ports_of P.port self.new ≡ ports_of P.port self.old }
+    {
+        let slot = sub.slot;
+        end(&self.terms.site, &mut self.subs, slot);
+        note_dropped::<Brand>(&mut self.log, slot);
     }
 }

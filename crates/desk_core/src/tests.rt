@@ -64,7 +64,7 @@ pub(crate) fn desk_of(
 }
 
 /// Those of these numbers that are leaves of the type.
-fn leaves_of(alloc: Global, ty: &PvType, numbers: &[u16]) -> Result<BitSet, NoMemory>
+pub(crate) fn leaves_of(alloc: Global, ty: &PvType, numbers: &[u16]) -> Result<BitSet, NoMemory>
     ensures { IfOk result (HoldsLeaves ty.now) }
 {
     let mut mask = BitSet::new(alloc);
@@ -200,7 +200,7 @@ pub(crate) fn driven(desk: &SoloDesk<MemoryPort>, name: &str, text: &str) -> Opt
 }
 
 /// A record's structure with this number.
-fn value_with(alloc: Global, number: i32) -> Result<PvValue, NoMemory> {
+pub(crate) fn value_with(alloc: Global, number: i32) -> Result<PvValue, NoMemory> {
     let (config, state) = longout(alloc, number)?;
     let value = view(alloc, &config, &state);
     discard(config);
@@ -257,16 +257,16 @@ pub(crate) const fn full(
     }))
 }
 
-/// The desk of a record without a port, which is 42, and whose history has room for one put.
-fn plain_desk(alloc: Global) -> Result<SoloDesk<MemoryPort>, NoMemory> {
+/// The desk of a record without a port, which is 42.
+pub(crate) fn plain_desk(alloc: Global, limit: u64) -> Result<SoloDesk<MemoryPort>, NoMemory> {
     let site = Site::single(alloc, "X", 42)?;
     let ports = vec![in alloc; None]?;
-    SoloDesk::new(alloc, site, ports, 200)
+    SoloDesk::new(alloc, site, ports, limit)
 }
 
-/// What the record opens with, and what three puts to it come to.
+/// What the record opens with, and what three puts to it come to where the history has room for one.
 fn plain_puts(alloc: Global) -> Result<(Option<Row>, [Told; 3]), NoMemory> {
-    let mut desk = plain_desk(alloc)?;
+    let mut desk = plain_desk(alloc, 200)?;
     desk.has_legal_history();
     let opening = shown(alloc, &mut desk, "");
     let refused = told(alloc, &mut desk, 6, SEVERITY, "");

@@ -134,6 +134,10 @@ pub put_get_fits : (sid req sub : ℕ) (v : Option (Tree × PvValue)) (part : pu
     → IfSome v (λ r. fits_of 16 (view r.1) r.0 ≡ true)
 put_get_fits sid req sub v part f is = front_fits (begins sub) v _ is f.1.1.1
 
+pub monitor_fits : (sid req sub : ℕ) (v : Option (Tree × PvValue)) (count : Option ℕ) → CanEach FitsField (request_fields (said.monitor sid req sub (valued_view v) count)) → begins sub ≡ true
+    → IfSome v (λ r. fits_of 16 (view r.1) r.0 ≡ true)
+monitor_fits sid req sub v count f is = front_fits (begins sub) v _ is f.1.1.1
+
 pub call_fits : (sid req sub : ℕ) (v : Option (Tree × PvValue)) → CanEach FitsField (request_fields (said.rpc sid req sub (valued_view v))) → IfSome v (λ r. fits_of 16 (view r.1) r.0 ≡ true)
 call_fits sid req sub None f = tt
 call_fits sid req sub (Some r) f = f.1.1.1.0

@@ -5,10 +5,12 @@ use Rattle.std.specs.FinSet.{FinSet}
 use Rattle.std.specs.Ordering.{nat_cmp}
 use Rattle.std.proofs.lemmas.Bool.{false≢true}
 use Rattle.std.proofs.lemmas.Bool.Decides.{nat_tests}
+use Rattle.std.proofs.lemmas.List.{append-nil}
 use Rattle.std.proofs.lemmas.Option.{none-some}
 use Rattle.pva_wire.specs.declared.status.Status.{Status}
 use Rattle.pva_wire.specs.declared.status.StatusKind.TheVariants.{Good, Error}
 use Rattle.pva_wire.specs.Status.{good}
+use Rattle.pva_wire.specs.declared.order.Order.{Order}
 use Rattle.pvd_value.specs.Data.{Data}
 use Rattle.journal_core.specs.Moments.{Moment}
 use Rattle.pva_frames.specs.declared.event.Event.{Event}
@@ -44,16 +46,16 @@ use Rattle.desk_api.specs.declared.mark.Mark.TheVariants.{Read, Entered, Overwei
 use Rattle.desk_api.specs.declared.put.Done.{Done}
 use Rattle.desk_api.specs.declared.put.PutAnswer.{PutAnswer}
 use Rattle.desk_api.specs.declared.put.PutAnswer.TheVariants as answers
-use Rattle.srv_session.specs.State.{State, Asked, channel_at}
+use Rattle.srv_session.specs.State.{State, Asked, channel_at, opening}
 use Rattle.srv_session.specs.Tasks.{Task, pass_over, echo_control, refuse, tell, validate, echo, create, destroy_channel, begin, get, put, put_get, respond, snapshot, subscribe, steer, destroy_request, Hearing, asks, unreadable, over_range, heard}
 use Rattle.pva_messages.specs.Replies.{Reply}
 use Rattle.rpc_services.specs.Answers.{snapshot_tree}
 use Rattle.srv_session.specs.Replies as replies
 use Rattle.srv_session.specs.Replies.{Sent, said, error, begun, got, answered, called}
-use Rattle.srv_session.specs.Rows.{Says, GetRow, asked, refusal_text, put_status, PutRow, put_get_reply, PutGetRow, rows_data, SnapshotRow, AreEndingsOf, EndsThese, subscribed_reply, SubscribeRow, Row}
-use Rattle.srv_session.specs.Steps.{Step, hears, pops, knowing, IsAnswer, PopRow, IsFreeBegun, update_sent, bytes_of, after_step, AreSteps, turns_of, marks_of, out_of}
+use Rattle.srv_session.specs.Rows.{begins_alone, Says, GetRow, asked, refusal_text, put_status, PutRow, put_get_reply, PutGetRow, rows_data, SnapshotRow, AreEndingsOf, EndsThese, subscribed_reply, SubscribeRow, Row}
+use Rattle.srv_session.specs.Steps.{Step, hears, pops, knowing, IsAnswer, PopRow, IsFreeBegun, BeginFree, update_sent, after_step, AreSteps, turns_of, marks_of, out_of}
 use Rattle.srv_session.specs.Calls.{Holds}
-use Rattle.srv_session.proofs.Kept.{holds_step}
+use Rattle.srv_session.proofs.Kept.{holds_step, opening_holds}
 
 -- two ways to split a list of marks, and what was sent by the first parts
 pub record Same (m n k l : List Mark) (x y : List Sent) : Type 0 where
@@ -389,7 +391,7 @@ same_ends slots these m n k l x y p q e =
 
 -- what is said of a subscription's mark
 subscribed_by : SiteData → ℕ → ℕ → Channel → Mark → Reply
-subscribed_by site req sub channel (Begun at index slot c mask size) = begun kinds.Monitor req sub (type_of site channel)
+subscribed_by site req sub channel (Begun at index slot c mask size) = begun kinds.Monitor req begins_alone (type_of site channel)
 subscribed_by site req sub channel mark = replies.refused kinds.Monitor req sub (codes "too many monitors")
 
 record ToldBy (site : SiteData) (req sub : ℕ) (channel : Channel) (marks : List Mark) (told : Reply) : Type 0 where
@@ -463,12 +465,14 @@ same_pop site s log a b m n k l x y holds p q e =
     let update : p.update ≡ q.update = ap update_in one.0 in
     let req : a ≡ b = holds.apart a b u.ask v.ask u.sub v.sub u.is_due.here v.is_due.here u.is_due.subscribed v.is_due.subscribed slot in
     let ask : u.ask ≡ v.ask = same_some (sym u.is_due.here ∙ ap (λ (r : ℕ). at s.requests r) req ∙ v.is_due.here) in
-    let channel : p.channel ≡ q.channel = same_some (sym u.is_due.open_ ∙ ap (λ (z : Asked). channel_at s.channels z.sid) ask ∙ v.is_due.open_) in
-    (req, record {
-      marks = one.1.0;
-      later = one.1.1;
-      sent = p.sent_is ∙ (λ i. update_sent site (req i) (channel i) (update i)) ∙ sym q.sent_is;
-    })
+    let channel : p.channel ≡ q.channel = same_some (sym u.is_due.open_ ∙ ap (λ (z : Asked). channel_at s.channels z.sid) ask ∙ v.is_due.open_) in (
+      req,
+      record {
+        marks = one.1.0;
+        later = one.1.1;
+        sent = p.sent_is ∙ (λ i. update_sent site (req i) (channel i) (update i)) ∙ sym q.sent_is;
+      },
+    )
 
 abbrev pub turn_or : Event → List (Option Event) → Event
 turn_or a [] = a
@@ -487,32 +491,56 @@ later_turns (t ∷ turns) = turns
 no_turns : {t : Option Event} {ts : List (Option Event)} → [] ≡ t ∷ ts → ⊥
 no_turns is = cc
 
--- Steps about the same, in one order, with the same marks: no subscription begins where one lives.
-pub same_out : (site : SiteData) (s : State) (log : List Mark) (xs ys : List Step) → Holds log s → AllTrue IsFreeBegun log (marks_of xs) → AreSteps site s xs → AreSteps site s ys
-    → turns_of xs ≡ turns_of ys → marks_of xs ≡ marks_of ys → out_of site s xs ≡ out_of site s ys
-same_out site s log [] [] holds free a b turns marks = refl
-same_out site s log [] (hears e n y ∷ ys) holds free a b turns marks = absurd (no_turns turns)
-same_out site s log [] (pops r n y ∷ ys) holds free a b turns marks = absurd (no_turns turns)
-same_out site s log (hears e m x ∷ xs) [] holds free a b turns marks = absurd (no_turns (sym turns))
-same_out site s log (pops r m x ∷ xs) [] holds free a b turns marks = absurd (no_turns (sym turns))
-same_out site s log (hears e m x ∷ xs) (pops r n y ∷ ys) holds free a b turns marks = absurd (false≢true (ap is_pop_first turns))
-same_out site s log (pops r m x ∷ xs) (hears e n y ∷ ys) holds free a b turns marks = absurd (false≢true (sym (ap is_pop_first turns)))
-same_out site s log (hears d m x ∷ xs) (hears e n y ∷ ys) holds free a b turns marks =
+-- Steps go on from others: they begin with them, and then are about these turns, with the first of these marks.
+pub record GoesOn (xs ys : List Step) (more : List (Option Event)) (k l : List Mark) : Type 0 where
+  pub rest : List Step
+  pub whole : ys ≡ xs ++ rest
+  pub turns : turns_of rest ≡ more
+  pub marks : k ≡ marks_of rest ++ l
+
+-- Steps that are about the same, and then more, in one order, with the same marks, and then others, go on from them, where no subscription begins in a slot in which one lives.
+pub goes_on : (site : SiteData) (s : State) (log : List Mark) (xs ys : List Step) (more : List (Option Event)) (k l : List Mark) → Holds log s → AllTrue IsFreeBegun log (marks_of xs)
+    → AreSteps site s xs → AreSteps site s ys → turns_of xs ++ more ≡ turns_of ys → marks_of xs ++ k ≡ marks_of ys ++ l → GoesOn xs ys more k l
+goes_on site s log [] ys more k l holds free a b turns marks = record { rest = ys; whole = refl; turns = sym turns; marks = marks }
+goes_on site s log (hears e m x ∷ xs) [] more k l holds free a b turns marks = absurd (no_turns (sym turns))
+goes_on site s log (pops r m x ∷ xs) [] more k l holds free a b turns marks = absurd (no_turns (sym turns))
+goes_on site s log (hears e m x ∷ xs) (pops r n y ∷ ys) more k l holds free a b turns marks = absurd (false≢true (ap is_pop_first turns))
+goes_on site s log (pops r m x ∷ xs) (hears e n y ∷ ys) more k l holds free a b turns marks = absurd (false≢true (sym (ap is_pop_first turns)))
+goes_on site s log (hears d m x ∷ xs) (hears e n y ∷ ys) more k l holds free a b turns marks =
     let first : d ≡ e = ap (turn_or d) turns in
     let here = subst (λ (z : Event). IsAnswer site s (heard site s z) n y) (sym first) b.0 in
-    let same = same_answer site s (heard site s d) m n (marks_of xs) (marks_of ys) x y a.0 here marks in
+    let joined = sym (append_assoc m (marks_of xs) k) ∙ marks ∙ append_assoc n (marks_of ys) l in
+    let same = same_answer site s (heard site s d) m n (marks_of xs ++ k) (marks_of ys ++ l) x y a.0 here joined in
     let step : hears d m x ≡ hears e n y = λ i. hears (first i) (same.marks i) (same.sent i) in
     let next = holds_step site s log (hears d m x) holds a.0 (true_front IsFreeBegun log m (marks_of xs) free) in
-    (λ i. bytes_of s (step i) ++ out_of site (after_step site s (step i)) xs)
-    ∙ ap (λ (z : List ℕ). bytes_of s (hears e n y) ++ z)
-    (same_out site (after_step site s (hears e n y)) (log ++ m) xs ys (subst (λ (z : Step). Holds (log ++ m) (after_step site s z)) step next) (true_back IsFreeBegun log m (marks_of xs) free)
-    (subst (λ (z : Step). AreSteps site (after_step site s z) xs) step a.1) b.1 (ap later_turns turns) same.later)
-same_out site s log (pops q m x ∷ xs) (pops r n y ∷ ys) holds free a b turns marks =
-    let both = same_pop site s log q r m n (marks_of xs) (marks_of ys) x y holds a.0 b.0 marks in
+    let rest =
+    goes_on site (after_step site s (hears e n y)) (log ++ m) xs ys more k l (subst (λ (z : Step). Holds (log ++ m) (after_step site s z)) step next) (true_back IsFreeBegun log m (marks_of xs) free)
+    (subst (λ (z : Step). AreSteps site (after_step site s z) xs) step a.1) b.1 (ap later_turns turns) same.later in
+    let back = sym step in record { rest = rest.rest; whole = λ i. back i ∷ rest.whole i; turns = rest.turns; marks = rest.marks }
+goes_on site s log (pops q m x ∷ xs) (pops r n y ∷ ys) more k l holds free a b turns marks =
+    let joined = sym (append_assoc m (marks_of xs) k) ∙ marks ∙ append_assoc n (marks_of ys) l in
+    let both = same_pop site s log q r m n (marks_of xs ++ k) (marks_of ys ++ l) x y holds a.0 b.0 joined in
     let same = both.1 in
     let step : pops q m x ≡ pops r n y = λ i. pops (both.0 i) (same.marks i) (same.sent i) in
     let next = holds_step site s log (pops q m x) holds a.0 (true_front IsFreeBegun log m (marks_of xs) free) in
-    (λ i. bytes_of s (step i) ++ out_of site (after_step site s (step i)) xs)
-    ∙ ap (λ (z : List ℕ). bytes_of s (pops r n y) ++ z)
-    (same_out site (after_step site s (pops r n y)) (log ++ m) xs ys (subst (λ (z : Step). Holds (log ++ m) (after_step site s z)) step next) (true_back IsFreeBegun log m (marks_of xs) free)
-    (subst (λ (z : Step). AreSteps site (after_step site s z) xs) step a.1) b.1 (ap later_turns turns) same.later)
+    let rest =
+    goes_on site (after_step site s (pops r n y)) (log ++ m) xs ys more k l (subst (λ (z : Step). Holds (log ++ m) (after_step site s z)) step next) (true_back IsFreeBegun log m (marks_of xs) free)
+    (subst (λ (z : Step). AreSteps site (after_step site s z) xs) step a.1) b.1 (ap later_turns turns) same.later in
+    let back = sym step in record { rest = rest.rest; whole = λ i. back i ∷ rest.whole i; turns = rest.turns; marks = rest.marks }
+
+no_steps : (xs : List Step) → turns_of xs ≡ [] → xs ≡ []
+no_steps [] is = refl
+no_steps (hears e m x ∷ xs) is = absurd (no_turns (sym is))
+no_steps (pops r m x ∷ xs) is = absurd (no_turns (sym is))
+
+-- steps about the same, in one order, with the same marks and then others, are the same
+pub same_steps : (site : SiteData) (order : Order) (xs ys : List Step) (k l : List Mark) → AreSteps site (opening order) xs → AreSteps site (opening order) ys → BeginFree (marks_of xs)
+    → turns_of xs ≡ turns_of ys → marks_of xs ++ k ≡ marks_of ys ++ l → xs ≡ ys
+same_steps site order xs ys k l a b free turns marks =
+    let g = goes_on site (opening order) [] xs ys [] k l (opening_holds [] order) free a b (append-nil (turns_of xs) ∙ turns) marks in
+    sym (append-nil xs) ∙ ap (λ (z : List Step). xs ++ z) (sym (no_steps g.rest g.turns)) ∙ sym g.whole
+
+-- and so is what they say
+pub same_out : (site : SiteData) (order : Order) (xs ys : List Step) (k l : List Mark) → AreSteps site (opening order) xs → AreSteps site (opening order) ys → BeginFree (marks_of xs)
+    → turns_of xs ≡ turns_of ys → marks_of xs ++ k ≡ marks_of ys ++ l → out_of site (opening order) xs ≡ out_of site (opening order) ys
+same_out site order xs ys k l a b free turns marks = ap (out_of site (opening order)) (same_steps site order xs ys k l a b free turns marks)

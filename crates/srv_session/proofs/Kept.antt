@@ -1,5 +1,5 @@
 -- A session keeps its subscriptions.
-use Rattle.std.proofs.Common.{◌≡◌, ◌≢◌, ◌==◌, ℕ, Bool, true, false, not, ◌||◌, cond, List, [], ◌∷◌, ◌++◌, Option, None, Some, Result, Ok, Err, refl, sym, ◌∙◌, ap, subst, arith, append_assoc, inl, inr}
+use Rattle.std.proofs.Common.{◌≡◌, ◌≢◌, ◌==◌, ℕ, Bool, true, false, ◌||◌, cond, List, [], ◌∷◌, ◌++◌, Option, None, Some, Result, Ok, Err, refl, sym, ◌∙◌, ap, subst, arith, append_assoc, inl, inr}
 use Rattle.std.specs.Prelude.{◌⊎◌, is_some, option_map, OnOk}
 use Rattle.std.specs.FinMap.{get as at, insert, remove, keys, get-empty, get-retain_keys, nat_cmp-IsAntisymmetric}
 use Rattle.std.specs.FinSet.{FinSet}
@@ -12,36 +12,28 @@ use Rattle.std.proofs.lemmas.Option.{none-some}
 use Rattle.pva_wire.specs.declared.order.Order.{Order}
 use Rattle.pva_messages.specs.Subcommands.{ends}
 use Rattle.pvd_desc.specs.Types.{Types}
-use Rattle.pvd_value.specs.Data.{Data}
-use Rattle.pvd_value.specs.declared.value.PvValue.{PvValue}
 use Rattle.pvd_request.specs.declared.request.Request.{Request as Wanted}
-use Rattle.rec_kinds.specs.declared.datum.Action.{Action}
 use Rattle.mon_queue.specs.declared.update.Update.{Update}
 use Rattle.histories.specs.History.{AllTrue}
 use Rattle.histories.proofs.Judged.{true_weaken, true_front, true_back}
-use Rattle.chan_table.specs.declared.ask.AskKind.{AskKind}
-use Rattle.chan_table.specs.declared.ask.AskKind.TheVariants as kinds
+use Rattle.desk_api.proofs.Staying.{gets_leave, puts_leave, put_gets_leave, snapshots_leave}
 use Rattle.desk_api.specs.Calls as calls
-use Rattle.desk_api.specs.Calls.{AreLooks, AreAdded, IsGet, IsPartOfGet, ArePut, ArePutGetBy, AreSubscribe, IsEnding, looks_of}
+use Rattle.desk_api.specs.Calls.{IsPartOfGet, IsPartOfSnapshot, AreSubscribe, IsEnding}
 use Rattle.desk_api.specs.History.{History}
-use Rattle.desk_api.specs.Living.{Living, living, lives, living_with, living_after, popped_too}
+use Rattle.desk_api.specs.Living.{Living, living, lives, living_after, popped_too}
 use Rattle.desk_api.specs.Marks.{IsTrueIn, AllHold}
-use Rattle.desk_api.specs.Sites.{is_atomic, channel_named}
 use Rattle.desk_api.specs.declared.channel.Channel.{Channel}
 use Rattle.desk_api.specs.declared.history.SiteData.{SiteData}
 use Rattle.desk_api.specs.declared.mark.Mark.{Mark}
 use Rattle.desk_api.specs.declared.mark.Mark.TheVariants.{Read, Entered, Overweight, Begun, Crowded, Popped, Dropped}
-use Rattle.desk_api.specs.declared.put.Done.{Done}
-use Rattle.desk_api.specs.declared.put.PutAnswer.{PutAnswer}
-use Rattle.desk_api.specs.declared.put.PutAnswer.TheVariants as answers
 use Rattle.desk_api.specs.declared.sub.Sub.{Sub}
 use Rattle.desk_api.specs.declared.sub.SubAnswer.{SubAnswer}
 use Rattle.desk_api.specs.declared.sub.SubAnswer.TheVariants as sub_answers
 use Rattle.srv_session.specs.State.{State, Channels, Requests, Asked, channel_at, is_on, on_only, without_channel, slot_of_sub, slot_of, slots_of, opening}
 use Rattle.srv_session.specs.Tasks.{Task, pass_over, echo_control, refuse, tell, validate, echo, create, destroy_channel, begin, get, put, put_get, respond, snapshot, subscribe, steer, destroy_request, Hearing, asks, unreadable, over_range, heard}
 use Rattle.srv_session.specs.Replies.{Sent}
-use Rattle.srv_session.specs.Rows.{Says, Row, Part, NoPart, AreEndingsOf, EndingsPart, subscribed, subscribed_reply, ask_of, monitor_of, steered, behind, after_task, left_by, all_opened}
-use Rattle.srv_session.specs.Steps.{Step, hears, pops, knowing, IsAnswer, PopRow, IsPopOf, PopPart, PartOf, IsFreeBegun, IsStep, AreSteps, one_sent, with_sent, after_pop, after_hearing, after_event, after_step, left_by_hearing, state_after, marks_in, marks_of}
+use Rattle.srv_session.specs.Rows.{asked, Says, Row, Part, NoPart, AreEndingsOf, subscribed, ask_of, monitor_of, steered, behind, after_task, left_by, all_opened}
+use Rattle.srv_session.specs.Steps.{Step, hears, pops, knowing, IsAnswer, IsPopOf, PopPart, PartOf, IsFreeBegun, IsStep, AreSteps, one_sent, with_sent, after_pop, after_hearing, after_step, left_by_hearing, state_after, marks_in, marks_of}
 use Rattle.srv_session.specs.Calls.{IsHeld, Holds, AreLiving, ArePopsOf, Shown, site_of, Heeds, Handles, Pumps}
 use Rattle.srv_session.specs.declared.stop.SessionStop.{SessionStop}
 use Rattle.srv_session.specs.declared.stop.SessionStop.TheVariants as stops
@@ -49,42 +41,19 @@ use Rattle.pva_frames.specs.declared.event.Event.{Event}
 use Rattle.pvd_type.specs.declared.memory.NoMemory.{NoMemory}
 use Rattle.desk_api.specs.declared.mark.Seat.{Seat}
 use Rattle.journal_core.specs.Moments.{Moment}
-use Rattle.srv_session.proofs.Owning.{AllPlain, plain_append, living_plain, living_append, Has, unended, Owns, OwnsAmong, owner, owner_here, owner_among, has_not, keys_once, NoneTwice}
-use Rattle.srv_session.proofs.OnSite.{IsTaskOf, IsPlain, IsHeardOf, heard_so, knows, all_stay}
+use Rattle.srv_session.proofs.Rows.{whole_is_part, snapshot_is_part}
+use Rattle.srv_session.proofs.Owning.{AllLeave, living_append, Has, unended, OwnsAmong, owner, owner_here, owner_among, has_not, keys_once, NoneTwice}
+use Rattle.srv_session.proofs.OnSite.{IsTaskOf, IsHeardOf, heard_so, knows, all_stay}
 use Rattle.srv_session.proofs.Tables.{same_or_not, got_inserted, got_beside, got_removed, got_left, left_beside, stays_elsewhere}
 
--- Rows without monitors make plain marks.
+-- Rows without monitors leave what lives.
 
-pub looks_plain : (channel : Channel) (looks : List (List ℕ)) (marks : List Mark) → AreLooks channel looks marks → AllPlain marks
-looks_plain channel looks [] p = tt
-looks_plain channel [] (mark ∷ marks) p = absurd p
-looks_plain channel (recs ∷ looks) (mark ∷ marks) p = subst (λ (m : Mark). AllPlain (m ∷ marks)) (sym p.0.1.1) (refl, looks_plain channel looks marks p.1)
+-- a get, as its desk answers that memory ran out behind all of its looks
+pub get_leaves : (site : SiteData) (channel : Channel) (atomic : Option Bool) (marks : List Mark) → IsPartOfGet site channel atomic marks → AllLeave marks
+get_leaves site channel atomic marks p slot o = gets_leave slot o site channel atomic (Err (record {})) marks p
 
-pub added_plain : (a : calls.Asked) (entries : List (List (ℕ × Action))) (marks : List Mark) → AreAdded a entries marks → AllPlain marks
-added_plain a entries [] p = tt
-added_plain a [] (mark ∷ marks) p = absurd p
-added_plain a (actions ∷ entries) (mark ∷ marks) p = subst (λ (m : Mark). AllPlain (m ∷ marks)) (sym p.0.mark_is) (refl, added_plain a entries marks p.1)
-
-pub put_plain : (a : calls.Asked) (answer : Result Done PutAnswer) (marks : List Mark) → ArePut a answer marks → AllPlain marks
-put_plain a (Ok done) marks p = added_plain a p.entries marks p.added
-put_plain a (Err (answers.Refused refusal)) marks p = subst AllPlain (sym p.marks_are) tt
-put_plain a (Err (answers.JournalFull kept weight limit done)) marks p =
-    subst AllPlain (sym p.marks_are) (plain_append p.before _ (added_plain a _ p.before p.added) (refl, tt))
-put_plain a (Err (answers.NoMemory done)) marks p = added_plain a _ marks p.added
-
-pub put_get_plain : (whole : Bool) (a : calls.Asked) (answer : Result (Done × PvValue) PutAnswer) (marks : List Mark) → ArePutGetBy whole a answer marks → AllPlain marks
-put_get_plain true a (Ok (done, value)) marks p = subst AllPlain (sym p.marks_are) (refl, tt)
-put_get_plain false a (Ok (done, value)) marks p =
-    subst AllPlain (sym p.marks_are)
-    (plain_append p.puts p.gets (put_plain a (Ok done) p.puts p.put) (looks_plain a.channel (looks_of a.site a.channel a.atomic) p.gets p.got.looks))
-put_get_plain true a (Err (answers.Refused refusal)) marks p = put_plain a (Err (answers.Refused refusal)) marks p
-put_get_plain false a (Err (answers.Refused refusal)) marks p = put_plain a (Err (answers.Refused refusal)) marks p
-put_get_plain true a (Err (answers.JournalFull kept weight limit done)) marks p = subst AllPlain (sym p.marks_are) (refl, tt)
-put_get_plain false a (Err (answers.JournalFull kept weight limit done)) marks p = put_plain a (Err (answers.JournalFull kept weight limit done)) marks p
-put_get_plain true a (Err (answers.NoMemory done)) marks p = subst AllPlain (sym p.marks_are) tt
-put_get_plain false a (Err (answers.NoMemory done)) marks p =
-    subst AllPlain (sym p.marks_are)
-    (plain_append p.puts p.gets (put_plain a (Err (answers.NoMemory done)) p.puts p.put) (looks_plain a.channel _ p.gets p.got.looks))
+pub snapshot_leaves : (site : SiteData) (marks : List Mark) → IsPartOfSnapshot site marks → AllLeave marks
+snapshot_leaves site marks p slot o = snapshots_leave slot o {Z = Unit {0}} site (Err (record {})) marks p
 
 -- A subscription's mark: it began in a slot, or none began.
 
@@ -151,14 +120,14 @@ goes_holds log marks s t g h = record {
 lives_same : (log marks : List Mark) (slot : ℕ) → living_after slot (living log slot) marks ≡ living log slot → (l : Living) → living log slot ≡ Some l → LivesOn (log ++ marks) slot l
 lives_same log marks slot same l is = record { next = l; there = living_append slot None log marks ∙ same ∙ is; channel_is = refl; mask_is = refl }
 
-lives_beside : (log marks : List Mark) (slot : ℕ) → AllPlain marks → (l : Living) → living log slot ≡ Some l → LivesOn (log ++ marks) slot l
-lives_beside log marks slot plain l is = lives_same log marks slot (living_plain slot (living log slot) marks plain) l is
+lives_beside : (log marks : List Mark) (slot : ℕ) → AllLeave marks → (l : Living) → living log slot ≡ Some l → LivesOn (log ++ marks) slot l
+lives_beside log marks slot plain l is = lives_same log marks slot (plain slot (living log slot)) l is
 
 pub was_itself : (s : State) (req : ℕ) (ask : Asked) (sub : Sub) → at s.requests req ≡ Some ask → ask.sub ≡ Some sub → Was s req ask sub
 was_itself s req ask sub here is = record { one = ask; here = here; subscribed = is; sid_is = refl; mask_is = refl; kind_is = refl }
 
 -- Plain marks: the requests and the channels are as before, ..
-unmoved : (log marks : List Mark) (s t : State) → AllPlain marks → t.requests ≡ s.requests → t.channels ≡ s.channels → Goes log marks s t
+unmoved : (log marks : List Mark) (s t : State) → AllLeave marks → t.requests ≡ s.requests → t.channels ≡ s.channels → Goes log marks s t
 unmoved log marks s t plain requests_are channels_are = record {
   was = λ req ask sub here is. was_itself s req ask sub (ap (λ (r : Requests). at r req) (sym requests_are) ∙ here) is;
   open_ = λ req ask sub here is channel open_. ap (λ (c : Channels). channel_at c ask.sid) channels_are ∙ open_;
@@ -180,7 +149,7 @@ was_behind s req sub q ask x here is = by_bit (ends sub) here
     by_bit true here = was_left s req q ask x here is
     by_bit false here = was_itself s q ask x here is
 
-goes_behind : (log marks : List Mark) (s : State) (req sub : ℕ) → AllPlain marks → Goes log marks s (record s { requests = behind req sub s.requests })
+goes_behind : (log marks : List Mark) (s : State) (req sub : ℕ) → AllLeave marks → Goes log marks s (record s { requests = behind req sub s.requests })
 goes_behind log marks s req sub plain = record {
   was = λ q ask x here is. was_behind s req sub q ask x here is;
   open_ = λ q ask x here is channel open_. open_;
@@ -212,14 +181,14 @@ module _ (s : State) (req : ℕ) (new : Asked) where
   was_like old there like q ask sub here is =
       put_in q ask sub (λ some. record { one = old; here = there; subscribed = sym like.sub ∙ some; sid_is = like.sid; mask_is = like.mask; kind_is = like.kind }) here is
 
-  goes_new : (log marks : List Mark) → AllPlain marks → new.sub ≡ None → Goes log marks s (record s { requests = insert s.requests req new })
+  goes_new : (log marks : List Mark) → AllLeave marks → new.sub ≡ None → Goes log marks s (record s { requests = insert s.requests req new })
   goes_new log marks plain none = record {
     was = λ q ask sub here is. was_new none q ask sub here is;
     open_ = λ q ask sub here is channel open_. open_;
     lives_on = λ q ask sub here is l there. lives_beside log marks sub.slot plain l there;
   }
 
-  goes_like : (log marks : List Mark) → AllPlain marks → (old : Asked) → at s.requests req ≡ Some old → IsLike new old → Goes log marks s (record s { requests = insert s.requests req new })
+  goes_like : (log marks : List Mark) → AllLeave marks → (old : Asked) → at s.requests req ≡ Some old → IsLike new old → Goes log marks s (record s { requests = insert s.requests req new })
   goes_like log marks plain old there like = record {
     was = λ q ask sub here is. was_like old there like q ask sub here is;
     open_ = λ q ask sub here is channel open_. open_;
@@ -227,7 +196,7 @@ module _ (s : State) (req : ℕ) (new : Asked) where
   }
 
 -- Channels come.
-goes_opened : (site : SiteData) (log : List Mark) (marks : List Mark) (s : State) (names : List (ℕ × List ℕ)) → AllPlain marks → Goes log marks s (record s { channels = all_opened site s.channels names })
+goes_opened : (site : SiteData) (log : List Mark) (marks : List Mark) (s : State) (names : List (ℕ × List ℕ)) → AllLeave marks → Goes log marks s (record s { channels = all_opened site s.channels names })
 goes_opened site log marks s names plain = record {
   was = λ req ask sub here is. was_itself s req ask sub here is;
   open_ = λ req ask sub here is channel open_. all_stay site s.channels names ask.sid channel open_;
@@ -422,71 +391,71 @@ subscribe_holds log s req sid channel wanted window marks open_ (began place ind
     (λ free. begun_holds log s req sid channel wanted window place index slot size open_ free.0 holds) free
 subscribe_holds log s req sid channel wanted window marks open_ (crowded place index count is) free holds =
     subst (λ (ms : List Mark). Holds (log ++ ms) (record s { requests = subscribed req sid wanted window ms s.requests })) (sym is)
-    (goes_holds log (Crowded place index count ∷ []) s s (unmoved log (Crowded place index count ∷ []) s s (refl, tt) refl refl) holds)
+    (goes_holds log (Crowded place index count ∷ []) s s (unmoved log (Crowded place index count ∷ []) s s (λ slot o. refl) refl refl) holds)
 subscribe_holds log s req sid channel wanted window marks open_ (without is) free holds =
     subst (λ (ms : List Mark). Holds (log ++ ms) (record s { requests = subscribed req sid wanted window ms s.requests })) (sym is)
-    (goes_holds log [] s s (unmoved log [] s s tt refl refl) holds)
+    (goes_holds log [] s s (unmoved log [] s s (λ slot o. refl) refl refl) holds)
 
 -- Rows.
 
-pub says_plain : (these : List Sent) (marks : List Mark) (sent : List Sent) → Says these marks sent → AllPlain marks
-says_plain these marks sent p = subst AllPlain (sym p.marks_are) tt
+pub says_leave : (these : List Sent) (marks : List Mark) (sent : List Sent) → Says these marks sent → AllLeave marks
+says_leave these marks sent p = subst AllLeave (sym p.marks_are) (λ slot o. refl)
 
 module _ (site : SiteData) (log marks : List Mark) (sent : List Sent) where
   pub row_holds : (s : State) (task : Task) → IsTaskOf site s task → Row site s task marks sent → AllTrue IsFreeBegun log marks → Holds log s → Holds (log ++ marks) (after_task site s task marks)
-  row_holds s pass_over of p free holds = goes_holds log marks s s (unmoved log marks s s (says_plain _ marks sent p) refl refl) holds
-  row_holds s (echo_control number) of p free holds = goes_holds log marks s s (unmoved log marks s s (says_plain _ marks sent p) refl refl) holds
-  row_holds s (refuse r) of p free holds = goes_holds log marks s s (unmoved log marks s s (says_plain _ marks sent p) refl refl) holds
-  row_holds s (tell r) of p free holds = goes_holds log marks s s (unmoved log marks s s (says_plain _ marks sent p) refl refl) holds
-  row_holds s (validate buffer registry user host) of p free holds = goes_holds log marks s _ (unmoved log marks s _ (says_plain _ marks sent p) refl refl) holds
-  row_holds s (echo payload) of p free holds = goes_holds log marks s s (unmoved log marks s s (says_plain _ marks sent p) refl refl) holds
-  row_holds s (create names) of p free holds = goes_holds log marks s _ (goes_opened site log marks s names (says_plain _ marks sent p)) holds
+  row_holds s pass_over of p free holds = goes_holds log marks s s (unmoved log marks s s (says_leave _ marks sent p) refl refl) holds
+  row_holds s (echo_control number) of p free holds = goes_holds log marks s s (unmoved log marks s s (says_leave _ marks sent p) refl refl) holds
+  row_holds s (refuse r) of p free holds = goes_holds log marks s s (unmoved log marks s s (says_leave _ marks sent p) refl refl) holds
+  row_holds s (tell r) of p free holds = goes_holds log marks s s (unmoved log marks s s (says_leave _ marks sent p) refl refl) holds
+  row_holds s (validate buffer registry user host) of p free holds = goes_holds log marks s _ (unmoved log marks s _ (says_leave _ marks sent p) refl refl) holds
+  row_holds s (echo payload) of p free holds = goes_holds log marks s s (unmoved log marks s s (says_leave _ marks sent p) refl refl) holds
+  row_holds s (create names) of p free holds = goes_holds log marks s _ (goes_opened site log marks s names (says_leave _ marks sent p)) holds
   row_holds s (destroy_channel sid cid) of p free holds = goes_holds log marks s _ (goes_closed log marks s holds sid p.endings) holds
   row_holds s (begin kind req sub sid channel wanted) of p free holds =
-      goes_holds log marks s _ (goes_new s req (ask_of kind sid wanted) log marks (says_plain _ marks sent p) refl) holds
+      goes_holds log marks s _ (goes_new s req (ask_of kind sid wanted) log marks (says_leave _ marks sent p) refl) holds
   row_holds s (get kind req sub ask channel) of p free holds =
-      goes_holds log marks s _ (goes_behind log marks s req sub (looks_plain channel (looks_of site channel ask.atomic) marks p.is_get.looks)) holds
-  row_holds s (put req sub ask channel mask value) of p free holds = goes_holds log marks s _ (goes_behind log marks s req sub (put_plain _ p.answer marks p.is_put)) holds
+      goes_holds log marks s _ (goes_behind log marks s req sub (get_leaves site channel ask.atomic marks (whole_is_part site channel ask.atomic p.value marks p.is_get))) holds
+  row_holds s (put req sub ask channel mask value) of p free holds = goes_holds log marks s _ (goes_behind log marks s req sub (λ slot o. puts_leave slot o _ p.answer marks p.is_put)) holds
   row_holds s (put_get req sub ask channel mask value) of p free holds =
-      goes_holds log marks s _ (goes_behind log marks s req sub (put_get_plain (is_atomic site channel ask.atomic) _ p.answer marks p.is_put_get)) holds
-  row_holds s (respond req sub r) of p free holds = goes_holds log marks s _ (goes_behind log marks s req sub (says_plain _ marks sent p)) holds
+      goes_holds log marks s _ (goes_behind log marks s req sub (λ slot o. put_gets_leave slot o (asked site ask channel mask value p.moment) p.answer marks p.is_put_get)) holds
+  row_holds s (respond req sub r) of p free holds = goes_holds log marks s _ (goes_behind log marks s req sub (says_leave _ marks sent p)) holds
   row_holds s (snapshot req sub) of p free holds =
-      goes_holds log marks s _ (goes_behind log marks s req sub (subst AllPlain (sym p.is_snapshot.marks_are) (refl, tt))) holds
+      goes_holds log marks s _ (goes_behind log marks s req sub (snapshot_leaves site marks (snapshot_is_part site p.rows marks p.is_snapshot))) holds
   row_holds s (subscribe req sub sid channel wanted count) of p free holds =
       subscribe_holds log s req sid channel wanted count marks of.0.open_ (subscribes channel wanted.mask wanted.queue p.answer marks p.is_subscribe) free holds
   row_holds s (steer req count started ask) of p free holds =
-      goes_holds log marks s _ (goes_like s req (steered count started ask) log marks (says_plain _ marks sent p) ask of.here (record { sub = refl; sid = refl; mask = refl; kind = refl })) holds
+      goes_holds log marks s _ (goes_like s req (steered count started ask) log marks (says_leave _ marks sent p) ask of.here (record { sub = refl; sid = refl; mask = refl; kind = refl })) holds
   row_holds s (destroy_request req) of p free holds = goes_holds log marks s _ (goes_ended log marks s holds req p.endings) holds
 
 -- Parts of rows.
 
-pub none_plain : (marks : List Mark) → NoPart marks → AllPlain marks
-none_plain marks p = subst AllPlain (sym p) tt
+pub none_leave : (marks : List Mark) → NoPart marks → AllLeave marks
+none_leave marks p = subst AllLeave (sym p) (λ slot o. refl)
 
 module _ (site : SiteData) (log : List Mark) where
-  stays : (marks : List Mark) (s : State) → AllPlain marks → Holds log s → Holds (log ++ marks) s
+  stays : (marks : List Mark) (s : State) → AllLeave marks → Holds log s → Holds (log ++ marks) s
   stays marks s plain holds = goes_holds log marks s s (unmoved log marks s s plain refl refl) holds
 
   pub part_holds : (s : State) (task : Task) (marks : List Mark) → IsTaskOf site s task → Part site s task marks → AllTrue IsFreeBegun log marks → Holds log s → Holds (log ++ marks) (left_by site s task marks)
-  part_holds s pass_over marks of p free holds = stays marks s (none_plain marks p) holds
-  part_holds s (echo_control number) marks of p free holds = stays marks s (none_plain marks p) holds
-  part_holds s (refuse r) marks of p free holds = stays marks s (none_plain marks p) holds
-  part_holds s (tell r) marks of p free holds = stays marks s (none_plain marks p) holds
-  part_holds s (validate buffer registry user host) marks of p free holds = stays marks s (none_plain marks p) holds
-  part_holds s (echo payload) marks of p free holds = stays marks s (none_plain marks p) holds
-  part_holds s (create names) marks of p free holds = stays marks s (none_plain marks p) holds
-  part_holds s (destroy_channel sid cid) [] of p free holds = stays [] s tt holds
+  part_holds s pass_over marks of p free holds = stays marks s (none_leave marks p) holds
+  part_holds s (echo_control number) marks of p free holds = stays marks s (none_leave marks p) holds
+  part_holds s (refuse r) marks of p free holds = stays marks s (none_leave marks p) holds
+  part_holds s (tell r) marks of p free holds = stays marks s (none_leave marks p) holds
+  part_holds s (validate buffer registry user host) marks of p free holds = stays marks s (none_leave marks p) holds
+  part_holds s (echo payload) marks of p free holds = stays marks s (none_leave marks p) holds
+  part_holds s (create names) marks of p free holds = stays marks s (none_leave marks p) holds
+  part_holds s (destroy_channel sid cid) [] of p free holds = stays [] s (λ slot o. refl) holds
   part_holds s (destroy_channel sid cid) (mark ∷ marks) of p free holds = goes_holds log (mark ∷ marks) s _ (goes_closed log (mark ∷ marks) s holds sid p) holds
-  part_holds s (begin kind req sub sid channel wanted) marks of p free holds = stays marks s (none_plain marks p) holds
-  part_holds s (get kind req sub ask channel) marks of p free holds = stays marks s (looks_plain channel _ marks p.looks) holds
-  part_holds s (put req sub ask channel mask value) marks of p free holds = stays marks s (put_plain _ p.1 marks p.2) holds
-  part_holds s (put_get req sub ask channel mask value) marks of p free holds = stays marks s (put_get_plain (is_atomic site channel ask.atomic) _ p.1 marks p.2) holds
-  part_holds s (respond req sub r) marks of p free holds = stays marks s (none_plain marks p) holds
-  part_holds s (snapshot req sub) marks of p free holds = stays marks s (looks_plain _ _ marks p.looks) holds
+  part_holds s (begin kind req sub sid channel wanted) marks of p free holds = stays marks s (none_leave marks p) holds
+  part_holds s (get kind req sub ask channel) marks of p free holds = stays marks s (get_leaves site channel ask.atomic marks p) holds
+  part_holds s (put req sub ask channel mask value) marks of p free holds = stays marks s (λ slot o. puts_leave slot o _ p.1 marks p.2) holds
+  part_holds s (put_get req sub ask channel mask value) marks of p free holds = stays marks s (λ slot o. put_gets_leave slot o (asked site ask channel mask value p.0) p.1 marks p.2) holds
+  part_holds s (respond req sub r) marks of p free holds = stays marks s (none_leave marks p) holds
+  part_holds s (snapshot req sub) marks of p free holds = stays marks s (snapshot_leaves site marks p) holds
   part_holds s (subscribe req sub sid channel wanted count) marks of p free holds =
       subscribe_holds log s req sid channel wanted count marks of.0.open_ (subscribes channel wanted.mask wanted.queue p.0 marks p.1) free holds
-  part_holds s (steer req count started ask) marks of p free holds = stays marks s (none_plain marks p) holds
-  part_holds s (destroy_request req) marks of p free holds = stays marks s (none_plain marks p) holds
+  part_holds s (steer req count started ask) marks of p free holds = stays marks s (none_leave marks p) holds
+  part_holds s (destroy_request req) marks of p free holds = stays marks s (none_leave marks p) holds
 
 -- Steps.
 
@@ -503,8 +472,8 @@ hearing_holds site s log marks sent over_range of p free holds = absurd p
 pub left_holds : (site : SiteData) (s : State) (log marks : List Mark) (hearing : Hearing) → IsHeardOf site s hearing → PartOf site s hearing marks → AllTrue IsFreeBegun log marks → Holds log s
     → Holds (log ++ marks) (left_by_hearing site s hearing marks)
 left_holds site s log marks (asks task types) of p free holds = part_holds site log (knowing s types) task marks (knows site s types task of) p free (knowing_holds log s types holds)
-left_holds site s log marks (unreadable fault) of p free holds = stays site log marks s (none_plain marks p) holds
-left_holds site s log marks over_range of p free holds = stays site log marks s (none_plain marks p) holds
+left_holds site s log marks (unreadable fault) of p free holds = stays site log marks s (none_leave marks p) holds
+left_holds site s log marks over_range of p free holds = stays site log marks s (none_leave marks p) holds
 
 pub holds_step : (site : SiteData) (s : State) (log : List Mark) (x : Step) → Holds log s → IsStep site s x → AllTrue IsFreeBegun log (marks_in x) → Holds (log ++ marks_in x) (after_step site s x)
 holds_step site s log (hears e marks sent) holds p free = hearing_holds site s log marks sent (heard site s e) (heard_so site s e) p free holds

@@ -1,9 +1,15 @@
 pub mod Tables
+pub mod Slots
 pub mod Owning
+pub mod Rising
 pub mod Rows
 pub mod OnSite
 pub mod Kept
+pub mod Covered
+pub mod Windowed
 pub mod Steps
+pub mod Drained
+pub mod Pops
 pub mod Determined
 pub mod Replying
 pub mod Heeding
@@ -14,3 +20,5 @@ pub mod Places
 pub mod Parts
 pub mod Validating
 pub mod Typed
+pub mod Ending
+pub mod Monitoring

@@ -1,14 +1,17 @@
 -- Channels that are opened and ended.
-use Rattle.std.proofs.Common.{◌≡◌, ◌==◌, ℕ, ◌<◌, Bool, true, false, cond, List, ◌∷◌, ◌++◌, drop, length, ◌+◌, Option, None, Some, refl, sym, ◌∙◌, ap, arith, append_assoc}
-use Rattle.std.specs.Prelude.{OnSome, is_some, get_or, codes}
+use Rattle.std.proofs.Common.{◌≡◌, ◌==◌, ℕ, ◌<◌, Bool, true, false, cond, List, ◌∷◌, ◌++◌, drop, take, length, ◌+◌, Option, None, Some, Result, Ok, Err, refl, sym, ◌∙◌, ap, arith, append_assoc}
+use Rattle.std.specs.Prelude.{IfNone, IfOk, OnErr, OnSome, is_some, get_or, codes}
 use Rattle.std.specs.FinMap.{get, insert, len}
+use Rattle.std.proofs.Math.Seq.{take-append_seam}
 use Rattle.std.proofs.lemmas.Bool.{false≢true}
 use Rattle.std.proofs.lemmas.List.{at_drop_more}
 use Rattle.std.proofs.lemmas.Bool.Decides.{nat_tests}
 use Rattle.pva_messages.specs.Replies as reply
 use Rattle.chan_table.specs.Numbers.{IsLeastAbsent}
-use Rattle.chan_table.specs.Tables.{Tables, limit, of_cid, channel_of, without_channel as less_channel}
+use Rattle.chan_table.specs.Tables.{Tables, limit, of_cid, channel_of, with_channel, without_channel as less_channel}
+use Rattle.chan_table.specs.declared.answer.TableAnswer.{TableAnswer}
 use Rattle.desk_api.specs.declared.channel.Channel.{Channel}
+use Rattle.desk_api.specs.declared.sub.Sub.{Sub}
 use Rattle.srv_session.specs.State.{State, Channels, is_full, is_open, has_cid, least_free}
 use Rattle.desk_api.specs.Sites.{channel_named}
 use Rattle.desk_api.specs.declared.history.SiteData.{SiteData}
@@ -29,14 +32,14 @@ cid_test cid (Some x) = by_test (x.0 == cid)
     by_test true = refl
     by_test false = refl
 
-pub open_test : (t : Tables Channel (Unit {0})) (sid cid : ℕ) → is_some (channel_of t sid cid) ≡ is_open t.channels sid cid
+pub open_test : (t : Tables Channel Sub) (sid cid : ℕ) → is_some (channel_of t sid cid) ≡ is_open t.channels sid cid
 open_test t sid cid = cid_test cid (get t.channels sid)
 
 pub end_task : (s : State) (sid cid : ℕ) (b : Bool) → is_open s.channels sid cid ≡ b → asked_end s sid cid ≡ cond b (destroy_channel sid cid) pass_over
 end_task s sid cid b is = ap (λ (x : Bool). cond x (destroy_channel sid cid) pass_over) is
 
 -- a channel that was there was taken out
-pub taken_out : (t u : Tables Channel (Unit {0})) (sid cid : ℕ) (result : Option Channel) → result ≡ channel_of t sid cid → is_open t.channels sid cid ≡ true
+pub taken_out : (t u : Tables Channel Sub) (sid cid : ℕ) (result : Option Channel) → result ≡ channel_of t sid cid → is_open t.channels sid cid ≡ true
     → OnSome result (u ≡ less_channel t sid) → u ≡ less_channel t sid
 taken_out t u sid cid result is here removed = by_result result is removed
   where
@@ -123,3 +126,18 @@ keeps_more a b c p q = record {
   sent = q.sent ∙ p.sent;
   output = q.output ∙ ap (λ (xs : List ℕ). xs ++ q.more) p.output ∙ append_assoc a.output.items p.more q.more;
 }
+
+-- the requests stay as they are
+pub opened_asks : (old new : Tables Channel Sub) (cid : ℕ) (channel : Channel) (result : Result ℕ TableAnswer) → IfOk result (λ sid. new ≡ with_channel old sid cid channel) → OnErr result (new ≡ old) → new.asks ≡ old.asks
+opened_asks old new cid channel (Ok sid) ok err = ap (λ (t : Tables Channel Sub). t.asks) ok
+opened_asks old new cid channel (Err answer) ok err = ap (λ (t : Tables Channel Sub). t.asks) err
+
+-- what was written since is cut off again
+pub cut_back : (old new : Session) (n : ℕ) (cut : List ℕ) → Keeps old new → n ≡ length old.output.items → cut ≡ take n new.output.items → drop new.sent cut ≡ drop old.sent old.output.items
+cut_back old new n cut keeps n_is cut_is =
+    ap (λ (k : ℕ). drop k cut) keeps.sent
+    ∙ ap (drop old.sent) (cut_is ∙ ap (take n) keeps.output ∙ ap (λ (k : ℕ). take k (old.output.items ++ keeps.more)) n_is ∙ take-append_seam old.output.items keeps.more)
+
+pub closed_asks : (old new : Tables Channel Sub) (sid : ℕ) (result : Option Channel) → OnSome result (new ≡ less_channel old sid) → IfNone result (new ≡ old) → new.asks ≡ old.asks
+closed_asks old new sid (Some channel) removed none = ap (λ (t : Tables Channel Sub). t.asks) removed
+closed_asks old new sid None removed none = ap (λ (t : Tables Channel Sub). t.asks) none

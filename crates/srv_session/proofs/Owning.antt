@@ -10,43 +10,15 @@ use Rattle.std.proofs.lemmas.Bool.Decides.{nat_tests}
 use Rattle.desk_api.specs.Calls.{IsEnding}
 use Rattle.desk_api.specs.Living.{Living, living_with, living_after}
 use Rattle.desk_api.specs.declared.mark.Mark.{Mark}
-use Rattle.desk_api.specs.declared.mark.Mark.TheVariants.{Read, Entered, Overweight, Begun, Crowded, Popped, Dropped}
+use Rattle.desk_api.specs.declared.mark.Mark.TheVariants.{Dropped}
 use Rattle.desk_api.specs.declared.sub.Sub.{Sub}
 use Rattle.srv_session.specs.State.{Requests, Asked, slot_of_sub, slot_of, slots_of}
 use Rattle.srv_session.specs.Rows.{AreEndingsOf}
 use Rattle.srv_session.proofs.Tables.{AllFrom, above, both_parts, tied_back}
 
--- Marks that tell of no subscription that lives.
-
-abbrev pub is_plain : Mark → Bool
-is_plain (Read place channel footprint found) = true
-is_plain (Entered place entry looked found) = true
-is_plain (Overweight place footprint actions kept added limit) = true
-is_plain (Begun place index slot channel mask size) = false
-is_plain (Crowded place index count) = true
-is_plain (Popped place slot update) = false
-is_plain (Dropped place index slot) = false
-
-abbrev pub AllPlain : List Mark → Type 0
-AllPlain [] = Unit {0}
-AllPlain (mark ∷ marks) = (is_plain mark ≡ true) × AllPlain marks
-
-pub plain_append : (xs ys : List Mark) → AllPlain xs → AllPlain ys → AllPlain (xs ++ ys)
-plain_append [] ys p q = q
-plain_append (x ∷ xs) ys p q = (p.0, plain_append xs ys p.1 q)
-
-plain_with : (slot : ℕ) (o : Option Living) (mark : Mark) → is_plain mark ≡ true → living_with slot o mark ≡ o
-plain_with slot o (Read place channel footprint found) p = refl
-plain_with slot o (Entered place entry looked found) p = refl
-plain_with slot o (Overweight place footprint actions kept added limit) p = refl
-plain_with slot o (Begun place index x channel mask size) p = absurd (false≢true p)
-plain_with slot o (Crowded place index count) p = refl
-plain_with slot o (Popped place x update) p = absurd (false≢true p)
-plain_with slot o (Dropped place index x) p = absurd (false≢true p)
-
-pub living_plain : (slot : ℕ) (o : Option Living) (marks : List Mark) → AllPlain marks → living_after slot o marks ≡ o
-living_plain slot o [] p = refl
-living_plain slot o (mark ∷ marks) p = ap (λ (x : Option Living). living_after slot x marks) (plain_with slot o mark p.0) ∙ living_plain slot o marks p.1
+-- Marks leave what lives in each slot.
+abbrev pub AllLeave : List Mark → Type 0
+AllLeave marks = (slot : ℕ) (o : Option Living) → living_after slot o marks ≡ o
 
 pub living_append : (slot : ℕ) (o : Option Living) (xs ys : List Mark) → living_after slot o (xs ++ ys) ≡ living_after slot (living_after slot o xs) ys
 living_append slot o [] ys = refl
@@ -82,6 +54,15 @@ has_any n (x ∷ xs) is = by_test (x == n) refl (λ e. has_any n xs e) is
     by_test : (b : Bool) → (x == n) ≡ b → (list_any (λ y. y == n) xs ≡ true → Has n xs) → (b || list_any (λ y. y == n) xs) ≡ true → Has n (x ∷ xs)
     by_test true test rest e = let same : x ≡ n = grind (arith, nat_tests) in inl same
     by_test false test rest e = inr (rest e)
+
+pub any_has : (n : ℕ) (xs : List ℕ) → Has n xs → list_any (λ x. x == n) xs ≡ true
+any_has n [] h = absurd h
+any_has n (x ∷ xs) (inl same) = let test : (x == n) ≡ true = grind (arith, nat_tests) in ap (λ (b : Bool). b || list_any (λ y. y == n) xs) test
+any_has n (x ∷ xs) (inr h) = by_test (x == n) (any_has n xs h)
+  where
+    by_test : (b : Bool) → list_any (λ y. y == n) xs ≡ true → (b || list_any (λ y. y == n) xs) ≡ true
+    by_test true e = refl
+    by_test false e = e
 
 pub has_not : (n : ℕ) (xs : List ℕ) → (Has n xs → ⊥) → list_any (λ x. x == n) xs ≡ false
 has_not n xs none = by_test (list_any (λ x. x == n) xs) refl

@@ -29,7 +29,7 @@ use Rattle.desk_api.specs.declared.mark.Seat.{Seat}
 use Rattle.desk_api.specs.declared.put.Done.{Done}
 use Rattle.desk_api.specs.declared.put.PutAnswer.{PutAnswer}
 use Rattle.srv_session.specs.State.{State, Asked, slots_of}
-use Rattle.srv_session.specs.Replies.{said, control, methods, greetings, spelled, spelled_all, outcome, is_call, answered, begun, got, called, command_of_kind}
+use Rattle.srv_session.specs.Replies.{said, control, methods, greetings, spelled, spelled_all, outcome, answered, begun, got, called, command_of_kind}
 use Rattle.srv_session.specs.Tasks.{get, put, put_get, snapshot}
 use Rattle.srv_session.specs.Rows.{asked, put_status, put_get_reply, rows_data, behind}
 use Rattle.srv_session.specs.Calls.{Takes}

@@ -62,7 +62,7 @@ abbrev pub AllFrom : {V : Type 0} → ℕ → List (ℕ × V) → Type 0
 AllFrom n [] = Unit {0}
 AllFrom n (e ∷ es) = (n ≤ e.0) × AllFrom n es
 
-less : (x y : ℕ) → T (is_lt (nat_cmp x y)) → x < y
+pub less : (x y : ℕ) → T (is_lt (nat_cmp x y)) → x < y
 less x y h =
     elim (nat_cmp x y) as (λ r. r ≡ nat_cmp x y → T (is_lt r) → x < y) [
       | Less ↦ λ e t. ranked x y Less e
@@ -78,11 +78,11 @@ module _ {V : Type 0} where
       let first = less x e.0 parts.0 in
       (omega (arith, first), above x es parts.1)
 
-  weaker : (n m : ℕ) (es : List (ℕ × V)) → n ≤ m → AllFrom m es → AllFrom n es
+  pub weaker : (n m : ℕ) (es : List (ℕ × V)) → n ≤ m → AllFrom m es → AllFrom n es
   weaker n m [] le h = tt
   weaker n m (e ∷ es) le h = (omega (arith, le, h.0), weaker n m es le h.1)
 
-  missing : (q : ℕ) (es : List (ℕ × V)) → AllFrom (q + 1) es → find nat_cmp q es ≡ None
+  pub missing : (q : ℕ) (es : List (ℕ × V)) → AllFrom (q + 1) es → find nat_cmp q es ≡ None
   missing q [] h = refl
   missing q (e ∷ es) h =
       let first = h.0 in
@@ -140,7 +140,7 @@ module _ {V : Type 0} where
       let first = from.0 in
       step n e es parts.0 first (walk (n + 1) es parts.1 (weaker (n + 1) (e.0 + 1) es (omega (arith, first)) (above e.0 es parts.0)))
 
-all_from_zero : {V : Type 0} (es : List (ℕ × V)) → AllFrom 0 es
+pub all_from_zero : {V : Type 0} (es : List (ℕ × V)) → AllFrom 0 es
 all_from_zero [] = tt
 all_from_zero (e ∷ es) = (omega arith, all_from_zero es)
 

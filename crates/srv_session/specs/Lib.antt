@@ -6,3 +6,5 @@ pub mod Steps
 pub mod Windowing
 pub mod Calls
 pub mod Views
+pub mod Watching
+pub mod Rising

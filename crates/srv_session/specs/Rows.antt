@@ -149,9 +149,13 @@ AreEndingsOf [] [] = ⊤
 AreEndingsOf (slot ∷ slots) (mark ∷ marks) = IsEnding slot (mark ∷ []) × AreEndingsOf slots marks
 AreEndingsOf slots marks = ⊥
 
+-- The subcommand of the reply that begins a monitor has bit 08 alone, whatever others its message had.
+abbrev pub begins_alone : ℕ
+begins_alone = 0x08
+
 -- What is said where a subscription began, or where too many live. Where memory ran out nothing is said.
 abbrev pub subscribed_reply : SiteData → ℕ → ℕ → Channel → Result Sub SubAnswer → Option Reply
-subscribed_reply site req sub channel (Ok living) = Some (begun kinds.Monitor req sub (type_of site channel))
+subscribed_reply site req sub channel (Ok living) = Some (begun kinds.Monitor req begins_alone (type_of site channel))
 subscribed_reply site req sub channel (Err (sub_answers.TooManyMonitors count)) =
     Some (refused kinds.Monitor req sub (codes "too many monitors"))
 subscribed_reply site req sub channel (Err sub_answers.NoMemory) = None

@@ -1,22 +1,13 @@
 // Channels that are opened and ended (pvAccess Protocol Specification, "Channel Life-cycle").
 ghost use Rattle.std.specs.Prelude.{◌≡◌};
-ghost use Rattle.srv_session.specs.State.{without_channel};
 
 use crate::session::Session;
-use chan_table::{Table, TableAnswer};
+use chan_table::TableAnswer;
 use desk_api::{Channel, Desk};
 use pvd_type::{Name, NoMemory};
 
 /// The server's id in the reply to a name that opens no channel.
 const NO_CHANNEL: u32 = u32::MAX;
-
-/// Ends the requests on a channel.
-fn end_requests_on(table: &mut Table<Channel, ()>, sid: u32)
-    ensures channels { table.new.channels ≡ table.old.channels }
-    ensures requests { table.new.asks ≡ without_channel sid table.old.asks }
-{
-    while let Some(_ended) = table.take_of(sid) {}
-}
 
 impl Session {
     ghost use Rattle.std.specs.Prelude.{◌++◌, OnOk};
@@ -24,8 +15,7 @@ impl Session {
     ghost use Rattle.srv_session.specs.Replies.{spelled, spelled_all, said};
     ghost use Rattle.srv_session.specs.Rows.{created, opened, all_created, all_opened};
     ghost use Rattle.srv_session.specs.Tasks as task;
-    ghost use Rattle.srv_session.specs.Tasks.{asked_end};
-    ghost use Rattle.srv_session.specs.Views.{state_of, output_of, AnswersAlone, AnswersBeside, Keeps};
+    ghost use Rattle.srv_session.specs.Views.{state_of, output_of, AnswersBeside, Keeps};
     ghost use Rattle.desk_api.specs.Sites.{channel_named};
 
     /// The channel that is open under this id of the server.
@@ -39,6 +29,7 @@ impl Session {
     fn open<D: Desk>(&mut self, cid: u32, name: &Name, desk: &D) -> Result<(), NoMemory>
         ensures state { OnOk result (state_of self.new ≡ record (state_of self.old) { channels = opened (state_of self.old).channels cid (channel_named (D.seat desk.now).seen.base.site name.now) }) }
         ensures ok { OnOk result (output_of self.new ≡ output_of self.old ++ spelled self.old.order self.old.segment (said (created (state_of self.old).channels cid (channel_named (D.seat desk.now).seen.base.site name.now)))) }
+        ensures requests { (state_of self.new).requests ≡ (state_of self.old).requests }
         ensures keeps { Keeps self.old self.new }
     {
         let Some(channel) = desk.find(name.as_str()) else {
@@ -57,6 +48,7 @@ impl Session {
     fn open_all<D: Desk>(&mut self, names: &[(u32, Name)], desk: &D) -> Result<(), NoMemory>
         ensures state { OnOk result (state_of self.new ≡ record (state_of self.old) { channels = all_opened (D.seat desk.now).seen.base.site (state_of self.old).channels names.now }) }
         ensures ok { OnOk result (output_of self.new ≡ output_of self.old ++ spelled_all self.old.order self.old.segment (all_created (D.seat desk.now).seen.base.site (state_of self.old).channels names.now)) }
+        ensures requests { (state_of self.new).requests ≡ (state_of self.old).requests }
         ensures keeps { Keeps self.old self.new }
     {
         for name in names {
@@ -78,19 +70,6 @@ impl Session {
             self.output.truncate(written);
             return Err(NoMemory);
         };
-        Ok(())
-    }
-
-    /// Ends a channel and its requests, where it is open under both ids.
-    pub(crate) fn destroy_channel(&mut self, sid: u32, cid: u32) -> Result<(), NoMemory>
-        ensures { AnswersAlone self.old self.new (asked_end (state_of self.old) sid cid) result }
-    {
-        if !self.table.has_channel(sid, cid) {
-            return Ok(());
-        }
-        self.say_destroyed(sid, cid)?;
-        end_requests_on(&mut self.table, sid);
-        self.table.remove_channel(sid, cid);
         Ok(())
     }
 }

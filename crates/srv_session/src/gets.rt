@@ -16,9 +16,8 @@ impl Session {
     ghost use Rattle.pva_messages.specs.Views.{valued_view};
     ghost use Rattle.pva_messages.specs.Subcommands.{begins};
     ghost use Rattle.srv_session.specs.Calls.{IsOf};
-    ghost use Rattle.srv_session.specs.Replies.{IsServed, is_call};
     ghost use Rattle.srv_session.specs.Tasks.{asked_get, getting, found_for};
-    ghost use Rattle.srv_session.specs.Views.{state_of, AnswersAnytime, IsThere, GetsFrom};
+    ghost use Rattle.srv_session.specs.Views.{state_of, AnswersAnytime, HasPart, IsThere, GetsFrom};
 
     /// Answers a message of the command Get.
     pub(crate) fn answer_get<D: Desk>(
@@ -52,8 +51,7 @@ impl Session {
         desk: &mut D,
     ) -> Result<(), NoMemory>
         requires site { IsOf (D.seat desk.old).seen.base.site (state_of self.old) }
-        requires served { IsServed kind }
-        requires call { is_call kind ≡ false }
+        requires kind { HasPart kind }
         requires sub { begins sub ≡ false }
         ensures { AnswersAnytime (D.seat desk.old) (D.seat desk.new) self.old self.new (getting kind req sub (found_for (state_of self.old) kind sid req)) result }
     {
@@ -77,8 +75,7 @@ impl Session {
     ) -> Result<(), NoMemory>
         requires site { IsOf (D.seat desk.old).seen.base.site (state_of self.old) }
         requires there { IsThere (state_of self.old) sid req found }
-        requires served { IsServed kind }
-        requires call { is_call kind ≡ false }
+        requires kind { HasPart kind }
         requires sub { begins sub ≡ false }
         ensures { GetsFrom (D.seat desk.old) (D.seat desk.new) self.old self.new kind sid req sub found result }
     {

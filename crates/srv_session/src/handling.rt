@@ -38,7 +38,8 @@ impl Session {
     ghost use Rattle.pva_messages.specs.Requests.{request_fields};
     ghost use Rattle.pva_messages.specs.Views.{request_view};
     ghost use Rattle.pva_messages.specs.Written.{FitsField};
-    ghost use Rattle.srv_session.specs.Calls.{IsOf, Handles};
+    ghost use Rattle.srv_session.specs.Calls.{AreLiving, Holds, IsOf, Handles};
+    ghost use Rattle.srv_session.specs.State.{slots_of};
     ghost use Rattle.srv_session.specs.Tasks as task;
     ghost use Rattle.srv_session.specs.Tasks.{is_heard, heard_message};
     ghost use Rattle.srv_session.specs.Views.{state_of, show, HandlesControl, HasPlace, HeedsHearing, AnswersAlone};
@@ -52,9 +53,12 @@ impl Session {
         desk: &mut D,
         moment: Moment,
     ) -> Result<(), SessionStop>
-        requires { IsOf (D.seat desk.old).seen.base.site (state_of self.old) }
+        requires site { IsOf (D.seat desk.old).seen.base.site (state_of self.old) }
+        requires holds { Holds (D.seat desk.old).log (state_of self.old) }
         ensures handles { Handles (show (D.seat desk.old) self.old) (show (D.seat desk.new) self.new) moment event result }
         ensures site { OnOk result (IsOf (D.seat desk.new).seen.base.site (state_of self.new)) }
+        ensures holds { OnOk result (Holds (D.seat desk.new).log (state_of self.new)) }
+        ensures living { AreLiving (D.seat desk.new).log (slots_of (state_of self.new).requests) }
     {
         desk.has_legal_history();
         match &event {
@@ -89,9 +93,12 @@ impl Session {
         desk: &mut D,
         moment: Moment,
     ) -> Result<(), SessionStop>
-        requires { IsOf (D.seat desk.old).seen.base.site (state_of self.old) }
+        requires site { IsOf (D.seat desk.old).seen.base.site (state_of self.old) }
+        requires holds { Holds (D.seat desk.old).log (state_of self.old) }
         ensures handles { Handles (show (D.seat desk.old) self.old) (show (D.seat desk.new) self.new) moment (Message (whole_of message.now)) result }
         ensures site { OnOk result (IsOf (D.seat desk.new).seen.base.site (state_of self.new)) }
+        ensures holds { OnOk result (Holds (D.seat desk.new).log (state_of self.new)) }
+        ensures living { AreLiving (D.seat desk.new).log (slots_of (state_of self.new).requests) }
     {
         desk.has_legal_history();
         if message.command == ECHO {
@@ -128,6 +135,7 @@ impl Session {
         moment: Moment,
     ) -> Result<(), SessionStop>
         requires site { IsOf (D.seat desk.old).seen.base.site (state_of self.old) }
+        requires holds { Holds (D.seat desk.old).log (state_of self.old) }
         requires place { HasPlace (request_view request.now) (length message.now.payload.now) }
         requires fits { CanEach FitsField (request_fields (request_view request.now)) }
         ensures { HeedsHearing (D.seat desk.old) (D.seat desk.new) self.old self.new moment (heard_message (D.seat desk.old).seen.base.site (state_of self.old) (whole_of message.now) (state_of self.old).types (request_view request.now)) result }
@@ -143,7 +151,7 @@ impl Session {
             } => stopping(self.validate(alloc, *buffer, *registry, method, argument)),
             ToServer::Echo { .. } => stopping(self.echo(message.payload)),
             ToServer::Create { channels } => stopping(self.create(channels, desk)),
-            ToServer::DestroyChannel { sid, cid } => stopping(self.destroy_channel(*sid, *cid)),
+            ToServer::DestroyChannel { sid, cid } => self.destroy_channel(*sid, *cid, desk),
             ToServer::Get {
                 sid,
                 req,
@@ -157,7 +165,7 @@ impl Session {
                 request,
                 ..
             } => self.answer_put(alloc, message, *sid, *req, *sub, request, desk, moment),
-            ToServer::DestroyRequest { sid, req } => stopping(self.destroy_request(*sid, *req)),
+            ToServer::DestroyRequest { sid, req } => self.destroy_request(*sid, *req, desk),
             ToServer::Cancel { .. } => stopping(self.pass_over()),
             ToServer::Message { .. } => stopping(self.pass_over()),
             ToServer::Skipped(_) => stopping(self.pass_over()),
@@ -177,11 +185,17 @@ impl Session {
                 sub,
                 argument,
             } => stopping(self.answer_call(alloc, *sid, *req, *sub, argument, desk)),
-            ToServer::Monitor { .. } => Err(SessionStop::NotBuilt),
+            ToServer::Monitor {
+                sid,
+                req,
+                sub,
+                request,
+                count,
+            } => self.answer_monitor(alloc, *sid, *req, *sub, request, *count, desk),
         }
     }
 
-    fn pass_over(&mut self) -> Result<(), NoMemory>
+    pub(crate) fn pass_over(&mut self) -> Result<(), NoMemory>
         ensures { AnswersAlone self.old self.new task.pass_over result }
     {
         Ok(())

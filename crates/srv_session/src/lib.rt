@@ -4,10 +4,14 @@
 mod asking;
 mod calls;
 mod channels;
+mod endings;
 mod fields;
 mod gets;
 mod handling;
+mod laws;
+mod listing;
 mod monitors;
+mod pumping;
 mod put_gets;
 mod puts;
 mod requests;
@@ -17,6 +21,10 @@ mod subcommand;
 mod validation;
 mod writing;
 
+pub use laws::{
+    a_worked_window, one_output, pumps_drain, subscriptions_are_held, subscriptions_end,
+    windows_hold,
+};
 pub use pvd_type::NoMemory;
 pub use session::Session;
 pub use stop::SessionStop;

@@ -1,6 +1,11 @@
 // Put-gets (pvAccess Protocol Specification, "Channel put-get").
-ghost use Rattle.std.specs.Prelude.{◌≡◌, ◌||◌};
-ghost use Rattle.pva_messages.specs.Subcommands.{asks_back, counts};
+ghost use Rattle.std.specs.Prelude.{◌≡◌, ◌<◌, ◌++◌, ◌||◌, false, true, OnErr, OnOk};
+ghost use Rattle.pvd_value.specs.Fits.{fits_of};
+ghost use Rattle.pvd_value.specs.View.{view};
+ghost use Rattle.pva_messages.specs.Subcommands.{asks_back, begins, counts};
+ghost use Rattle.chan_table.specs.declared.ask.AskKind.TheVariants as kinds;
+ghost use Rattle.desk_api.specs.Types.{HoldsLeaves};
+ghost use Rattle.srv_session.specs.Replies.{got, said, spelled};
 
 use crate::asking::type_on;
 use crate::handling::stopping;
@@ -9,10 +14,12 @@ use crate::requests::Found;
 use crate::session::Session;
 use crate::stop::SessionStop;
 use crate::subcommand::{asks_back, counts};
+use crate::writing::write_value;
 use chan_table::AskKind;
 use desk_api::{Desk, Moment};
 use pva_frames::Lent;
-use pva_messages::begins;
+use pva_messages::{Command, begins};
+use pva_wire::Order;
 use pvd_type::{BitSet, NoMemory, PvType};
 use pvd_value::PvValue;
 use std::alloc::Global;
@@ -24,18 +31,45 @@ fn is_unsupported(sub: u8) -> bool
     asks_back(sub) || counts(sub)
 }
 
+/// Appends the reply to a put-get that was done, in frames of at most so much payload: these leaves of what was got.
+fn write_got(
+    out: &mut Vec<u8>,
+    order: Order,
+    segment: u32,
+    req: u32,
+    sub: u8,
+    ty: &PvType,
+    mask: &BitSet,
+    value: &PvValue,
+) -> Result<(), NoMemory>
+    requires segment { 0 < segment }
+    requires sub { begins sub ≡ false }
+    requires fits { fits_of 16 (view value.now) ty.now ≡ true }
+    requires leaves { HoldsLeaves ty.now mask.now }
+    ensures ok { OnOk result (out.new.items ≡ out.old.items ++ spelled order segment (said (got kinds.PutGet req sub ty.now mask.now (view value.now)))) }
+    ensures err { OnErr result (out.new.items ≡ out.old.items) }
+{
+    write_value(
+        out,
+        order,
+        segment,
+        Command::PutGet,
+        req,
+        sub,
+        ty,
+        mask,
+        value,
+    )
+}
+
 impl Session {
-    ghost use Rattle.std.specs.Prelude.{◌≡◌, ◌≤◌, IfSome, true, false, length, Ok, codes};
-    ghost use Rattle.pvd_value.specs.Fits.{fits_of};
-    ghost use Rattle.pvd_value.specs.View.{view};
+    ghost use Rattle.std.specs.Prelude.{◌≤◌, IfSome, length, Ok, codes};
     ghost use Rattle.pva_frames.specs.LentView.{whole_of};
     ghost use Rattle.pva_messages.specs.Requests.{part_place};
-    ghost use Rattle.pva_messages.specs.Subcommands.{begins};
     ghost use Rattle.pva_messages.specs.Views.{valued_view};
-    ghost use Rattle.chan_table.specs.declared.ask.AskKind.TheVariants as kinds;
-    ghost use Rattle.desk_api.specs.Types.{type_of, HoldsLeaves};
+    ghost use Rattle.desk_api.specs.Types.{type_of};
     ghost use Rattle.srv_session.specs.Calls.{IsOf};
-    ghost use Rattle.srv_session.specs.Replies.{IsServed, is_call, refused};
+    ghost use Rattle.srv_session.specs.Replies.{is_call, refused};
     ghost use Rattle.srv_session.specs.Tasks as task;
     ghost use Rattle.srv_session.specs.Tasks.{heard_put_get};
     ghost use Rattle.srv_session.specs.Views.{state_of, AnswersAlone, HeedsHearing, IsThere, PutGetsPart, PutsTo};
@@ -105,7 +139,6 @@ impl Session {
         sub: u8,
         text: &str,
     ) -> Result<(), NoMemory>
-        requires served { IsServed kind }
         ensures { AnswersAlone self.old self.new (task.respond req sub (refused kind req sub text.now)) result }
     {
         self.say_answer(kind, req, sub, Some(text))?;
@@ -136,7 +169,17 @@ impl Session {
         match desk.put_get(alloc, found.channel, mask, value, moment, found.atomic) {
             Ok(done) => {
                 let ty = type_on(desk, found.channel);
-                self.say_selected(AskKind::PutGet, req, sub, ty, &done.1)?;
+                let ask = self.table.ask(req).unwrap();
+                write_got(
+                    &mut self.output,
+                    self.order,
+                    self.segment,
+                    req,
+                    sub,
+                    ty,
+                    &ask.mask,
+                    &done.1,
+                )?;
                 self.end_behind(req, sub);
                 Ok(())
             }

@@ -17,9 +17,9 @@ pub(crate) struct Found {
 }
 
 impl Session {
-    ghost use Rattle.std.specs.Prelude.{◌≡◌, ◌≢◌, ◌++◌, false, true, IfSome, IsTrue, None, Some, codes};
+    ghost use Rattle.std.specs.Prelude.{◌≡◌, ◌≢◌, ◌++◌, false, true, IfErr, IfSome, IsTrue, None, OnOk, Some, codes};
     ghost use Rattle.std.specs.FinMap.{get as at};
-    ghost use Rattle.chan_table.specs.Tables.{IsReady};
+    ghost use Rattle.chan_table.specs.Tables.{IsReady, Refuses};
     ghost use Rattle.std.specs.FinSet as set;
     ghost use Rattle.pvd_value.specs.Fits.{fits_of};
     ghost use Rattle.pvd_value.specs.View.{view};
@@ -30,10 +30,10 @@ impl Session {
     ghost use Rattle.desk_api.specs.Types.{type_of};
     ghost use Rattle.srv_session.specs.State.{channel_at, is_on};
     ghost use Rattle.srv_session.specs.Calls.{IsOf};
-    ghost use Rattle.srv_session.specs.Replies.{IsServed, is_call, refused};
+    ghost use Rattle.srv_session.specs.Replies.{is_call, refused};
     ghost use Rattle.srv_session.specs.Rows.{behind};
     ghost use Rattle.srv_session.specs.Tasks as task;
-    ghost use Rattle.srv_session.specs.Tasks.{beginning, beginning_as, beginning_on, nothing_wanted, unfit, wanted_for, found_for, asked_request_end};
+    ghost use Rattle.srv_session.specs.Tasks.{beginning, beginning_as, beginning_on, nothing_wanted, unfit, wanted_for, found_for};
     ghost use Rattle.srv_session.specs.Views.{state_of, output_of, AnswersAlone, AnswersBeside, BeginsOn, BeginsCall, RefusesFault, RefusesPlace, IsFound};
 
     /// Says why a message about a request is refused.
@@ -44,7 +44,6 @@ impl Session {
         sub: u8,
         text: &str,
     ) -> Result<(), NoMemory>
-        requires { IsServed kind }
         ensures { AnswersAlone self.old self.new (task.refuse (refused kind req sub text.now)) result }
     {
         self.say_answer(kind, req, sub, Some(text))
@@ -62,7 +61,6 @@ impl Session {
         desk: &D,
     ) -> Result<(), NoMemory>
         requires site { IsOf (D.seat desk.now).seen.base.site (state_of self.old) }
-        requires served { IsServed kind }
         requires begins { begins sub ≡ true }
         requires fits { IfSome request.now (λ r. fits_of 16 (view r.1) r.0 ≡ true) }
         ensures { AnswersBeside (D.seat desk.now) self.old self.new (beginning (D.seat desk.now).seen.base.site (state_of self.old) kind req sub sid (valued_view request.now) (channel_at (state_of self.old).channels sid)) result }
@@ -70,29 +68,42 @@ impl Session {
         let Some(channel) = self.channel_at(sid) else {
             return self.refuse_channel(kind, req, sub);
         };
-        match self.table.reserve(req) {
+        match self.make_room(req) {
             Ok(()) => self.begin_on(alloc, kind, sid, channel, req, sub, request, desk),
             Err(answer) => self.refuse_place(kind, req, sub, answer),
         }
     }
 
+    /// Takes the memory for a request of this id, or says why it can't begin.
+    pub(crate) fn make_room(&mut self, req: u32) -> Result<(), TableAnswer>
+        ensures state { state_of self.new ≡ state_of self.old }
+        ensures output { output_of self.new ≡ output_of self.old }
+        ensures ready { OnOk result (IsReady self.new.table req) }
+        ensures refused { IfErr result (Refuses self.old.table req) }
+    {
+        self.table.reserve(req)
+    }
+
     /// Says that the channel of a request that would begin isn't open, whatever else could be said.
-    fn refuse_channel(&mut self, kind: AskKind, req: u32, sub: u8) -> Result<(), NoMemory>
-        requires { IsServed kind }
+    pub(crate) fn refuse_channel(
+        &mut self,
+        kind: AskKind,
+        req: u32,
+        sub: u8,
+    ) -> Result<(), NoMemory>
         ensures { AnswersAlone self.old self.new (task.refuse (refused kind req sub (codes "unknown channel"))) result }
     {
         self.refuse(kind, req, sub, "unknown channel")
     }
 
     /// Says why there is no place for a request.
-    fn refuse_place(
+    pub(crate) fn refuse_place(
         &mut self,
         kind: AskKind,
         req: u32,
         sub: u8,
         answer: TableAnswer,
     ) -> Result<(), NoMemory>
-        requires { IsServed kind }
         ensures { RefusesPlace self.old self.new kind req sub answer result }
     {
         match answer {
@@ -116,7 +127,6 @@ impl Session {
     ) -> Result<(), NoMemory>
         requires channel { IsTrue (is_channel (D.seat desk.now).seen.base.site channel) }
         requires room { IsReady self.old.table req }
-        requires served { IsServed kind }
         requires begins { begins sub ≡ true }
         requires fits { IfSome request.now (λ r. fits_of 16 (view r.1) r.0 ≡ true) }
         ensures { AnswersBeside (D.seat desk.now) self.old self.new (beginning_on (D.seat desk.now).seen.base.site kind req sub sid (valued_view request.now) channel (unfit kind channel)) result }
@@ -142,7 +152,6 @@ impl Session {
         requires channel { IsTrue (is_channel (D.seat desk.now).seen.base.site channel) }
         requires fit { unfit kind channel ≡ None }
         requires room { IsReady self.old.table req }
-        requires served { IsServed kind }
         requires begins { begins sub ≡ true }
         requires fits { IfSome request.now (λ r. fits_of 16 (view r.1) r.0 ≡ true) }
         ensures { AnswersBeside (D.seat desk.now) self.old self.new (beginning_as kind req sub sid channel (wanted_for kind (type_of (D.seat desk.now).seen.base.site channel) (valued_view request.now))) result }
@@ -196,7 +205,6 @@ impl Session {
         requires channel { IsTrue (is_channel (D.seat desk.now).seen.base.site channel) }
         requires valued { IsTrue (has_values channel) }
         requires room { IsReady self.old.table req }
-        requires served { IsServed kind }
         requires call { is_call kind ≡ false }
         requires begins { begins sub ≡ true }
         requires fits { IfSome request.now (λ r. fits_of 16 (view r.1) r.0 ≡ true) }
@@ -210,7 +218,7 @@ impl Session {
     }
 
     /// Says why a request structure is refused.
-    fn refuse_fault(
+    pub(crate) fn refuse_fault(
         &mut self,
         alloc: Global,
         kind: AskKind,
@@ -218,7 +226,6 @@ impl Session {
         sub: u8,
         fault: &RequestFault,
     ) -> Result<(), NoMemory>
-        requires { IsServed kind }
         ensures { RefusesFault self.old self.new kind req sub fault.now result }
     {
         match fault {
@@ -236,7 +243,6 @@ impl Session {
         sub: u8,
         option: &Name,
     ) -> Result<(), NoMemory>
-        requires { IsServed kind }
         ensures { AnswersAlone self.old self.new (task.refuse (refused kind req sub (codes "bad option " ++ option.now))) result }
     {
         let mut text = String::new(alloc);
@@ -256,7 +262,6 @@ impl Session {
         wanted: Request,
     ) -> Result<(), NoMemory>
         requires room { IsReady self.old.table req }
-        requires served { IsServed kind }
         requires call { is_call kind ≡ false }
         requires begins { begins sub ≡ true }
         ensures { BeginsOn self.old self.new kind req sub sid ty.now wanted result }
@@ -309,22 +314,12 @@ impl Session {
     }
 
     /// Whether a request is on this channel.
-    fn is_on(&self, sid: u32, req: u32) -> bool
+    pub(crate) fn is_on(&self, sid: u32, req: u32) -> bool
         ensures { result ≡ is_on sid (at (state_of self.now).requests req) }
     {
         match self.table.ask(req) {
             Some(ask) => ask.sid == sid,
             None => false,
         }
-    }
-
-    /// Ends a request, where it is on this channel.
-    pub(crate) fn destroy_request(&mut self, sid: u32, req: u32) -> Result<(), NoMemory>
-        ensures { AnswersAlone self.old self.new (asked_request_end (state_of self.old) sid req) result }
-    {
-        if self.is_on(sid, req) {
-            self.table.remove(req);
-        }
-        Ok(())
     }
 }

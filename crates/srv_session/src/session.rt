@@ -3,6 +3,7 @@ ghost use Rattle.std.specs.Prelude.{◌≡◌, ◌<◌, ◌≤◌, ◌++◌, dro
 ghost use Rattle.pvd_value.specs.View.{view};
 ghost use Rattle.pva_frames.specs.Spelling.{message_bytes};
 ghost use Rattle.srv_session.specs.State.{buffer_for, segment_for, opening};
+ghost use Rattle.srv_session.specs.Rising.{is_rising, AreListed};
 ghost use Rattle.pva_messages.specs.Rows.{byte_of};
 ghost use Rattle.srv_session.specs.Replies.{methods, greeting, command_of_kind};
 
@@ -11,7 +12,7 @@ use crate::writing::{
     write_field_type, write_result, write_validated, write_value,
 };
 use chan_table::{AskKind, Table};
-use desk_api::Channel;
+use desk_api::{Channel, Sub};
 use pva_frames::{write_control, write_message};
 use pva_messages::{Command, ToClient, write_begun, write_to_client};
 use pva_wire::Order;
@@ -85,13 +86,17 @@ pub struct Session {
     pub(crate) host: Option<Name>,
     /// The types that the client has defined.
     pub(crate) types: Registry,
-    pub(crate) table: Table<Channel, ()>,
+    pub(crate) table: Table<Channel, Sub>,
+    /// The ids of the requests that are monitors, rising.
+    pub(crate) monitors: Vec<u32>,
     /// The payload of a reply that is being written.
     payload: Vec<u8>,
     pub(crate) output: Vec<u8>,
     sent: usize,
     ghost some: { 0 < segment },
     ghost within: { sent ≤ length output.items },
+    ghost rising: { is_rising monitors.items ≡ true },
+    ghost listed: { AreListed monitors.items table.asks },
 }
 
 impl Session {
@@ -102,11 +107,11 @@ impl Session {
     ghost use Rattle.pva_messages.specs.Replies as reply;
     ghost use Rattle.pva_messages.specs.Subcommands.{begins};
     ghost use Rattle.pva_messages.specs.Views.{reply_view};
-    ghost use Rattle.srv_session.specs.Replies.{CanSay, IsServed, spelled, spelled_all, said, control, greetings, outcome, is_call, answered, begun, got, called, field_told, field_refused};
+    ghost use Rattle.srv_session.specs.Replies.{CanSay, spelled, spelled_all, said, control, greetings, outcome, is_call, answered, begun, got, called, field_told, field_refused};
     ghost use Rattle.desk_api.specs.declared.history.SiteData.{SiteData};
     ghost use Rattle.srv_session.specs.Calls.{IsOf};
     ghost use Rattle.srv_session.specs.State.{Asked};
-    ghost use Rattle.srv_session.specs.Views.{state_of, output_of, Keeps, HasSelected, HasOneType};
+    ghost use Rattle.srv_session.specs.Views.{state_of, output_of, Keeps, HasSelected, HasOneType, HasPart, IsOkAlone};
     ghost use Rattle.chan_table.specs.declared.ask.AskKind.TheVariants as kinds;
 
     /// A session that has said nothing yet.
@@ -123,6 +128,7 @@ impl Session {
             host: None,
             types: Registry::new(alloc),
             table: Table::new(alloc)?,
+            monitors: Vec::new(alloc),
             payload: Vec::new(alloc),
             output: Vec::new(alloc),
             sent: 0,
@@ -271,7 +277,7 @@ impl Session {
     }
 
     /// Adds the reply to a message about a request: OK, or the text of the problem, and nothing beside. OK alone is said to no
-    /// beginning but that of a call.
+    /// beginning but that of a call, and never to one of a monitor.
     pub(crate) fn say_answer(
         &mut self,
         kind: AskKind,
@@ -279,8 +285,7 @@ impl Session {
         sub: u8,
         problem: Option<&str>,
     ) -> Result<(), NoMemory>
-        requires served { IsServed kind }
-        requires sub { IfNone problem (begins sub ≡ is_call kind) }
+        requires { IfNone problem (IsOkAlone kind sub) }
         ensures state { state_of self.new ≡ state_of self.old }
         ensures ok { OnOk result (output_of self.new ≡ output_of self.old ++ spelled self.old.order self.old.segment (said (answered kind req sub (outcome (option_map (λ t. t.now) problem.entry))))) }
         ensures err { OnErr result (output_of self.new ≡ output_of self.old) }
@@ -299,7 +304,6 @@ impl Session {
         sub: u8,
         ty: &PvType,
     ) -> Result<(), NoMemory>
-        requires served { IsServed kind }
         requires call { is_call kind ≡ false }
         requires begins { begins sub ≡ true }
         ensures state { state_of self.new ≡ state_of self.old }
@@ -329,7 +333,7 @@ impl Session {
         self.say_payload(Command::PutGet)
     }
 
-    /// Adds the reply that a get or a put begins on a channel of this type.
+    /// Adds the reply that a get, a put or a monitor begins on a channel of this type.
     fn say_type(&mut self, kind: AskKind, req: u32, sub: u8, ty: &PvType) -> Result<(), NoMemory>
         requires kind { HasOneType kind }
         requires begins { begins sub ≡ true }
@@ -359,8 +363,7 @@ impl Session {
         value: &PvValue,
     ) -> Result<(), NoMemory>
         requires there { HasSelected (state_of self.old) req ty.now }
-        requires served { IsServed kind }
-        requires call { is_call kind ≡ false }
+        requires kind { HasPart kind }
         requires sub { begins sub ≡ false }
         requires fits { fits_of 16 (view value.now) ty.now ≡ true }
         ensures state { state_of self.new ≡ state_of self.old }

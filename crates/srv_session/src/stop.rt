@@ -1,4 +1,5 @@
 // Why a session stops.
+use mon_window::WindowFault;
 use pva_messages::MessageFault;
 use pvd_codec::ValueFault;
 use pvd_type::NoMemory;
@@ -6,10 +7,11 @@ use pvd_type::NoMemory;
 /// Why a session stops at an event. It has then ended.
 #[derive(Clone, Copy, Debug, PartialEq, Eq)]
 pub enum SessionStop {
-    /// The message isn't served so far.
-    NotBuilt,
     /// The message can't be read (pvAccess Protocol Specification, "Application Messages").
     Message(MessageFault),
+    /// A pipelined monitor might be sent more than 2,147,483,647 updates before its client acknowledges some: its first count, or
+    /// what is free with the acknowledged updates, is above that (pvAccess Protocol Specification, "Channel Monitor").
+    Window(WindowFault),
     /// Memory ran out.
     NoMemory,
 }

@@ -2,6 +2,7 @@
 ghost use Rattle.std.specs.Prelude.{◌≡◌, ◌<◌};
 ghost use Rattle.pvd_type.specs.Sets.{bit};
 ghost use Rattle.pva_messages.specs.Subcommands.{ends, asks_back, counts};
+ghost use Rattle.srv_session.specs.Tasks.{started_by};
 
 /// Whether a subcommand has the bit of this place.
 fn has(sub: u8, place: u32) -> bool
@@ -30,4 +31,14 @@ pub(crate) fn counts(sub: u8) -> bool
     ensures { result ≡ counts sub }
 {
     has(sub, 7)
+}
+
+/// Whether a monitor is started behind this subcommand. Bit 04 starts it where bit 40 stands too, and else stops it.
+pub(crate) fn started_by(sub: u8, was: bool) -> bool
+    ensures { result ≡ started_by sub was }
+{
+    if has(sub, 2) {
+        return asks_back(sub);
+    }
+    was
 }

@@ -1,18 +1,18 @@
 // Put-gets, the types of fields, and calls of the service.
 use super::*;
-use crate::session_tests::said;
+use crate::session_tests::{LIMIT, said_within};
 use std::alloc::Global;
 use std::test::Fail;
 
 /// A longout.
-const SINGLE: &str = "record(longout, \"X\") { field(VAL, \"42\") }";
+pub(crate) const SINGLE: &str = "record(longout, \"X\") { field(VAL, \"42\") }";
 
 /// The client is validated, and the channel X is open under the ids 1 and 0.
-const OPEN: &[u8] =
+pub(crate) const OPEN: &[u8] =
     b"\xCA\x02\x00\x01\x13\x00\x00\x00\x00\x00\x01\x00\x00\x00\x00\x00\x09anonymous\xFF\
       \xCA\x02\x00\x07\x08\x00\x00\x00\x01\x00\x01\x00\x00\x00\x01X";
 
-const OPENED: &[u8] =
+pub(crate) const OPENED: &[u8] =
     b"\xCA\x02\x41\x02\x00\x00\x00\x00\xCA\x02\x40\x01\x14\x00\x00\x00\x00\x00\x01\x00\xFF\x7F\x02\x09anonymous\x02ca\
       \xCA\x02\x40\x09\x01\x00\x00\x00\xFF\
       \xCA\x02\x40\x07\x09\x00\x00\x00\x01\x00\x00\x00\x00\x00\x00\x00\xFF";
@@ -24,20 +24,20 @@ const SERVER_OPENED: &[u8] =
     b"\xCA\x02\x40\x07\x09\x00\x00\x00\x02\x00\x00\x00\x01\x00\x00\x00\xFF";
 
 /// The type of the channel of a longout.
-const DESCRIPTION: &[u8] =
+pub(crate) const DESCRIPTION: &[u8] =
     b"\x80\x15epics:nt/NTScalar:1.0\x03\x05value\x22\x05alarm\x80\x07alarm_t\x03\x08severity\x22\x06status\x22\x07message\x60\x09timeStamp\x80\x06time_t\x03\x10secondsPastEpoch\x23\x0Bnanoseconds\x22\x07userTag\x22";
 
 /// A put-get of id 3 begins, for all of the channel.
-const BEGIN_PUT_GET: &[u8] =
+pub(crate) const BEGIN_PUT_GET: &[u8] =
     b"\xCA\x02\x00\x0C\x0C\x00\x00\x00\x00\x00\x00\x00\x03\x00\x00\x00\x08\x80\x00\x00";
 
-const PUT_GET_BEGUN: &[u8] = b"\xCA\x02\x40\x0C\x10\x01\x00\x00\x03\x00\x00\x00\x08\xFF";
+pub(crate) const PUT_GET_BEGUN: &[u8] = b"\xCA\x02\x40\x0C\x10\x01\x00\x00\x03\x00\x00\x00\x08\xFF";
 
 /// It puts 9 to the value.
-const PUT_GET: &[u8] =
+pub(crate) const PUT_GET: &[u8] =
     b"\xCA\x02\x00\x0C\x0F\x00\x00\x00\x00\x00\x00\x00\x03\x00\x00\x00\x00\x01\x02\x09\x00\x00\x00";
 
-const PUT_GOT: &[u8] =
+pub(crate) const PUT_GOT: &[u8] =
     b"\xCA\x02\x40\x0C\x26\x00\x00\x00\x03\x00\x00\x00\x00\xFF\x02\xBA\x03\x09\x00\x00\x00\x00\x00\x00\x00\x00\x00\x00\x00\x00\x64\x00\x00\x00\x00\x00\x00\x00\x05\x00\x00\x00\x00\x00\x00\x00";
 
 /// Its status alone is selected.
@@ -72,12 +72,23 @@ fn joined(alloc: Global, parts: &[&[u8]]) -> Result<Vec<u8>, NoMemory> {
     Ok(bytes)
 }
 
-/// Whether all of an input was answered, and by this.
-fn answers(alloc: Global, text: &str, input: &[&[u8]], wanted: &[&[u8]]) -> Result<bool, NoMemory> {
+/// Whether all of an input was answered, and by this, where the entries have this limit.
+pub(crate) fn answers_within(
+    alloc: Global,
+    text: &str,
+    limit: u64,
+    input: &[&[u8]],
+    wanted: &[&[u8]],
+) -> Result<bool, NoMemory> {
     let input = joined(alloc, input)?;
     let wanted = joined(alloc, wanted)?;
-    let (ended, output) = said(alloc, text, &input)?;
+    let (ended, output) = said_within(alloc, text, limit, &input)?;
     Ok(ended == Ok(()) && output == wanted)
+}
+
+/// The same where the entries may weigh as much as they like.
+fn answers(alloc: Global, text: &str, input: &[&[u8]], wanted: &[&[u8]]) -> Result<bool, NoMemory> {
+    answers_within(alloc, text, LIMIT, input, wanted)
 }
 
 #[test]
@@ -195,9 +206,11 @@ const SNAPSHOT_TOLD: &[u8] = b"\xCA\x02\x40\x14\xB0\x00\x00\x00\x05\x00\x00\x00\
       \x05\x04name\x05value\x08severity\x10secondsPastEpoch\x0Bnanoseconds\
       \x01\x01X\x01\x0242\x01\x00\x00\x00\x00\x01\x00\x00\x00\x00\x00\x00\x00\x00\x01\x00\x00\x00\x00";
 
-/// No operation; an unknown one, with the bit 10; and no request is left.
+/// No argument; one without an operation; one with an unknown one, and with the bit 10; and no request is left.
 const CALL_NOTHING: &[u8] =
     b"\xCA\x02\x00\x14\x0A\x00\x00\x00\x01\x00\x00\x00\x05\x00\x00\x00\x00\xFF\
+      \xCA\x02\x00\x14\x37\x00\x00\x00\x01\x00\x00\x00\x05\x00\x00\x00\x00\
+      \x80\x12epics:nt/NTURI:1.0\x02\x06scheme\x60\x04path\x60\x03pva\x06server\
       \xCA\x02\x00\x14\x49\x00\x00\x00\x01\x00\x00\x00\x05\x00\x00\x00\x10\
       \x80\x12epics:nt/NTURI:1.0\x03\x06scheme\x60\x04path\x60\x05query\x80\x00\x01\x02op\x60\
       \x03pva\x06server\x04nope\
@@ -205,6 +218,7 @@ const CALL_NOTHING: &[u8] =
 
 const CALLS_REFUSED: &[u8] =
     b"\xCA\x02\x40\x14\x14\x00\x00\x00\x05\x00\x00\x00\x00\x02\x0Cnot an NTURI\x00\
+      \xCA\x02\x40\x14\x14\x00\x00\x00\x05\x00\x00\x00\x00\x02\x0Cnot an NTURI\x00\
       \xCA\x02\x40\x14\x19\x00\x00\x00\x05\x00\x00\x00\x10\x02\x11unknown operation\x00\
       \xCA\x02\x40\x14\x17\x00\x00\x00\x05\x00\x00\x00\x00\x02\x0Funknown request\x00";
 

@@ -13,10 +13,10 @@ use std::alloc::Global;
 use std::test::Fail;
 
 /// What the entries of a desk may weigh together.
-const LIMIT: u64 = 268_435_456;
+pub(crate) const LIMIT: u64 = 268_435_456;
 
 /// Three records, each a member of one group, of which the first triggers all.
-const GROUPED: &str = "\
+pub(crate) const GROUPED: &str = "\
 record(longout, \"A\") {
   field(VAL, \"1\")
   info(Q:group, {\"G\": {\"a\": {+channel:\"VAL\", +type:\"scalar\", +putorder:2, +trigger:\"*\"}}})
@@ -121,11 +121,11 @@ fn ports_for(alloc: Global, site: &Site) -> Result<Vec<Option<MemoryPort>>, NoMe
     Ok(ports)
 }
 
-/// The desk of the records of a text.
-pub(crate) fn desk_of(alloc: Global, text: &str) -> Result<SoloDesk<MemoryPort>, NoMemory> {
+/// The desk of the records of a text, whose entries may weigh no more than the limit together.
+pub(crate) fn desk_of(alloc: Global, text: &str, limit: u64) -> Result<SoloDesk<MemoryPort>, NoMemory> {
     let site = site_of(alloc, text)?;
     let ports = ports_for(alloc, &site)?;
-    SoloDesk::new(alloc, site, ports, LIMIT)
+    SoloDesk::new(alloc, site, ports, limit)
 }
 
 /// What a serving of this desk says to an input that comes at 100 seconds and 5 nanoseconds.
@@ -141,16 +141,22 @@ fn said_over(
     Ok((ended, output?))
 }
 
-/// What a serving of these records says to that input.
-pub(crate) fn said(
+/// What a serving of these records says to that input, where the entries have this limit.
+pub(crate) fn said_within(
     alloc: Global,
     text: &str,
+    limit: u64,
     input: &[u8],
 ) -> Result<(Result<(), Ended>, Vec<u8>), NoMemory> {
-    let mut desk = desk_of(alloc, text)?;
+    let mut desk = desk_of(alloc, text, limit)?;
     let said = said_over(alloc, &mut desk, input);
     discard(desk);
     said
+}
+
+/// The same where the entries may weigh as much as they like.
+fn said(alloc: Global, text: &str, input: &[u8]) -> Result<(Result<(), Ended>, Vec<u8>), NoMemory> {
+    said_within(alloc, text, LIMIT, input)
 }
 
 /// A client that gets the group's member b alone, puts 10, 20 and 30 to its members, and gets b again.
@@ -348,7 +354,7 @@ fn handled(
     alloc: Global,
 ) -> Result<(Result<(), SessionStop>, Vec<u8>, Result<bool, NoMemory>), NoMemory> {
     let payload = Vec::from_slice(alloc, &VALIDATION[8..])?;
-    let mut desk = desk_of(alloc, PROCESSED)?;
+    let mut desk = desk_of(alloc, PROCESSED, LIMIT)?;
     let handled = handled_over(alloc, &mut desk, payload);
     discard(desk);
     handled

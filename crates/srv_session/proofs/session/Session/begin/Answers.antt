@@ -1,8 +1,7 @@
 use Rattle.std.proofs.Common.{◌<◌, refl, sym, ◌∙◌, ap, subst}
 use Rattle.std.specs.FinMap.{get, len}
 use Rattle.pva_messages.specs.Views.{valued_view}
-use Rattle.chan_table.specs.Tables.{Tables, limit}
-use Rattle.desk_api.specs.declared.channel.Channel.{Channel}
+use Rattle.chan_table.specs.Tables.{limit}
 use Rattle.srv_session.specs.State.{State, channel_at}
 use Rattle.srv_session.specs.Tasks.{beginning}
 use Rattle.srv_session.specs.Views.{state_of, output_of, show}
@@ -25,15 +24,14 @@ pub returns-in-Ok : goal.returns-in-Ok
 returns-in-Ok g c legal moment =
     let seat = g.D.Desk.seat c.args.desk.now in
     let s = state_of c.args.self.now in
-    let after : Tables Channel (Unit {0}) → State = λ (t : Tables Channel (Unit {0})). record s { channels = t.channels; requests = t.asks } in
-    let kept = c.reserve.ensures.kept in
+    let state = c.make_room.ensures.state in
     let ready = (c.in-Ok.ensures {u = tt}).ready in
     let new = show seat c.begin_on.new.self in
     as_task (show seat c.args.self.now) new moment _ _ c.begin_on.result
     (may_begin seat.seen.base.site s c.args.kind c.args.req c.args.sub c.args.sid (valued_view c.args.request.now) (channel_at s.channels c.args.sid) c.in-Some.channel (sym c.channel_at.ensures ∙ c.in-Some.is)
-    (sym (ap (λ (t : Tables Channel (Unit {0})). get t.asks c.args.req) kept) ∙ ready.free)
-    (subst (λ (t : Tables Channel (Unit {0})). len t.asks < limit) kept ready.few))
-    (as_old seat s (after c.reserve.new.self) (output_of c.args.self.now) (output_of c.args.self.now) new moment _ c.begin_on.result (ap after kept) refl (c.begin_on.ensures legal moment))
+    (sym (ap (λ (z : State). get z.requests c.args.req) state) ∙ ready.free)
+    (subst (λ (z : State). len z.requests < limit) state ready.few))
+    (as_old seat s (state_of c.make_room.new.self) (output_of c.args.self.now) (output_of c.make_room.new.self) new moment _ c.begin_on.result state c.make_room.ensures.output (c.begin_on.ensures legal moment))
 
 pub returns-in-Err : goal.returns-in-Err
 returns-in-Err g c legal moment =
@@ -41,9 +39,8 @@ returns-in-Err g c legal moment =
     let site = seat.seen.base.site in
     let s = state_of c.args.self.now in
     let v = valued_view c.args.request.now in
-    let after : Tables Channel (Unit {0}) → State = λ (t : Tables Channel (Unit {0})). record s { channels = t.channels; requests = t.asks } in
     let new = show seat c.refuse_place.new.self in
-    as_old seat s (after c.reserve.new.self) (output_of c.args.self.now) (output_of c.args.self.now) new moment (beginning site s c.args.kind c.args.req c.args.sub c.args.sid v (channel_at s.channels c.args.sid)) c.refuse_place.result
-    (ap after c.reserve.ensures.kept) refl
+    as_old seat s (state_of c.make_room.new.self) (output_of c.args.self.now) (output_of c.make_room.new.self) new moment (beginning site s c.args.kind c.args.req c.args.sub c.args.sid v (channel_at s.channels c.args.sid))
+    c.refuse_place.result c.make_room.ensures.state c.make_room.ensures.output
     (place_refused site s c.args.kind c.args.req c.args.sub c.args.sid v (channel_at s.channels c.args.sid) c.in-Some.channel (sym c.channel_at.ensures ∙ c.in-Some.is)
-    (record c.args.self.now { table = c.reserve.new.self }) c.refuse_place.new.self seat legal moment c.in-Err.answer c.args.self.now.table c.refuse_place.result refl (c.in-Err.ensures {u = tt}).refused c.refuse_place.ensures)
+    c.make_room.new.self c.refuse_place.new.self seat legal moment c.in-Err.answer c.args.self.now.table c.refuse_place.result refl (c.in-Err.ensures {u = tt}).refused c.refuse_place.ensures)

@@ -1,4 +1,4 @@
-use Rattle.std.proofs.Common.{◌≡◌, sym, ◌∙◌, ap, subst}
+use Rattle.std.proofs.Common.{◌≡◌, sym, ◌∙◌, ap, subst, refl}
 use Rattle.std.specs.Prelude.{Bool, Option}
 use Rattle.pvd_value.specs.View.{view}
 use Rattle.desk_api.specs.Calls.{Calls, IsGet, IsPartOfGet}
@@ -11,6 +11,7 @@ use Rattle.desk_api.specs.Sites.{is_channel}
 use Rattle.std.specs.Prelude.{IsTrue}
 use Rattle.srv_session.proofs.Finding.{is_on_it, selected_there, valued_there, real_there}
 use Rattle.srv_session.proofs.Replying.{not_got, got_unsaid, told}
+use Rattle.srv_session.proofs.Slots.{still}
 use Rattle.srv_session.proofs.session.Session.get_from.Goals as goal
 
 pub get-requires : goal.get-requires
@@ -43,7 +44,7 @@ returns-in_err-value g c ask here atomic moment =
     let there = g.D.Desk.seat c.get.new.self in
     not_got seat there moment (state_of c.args.self.now) (state_of c.args.self.now) (output_of c.args.self.now) (output_of c.args.self.now) c.args.kind c.args.req c.args.sub ask c.args.found.channel
     c.from_residual.result
-    (subst (λ (a : Option Bool). Calls seat there (IsPartOfGet seat.seen.base.site c.args.found.channel a)) atomic failed.calls) c.from_residual.ensures.0 (λ i. output_of c.args.self.now)
+    (subst (λ (a : Option Bool). Calls seat there (IsPartOfGet seat.seen.base.site c.args.found.channel a)) atomic failed.calls) c.from_residual.ensures.0 (λ i. output_of c.args.self.now) refl
 
 pub returns-in_err-say_selected : goal.returns-in_err-say_selected
 returns-in_err-say_selected g c ask here atomic moment =
@@ -53,7 +54,7 @@ returns-in_err-say_selected g c ask here atomic moment =
     got_unsaid seat there moment (state_of c.args.self.now) (state_of c.say_selected.new.self) (output_of c.args.self.now) (output_of c.say_selected.new.self) c.args.kind c.args.req c.args.sub ask c.args.found.channel
     (view c.in_ok-value.value)
     (subst (λ (a : Option Bool). Calls seat there (IsGet seat.seen.base.site c.args.found.channel a (view c.in_ok-value.value))) atomic got.calls)
-    c.from_residual-in_err-say_selected.result c.from_residual-in_err-say_selected.ensures.0 ((c.in_err-say_selected.ensures {u = tt}).err)
+    c.from_residual-in_err-say_selected.result c.from_residual-in_err-say_selected.ensures.0 ((c.in_err-say_selected.ensures {u = tt}).err) (still (c.in_err-say_selected.ensures {u = tt}).state)
 
 pub returns : goal.returns
 returns g c ask here atomic moment =

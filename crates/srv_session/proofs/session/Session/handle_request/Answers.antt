@@ -6,9 +6,9 @@ use Rattle.pva_messages.specs.declared.to_server.ToServer.{ToServer}
 use Rattle.pva_messages.specs.Written.{FitsField}
 use Rattle.pvd_codec.specs.Written.{CanEach}
 use Rattle.srv_session.specs.State.{channel_at}
-use Rattle.srv_session.specs.Tasks.{Hearing, asks, echo, create, pass_over, validated_by, asked_get, asked_field, asked_call, asked_end, asked_request_end, heard_message}
+use Rattle.srv_session.specs.Tasks.{Hearing, asks, echo, create, pass_over, validated_by, asked_get, asked_field, asked_call, asked_end, asked_request_end, heard_message, heard_monitor}
 use Rattle.srv_session.specs.Views.{state_of, show, HasPlace}
-use Rattle.srv_session.proofs.Beginning.{get_fits, put_fits, put_get_fits, call_fits}
+use Rattle.srv_session.proofs.Beginning.{get_fits, put_fits, put_get_fits, call_fits, monitor_fits}
 use Rattle.srv_session.proofs.Heeding.{heeds_as, heeds_so}
 use Rattle.srv_session.proofs.session.Session.handle_request.Goals as goal
 
@@ -64,11 +64,8 @@ returns-in-DestroyChannel g c =
     let s = state_of c.args.self.now in
     let whole = whole_of c.args.message.now in
     let hears : ToServer → Hearing = λ (r : ToServer). heard_message seat.seen.base.site s whole s.types (request_view r) in
-    let old = show seat c.args.self.now in
-    let new = show seat c.destroy_channel.new.self in
-    let task = asked_end s c.in-DestroyChannel.sid c.in-DestroyChannel.cid in
-    heeds_so old new c.args.moment (hears c.args.request.now) (asks task s.types) c.stopping-in-DestroyChannel.result (ap hears c.in-DestroyChannel.is)
-    (heeds_as old new c.args.moment task c.destroy_channel.result c.stopping-in-DestroyChannel.result c.stopping-in-DestroyChannel.ensures (c.destroy_channel.ensures seat c.has_legal_history.ensures c.args.moment))
+    heeds_so (show seat c.args.self.now) (show (g.D.Desk.seat c.destroy_channel.new.desk) c.destroy_channel.new.self) c.args.moment (hears c.args.request.now) (asks (asked_end s c.in-DestroyChannel.sid c.in-DestroyChannel.cid) s.types) c.destroy_channel.result (ap hears c.in-DestroyChannel.is)
+    (c.destroy_channel.ensures c.args.moment)
 
 pub returns-in-DestroyRequest : goal.returns-in-DestroyRequest
 returns-in-DestroyRequest g c =
@@ -76,11 +73,8 @@ returns-in-DestroyRequest g c =
     let s = state_of c.args.self.now in
     let whole = whole_of c.args.message.now in
     let hears : ToServer → Hearing = λ (r : ToServer). heard_message seat.seen.base.site s whole s.types (request_view r) in
-    let old = show seat c.args.self.now in
-    let new = show seat c.destroy_request.new.self in
-    let task = asked_request_end s c.in-DestroyRequest.sid c.in-DestroyRequest.req in
-    heeds_so old new c.args.moment (hears c.args.request.now) (asks task s.types) c.stopping-in-DestroyRequest.result (ap hears c.in-DestroyRequest.is)
-    (heeds_as old new c.args.moment task c.destroy_request.result c.stopping-in-DestroyRequest.result c.stopping-in-DestroyRequest.ensures (c.destroy_request.ensures seat c.has_legal_history.ensures c.args.moment))
+    heeds_so (show seat c.args.self.now) (show (g.D.Desk.seat c.destroy_request.new.desk) c.destroy_request.new.self) c.args.moment (hears c.args.request.now) (asks (asked_request_end s c.in-DestroyRequest.sid c.in-DestroyRequest.req) s.types) c.destroy_request.result (ap hears c.in-DestroyRequest.is)
+    (c.destroy_request.ensures c.args.moment)
 
 pub returns-in-Cancel : goal.returns-in-Cancel
 returns-in-Cancel g c =
@@ -166,3 +160,18 @@ returns-in-Rpc g c =
     let task = asked_call seat.seen.base.site s c.in-Rpc.sid c.in-Rpc.req c.in-Rpc.sub (valued_view c.in-Rpc.argument) in
     heeds_so old new c.args.moment (hears c.args.request.now) (asks task s.types) c.stopping-in-Rpc.result (ap hears c.in-Rpc.is)
     (heeds_as old new c.args.moment task c.answer_call.result c.stopping-in-Rpc.result c.stopping-in-Rpc.ensures (c.answer_call.ensures c.args.moment))
+
+pub answer_monitor-requires-clause-fits : goal.answer_monitor-requires-clause-fits
+answer_monitor-requires-clause-fits g c =
+    monitor_fits c.in-Monitor.sid c.in-Monitor.req c.in-Monitor.sub c.in-Monitor.request c.in-Monitor.count (subst (λ (r : ToServer). CanEach FitsField (request_fields (request_view r))) c.in-Monitor.is c.requires.fits)
+
+pub returns-in-Monitor : goal.returns-in-Monitor
+returns-in-Monitor g c =
+    let seat = g.D.Desk.seat c.args.desk.now in
+    let site = seat.seen.base.site in
+    let s = state_of c.args.self.now in
+    let whole = whole_of c.args.message.now in
+    let hears : ToServer → Hearing = λ (r : ToServer). heard_message site s whole s.types (request_view r) in
+    heeds_so (show seat c.args.self.now) (show (g.D.Desk.seat c.answer_monitor.new.desk) c.answer_monitor.new.self) c.args.moment (hears c.args.request.now)
+    (heard_monitor site s s.types c.in-Monitor.sid c.in-Monitor.req c.in-Monitor.sub (valued_view c.in-Monitor.request) c.in-Monitor.count) c.answer_monitor.result (ap hears c.in-Monitor.is)
+    (c.answer_monitor.ensures c.args.moment)

@@ -9,6 +9,7 @@ use Rattle.srv_session.specs.Rows.{behind}
 use Rattle.srv_session.specs.Views.{state_of, output_of}
 use Rattle.srv_session.proofs.Finding.{real_there}
 use Rattle.srv_session.proofs.Replying.{put_unsaid, put_said}
+use Rattle.srv_session.proofs.Slots.{still}
 use Rattle.srv_session.proofs.session.Session.put.Goals as goal
 
 pub put-answer-requires-clause-channel : goal.put-answer-requires-clause-channel
@@ -23,7 +24,7 @@ returns-in_err-problem g c ask here atomic =
     let with : Option Bool → calls.Asked = λ (a : Option Bool). record { site = seat.seen.base.site; channel = c.args.found.channel; mask = c.args.mask.now; value = view c.args.value.now; moment = c.args.moment; atomic = a } in
     put_unsaid seat there c.args.moment (state_of c.args.self.now) (state_of c.args.self.now) (output_of c.args.self.now) (output_of c.args.self.now) c.args.req c.args.sub ask c.args.found.channel c.args.mask.now (view c.args.value.now)
     c.put-answer.result (subst (λ (a : Option Bool). Calls seat there (ArePut (with a) c.put-answer.result)) atomic c.put-answer.ensures.calls)
-    c.from_residual.result c.from_residual.ensures.0 refl
+    c.from_residual.result c.from_residual.ensures.0 refl refl
 
 pub returns-in_err-say_answer : goal.returns-in_err-say_answer
 returns-in_err-say_answer g c ask here atomic =
@@ -32,7 +33,7 @@ returns-in_err-say_answer g c ask here atomic =
     let with : Option Bool → calls.Asked = λ (a : Option Bool). record { site = seat.seen.base.site; channel = c.args.found.channel; mask = c.args.mask.now; value = view c.args.value.now; moment = c.args.moment; atomic = a } in
     put_unsaid seat there c.args.moment (state_of c.args.self.now) (state_of c.say_answer.new.self) (output_of c.args.self.now) (output_of c.say_answer.new.self) c.args.req c.args.sub ask c.args.found.channel c.args.mask.now (view c.args.value.now)
     c.put-answer.result (subst (λ (a : Option Bool). Calls seat there (ArePut (with a) c.put-answer.result)) atomic c.put-answer.ensures.calls)
-    c.from_residual-in_err-say_answer.result c.from_residual-in_err-say_answer.ensures.0 ((c.in_err-say_answer.ensures {u = tt}).err)
+    c.from_residual-in_err-say_answer.result c.from_residual-in_err-say_answer.ensures.0 ((c.in_err-say_answer.ensures {u = tt}).err) (still (c.in_err-say_answer.ensures {u = tt}).state)
 
 pub returns : goal.returns
 returns g c ask here atomic =

@@ -31,7 +31,7 @@ returns-in_err-mask g c ask here atomic =
     not_heard seat s (knowing s c.read_request_part.new.registry) (output_of c.args.self.now) (output_of c.args.self.now) c.args.moment
     (reading_part c.args.gets site whole s.types c.args.req c.args.sub (ask, c.args.found.channel)) (stop_by fault) c.from_residual.result c.from_residual.ensures.1
     (part_stops c.args.gets site whole s.types c.args.req c.args.sub (ask, c.args.found.channel) c.type_on-ty.result.now c.type_on-ty.ensures fault exact.0 exact.1)
-    c.has_legal_history.ensures refl
+    c.has_legal_history.ensures refl refl
 
 pub put_as-requires-clause-leaves : goal.put_as-requires-clause-leaves
 put_as-requires-clause-leaves g c =

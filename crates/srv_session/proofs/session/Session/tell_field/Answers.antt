@@ -5,6 +5,7 @@ use Rattle.srv_session.specs.Replies.{said, field_told, field_refused}
 use Rattle.srv_session.specs.Tasks.{tell, refuse, told_field}
 use Rattle.srv_session.specs.Views.{state_of, output_of, show}
 use Rattle.srv_session.proofs.Rows.{on_ok, says_this, said_one, as_task}
+use Rattle.srv_session.proofs.Slots.{still, on_err}
 use Rattle.srv_session.proofs.session.Session.tell_field.Goals as goal
 
 pub returns-in-Some : goal.returns-in-Some
@@ -13,7 +14,7 @@ returns-in-Some c seat legal moment =
     let told = field_told c.args.req c.in-Some.node in
     as_task (show seat c.args.self.now) (show seat c.say_field_type.new.self) moment (tell told) _ c.say_field_type.result (ap (told_field c.args.req) found)
     (said_one seat moment (state_of c.args.self.now) (state_of c.say_field_type.new.self) (output_of c.args.self.now) (output_of c.say_field_type.new.self) (tell told) c.say_field_type.result (said told) legal
-    (says_this _) (on_ok c.say_field_type.result c.say_field_type.ensures.state) c.say_field_type.ensures.ok c.say_field_type.ensures.err)
+    (says_this _) (on_ok c.say_field_type.result c.say_field_type.ensures.state) c.say_field_type.ensures.ok c.say_field_type.ensures.err (on_err c.say_field_type.result (still c.say_field_type.ensures.state)))
 
 pub returns-in-None : goal.returns-in-None
 returns-in-None c seat legal moment =

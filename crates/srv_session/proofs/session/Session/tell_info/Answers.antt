@@ -13,7 +13,7 @@ pub returns-in_err-told : goal.returns-in_err-told
 returns-in_err-told g c legal moment =
     let seat = g.D.Desk.seat c.args.desk.now in
     gave_up seat moment (state_of c.args.self.now) (state_of c.args.self.now) (output_of c.args.self.now) (output_of c.args.self.now)
-    (respond c.args.req c.args.sub (called c.args.req c.args.sub info_tree (info_of seat.seen.base.site))) c.from_residual.result legal c.from_residual.ensures.0 refl
+    (respond c.args.req c.args.sub (called c.args.req c.args.sub info_tree (info_of seat.seen.base.site))) c.from_residual.result legal c.from_residual.ensures.0 refl refl
 
 pub returns : goal.returns
 returns g c legal moment =

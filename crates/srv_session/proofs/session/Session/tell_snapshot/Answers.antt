@@ -8,25 +8,26 @@ use Rattle.srv_session.specs.Replies.{spelled, said, called}
 use Rattle.srv_session.specs.Rows.{behind, rows_data}
 use Rattle.srv_session.specs.Views.{state_of, output_of}
 use Rattle.srv_session.proofs.Replying.{not_looked, look_unsaid, look_said}
+use Rattle.srv_session.proofs.Slots.{still}
 use Rattle.srv_session.proofs.session.Session.tell_snapshot.Goals as goal
 
 pub returns-in_err-rows : goal.returns-in_err-rows
 returns-in_err-rows g c moment =
     let failed = c.in_err-rows.ensures {u = tt} in
     not_looked (g.D.Desk.seat c.args.desk.now) (g.D.Desk.seat c.snapshot.new.self) moment (state_of c.args.self.now) (state_of c.args.self.now) (output_of c.args.self.now) (output_of c.args.self.now) c.args.req c.args.sub
-    c.from_residual.result failed.calls c.from_residual.ensures.0 refl
+    c.from_residual.result failed.calls c.from_residual.ensures.0 refl refl
 
 pub returns-in_err-told : goal.returns-in_err-told
 returns-in_err-told g c moment =
     let got = c.in_ok-rows.ensures {u = tt} in
     look_unsaid (g.D.Desk.seat c.args.desk.now) (g.D.Desk.seat c.snapshot.new.self) moment (state_of c.args.self.now) (state_of c.args.self.now) (output_of c.args.self.now) (output_of c.args.self.now) c.args.req c.args.sub
-    c.in_ok-rows.rows.items got.calls c.from_residual-in_err-told.result c.from_residual-in_err-told.ensures.0 refl
+    c.in_ok-rows.rows.items got.calls c.from_residual-in_err-told.result c.from_residual-in_err-told.ensures.0 refl refl
 
 pub returns-in_err-say_result : goal.returns-in_err-say_result
 returns-in_err-say_result g c moment =
     let got = c.in_ok-rows.ensures {u = tt} in
     look_unsaid (g.D.Desk.seat c.args.desk.now) (g.D.Desk.seat c.snapshot.new.self) moment (state_of c.args.self.now) (state_of c.say_result.new.self) (output_of c.args.self.now) (output_of c.say_result.new.self) c.args.req c.args.sub
-    c.in_ok-rows.rows.items got.calls c.from_residual-in_err-say_result.result c.from_residual-in_err-say_result.ensures.0 ((c.in_err-say_result.ensures {u = tt}).err)
+    c.in_ok-rows.rows.items got.calls c.from_residual-in_err-say_result.result c.from_residual-in_err-say_result.ensures.0 ((c.in_err-say_result.ensures {u = tt}).err) (still (c.in_err-say_result.ensures {u = tt}).state)
 
 pub returns : goal.returns
 returns g c moment =

@@ -1,0 +1,179 @@
+// Updates of monitors (pvAccess Protocol Specification, "Channel Monitor").
+ghost use Rattle.std.specs.Prelude.{◌≡◌, ◌-◌, option_map};
+ghost use Rattle.std.specs.FinMap.{get as at};
+ghost use Rattle.srv_session.specs.State.{is_window_open};
+ghost use Rattle.srv_session.specs.Steps.{with_sent};
+
+use crate::asking::type_on;
+use crate::session::Session;
+use chan_table::Table;
+use desk_api::{Channel, Desk, Sub};
+use mon_queue::Update;
+use mon_window::Window;
+use pva_messages::write_monitor_update;
+use pvd_type::{NoMemory, PvType};
+
+/// Whether one more update may be sent.
+fn is_open(window: Option<Window>) -> bool
+    ensures { result ≡ is_window_open window }
+{
+    match window {
+        Some(mut copy) => copy.take(),
+        None => true,
+    }
+}
+
+/// The window once an update was sent.
+fn spent(window: Option<Window>) -> Option<Window>
+    ensures { result ≡ option_map (λ free. free - 1) window }
+{
+    match window {
+        Some(mut copy) => {
+            copy.take();
+            Some(copy)
+        }
+        None => None,
+    }
+}
+
+/// Takes one update out of the window of a monitor.
+fn spend_in(table: &mut Table<Channel, Sub>, req: u32)
+    ensures asks { table.new.asks ≡ with_sent req (at table.old.asks req) table.old.asks }
+    ensures channels { table.new.channels ≡ table.old.channels }
+{
+    if let Some(ask) = table.ask_mut(req) {
+        ask.window = spent(ask.window);
+    }
+}
+
+impl Session {
+    ghost use Rattle.std.specs.Prelude.{◌≡◌, ◌++◌, true, OnOk, OnErr};
+    ghost use Rattle.std.specs.FinMap.{get as at};
+    ghost use Rattle.mon_queue.specs.Told.{IsUpdateOf};
+    ghost use Rattle.srv_session.specs.State.{is_due, slots_of};
+    ghost use Rattle.srv_session.specs.Calls.{AreLiving, Holds, IsOf, Pumps};
+    ghost use Rattle.srv_session.specs.Replies.{said, spelled, updated};
+    ghost use Rattle.srv_session.specs.Steps.{with_sent};
+    ghost use Rattle.srv_session.specs.Views.{state_of, output_of, show};
+    ghost use Rattle.srv_session.specs.Watching.{Pops, PopsDue, SendsUpdate};
+
+    /// Whether a request is a monitor that is started and may be sent an update.
+    fn is_due(&self, req: u32) -> bool
+        ensures { result ≡ is_due (at (state_of self.now).requests req) }
+    {
+        match self.table.ask(req) {
+            Some(ask) => ask.sub.is_some() && (ask.started && is_open(ask.window)),
+            None => false,
+        }
+    }
+
+    /// Adds an update of a monitor: what changed, and of that what changed more than once since the update before it (the overrun bit
+    /// set).
+    fn say_update(&mut self, req: u32, ty: &PvType, update: &Update) -> Result<(), NoMemory>
+        requires { IsUpdateOf ty.now update.now }
+        ensures state { state_of self.new ≡ state_of self.old }
+        ensures table { self.new.table ≡ self.old.table }
+        ensures monitors { self.new.monitors ≡ self.old.monitors }
+        ensures ok { OnOk result (output_of self.new ≡ output_of self.old ++ spelled self.old.order self.old.segment (said (updated req ty.now update.now))) }
+        ensures err { OnErr result (output_of self.new ≡ output_of self.old) }
+    {
+        write_monitor_update(
+            &mut self.output,
+            self.order,
+            self.segment,
+            req,
+            ty,
+            &update.changed,
+            &update.value,
+            &update.overrun,
+        )
+    }
+
+    /// Takes one update out of the window of a monitor.
+    fn spend(&mut self, req: u32)
+        ensures state { state_of self.new ≡ record (state_of self.old) { requests = with_sent req (at (state_of self.old).requests req) (state_of self.old).requests } }
+        ensures monitors { self.new.monitors ≡ self.old.monitors }
+        ensures output { output_of self.new ≡ output_of self.old }
+    {
+        spend_in(&mut self.table, req);
+    }
+
+    /// Sends an update of the monitor of this id.
+    fn send(&mut self, req: u32, ty: &PvType, update: Update) -> Result<(), NoMemory>
+        requires { IsUpdateOf ty.now update }
+        ensures sends { SendsUpdate self.old self.new req ty.now update result }
+        ensures monitors { self.new.monitors ≡ self.old.monitors }
+    {
+        self.say_update(req, ty, &update)?;
+        self.spend(req);
+        Ok(())
+    }
+
+    /// Pops the monitor of this id, which is due, and sends the update that was unread, if there was one. It says whether one was sent,
+    /// here or before.
+    fn pop<D: Desk>(&mut self, req: u32, sent: bool, desk: &mut D) -> Result<bool, NoMemory>
+        requires site { IsOf (D.seat desk.old).seen.base.site (state_of self.old) }
+        requires holds { Holds (D.seat desk.old).log (state_of self.old) }
+        requires due { is_due (at (state_of self.old).requests req) ≡ true }
+        ensures pops { Pops (D.seat desk.old) (D.seat desk.new) self.old self.new req sent result }
+        ensures monitors { self.new.monitors ≡ self.old.monitors }
+    {
+        desk.has_legal_history();
+        let Some(ask) = self.table.ask(req) else {
+            return Err(NoMemory);
+        };
+        let Some(sub) = &ask.sub else {
+            return Err(NoMemory);
+        };
+        let Some(channel) = self.channel_at(ask.sid) else {
+            return Err(NoMemory);
+        };
+        match desk.pop(sub) {
+            Some(update) => {
+                self.send(req, type_on(desk, channel), update)?;
+                Ok(true)
+            }
+            None => Ok(sent),
+        }
+    }
+
+    /// Pops the monitor of this id, if it is due.
+    fn pop_due<D: Desk>(&mut self, req: u32, sent: bool, desk: &mut D) -> Result<bool, NoMemory>
+        requires site { IsOf (D.seat desk.old).seen.base.site (state_of self.old) }
+        requires holds { Holds (D.seat desk.old).log (state_of self.old) }
+        ensures { PopsDue (D.seat desk.old) (D.seat desk.new) self.old self.new req sent result }
+    {
+        desk.has_legal_history();
+        if !self.is_due(req) {
+            return Ok(sent);
+        }
+        self.pop(req, sent, desk)
+    }
+
+    /// Pops each started monitor whose window is open once, by the rising ids of their requests, and adds the updates. It says whether
+    /// there was one; where there was, more may be unread. It takes time for the monitors alone.
+    ///
+    /// What a monitor shows: its first update has all leaves that it asked for, as they were when it began. A later one has the leaves
+    /// that changed since, as the newest change left them; those that changed more than once since the update before it are marked as
+    /// overrun. All updates that a client was sent, laid over one another, are what the channel shows.
+    pub fn pump<D: Desk>(&mut self, desk: &mut D) -> Result<bool, NoMemory>
+        requires site { IsOf (D.seat desk.old).seen.base.site (state_of self.old) }
+        requires holds { Holds (D.seat desk.old).log (state_of self.old) }
+        ensures pumps { Pumps (show (D.seat desk.old) self.old) (show (D.seat desk.new) self.new) result }
+        ensures site { OnOk result (IsOf (D.seat desk.new).seen.base.site (state_of self.new)) }
+        ensures holds { OnOk result (Holds (D.seat desk.new).log (state_of self.new)) }
+        ensures living { AreLiving (D.seat desk.new).log (slots_of (state_of self.new).requests) }
+    {
+        desk.has_legal_history();
+        let mut sent = false;
+        let count = self.monitors.len();
+        for i in 0..count {
+            let req = self.monitors[i];
+            let Ok(more) = self.pop_due(req, sent, desk) else {
+                return Err(NoMemory);
+            };
+            sent = more;
+        }
+        Ok(sent)
+    }
+}
