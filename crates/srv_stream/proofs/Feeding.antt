@@ -16,21 +16,22 @@ use Rattle.desk_api.specs.History.{IsLegal}
 use Rattle.desk_api.specs.declared.history.Base.{Base}
 use Rattle.desk_api.specs.declared.history.SiteData.{SiteData}
 use Rattle.desk_api.specs.declared.mark.Mark.{Mark}
-use Rattle.desk_api.specs.declared.mark.Mark.TheVariants.{Read, Entered, Overweight}
+use Rattle.desk_api.specs.declared.mark.Mark.TheVariants.{Read, Entered, Overweight, Begun, Crowded, Popped, Dropped}
 use Rattle.desk_api.specs.declared.mark.Seat.{Seat}
 use Rattle.journal_core.specs.Moments.{Moment}
 use Rattle.srv_session.specs.Calls.{Shown, site_of, Handled}
-use Rattle.srv_session.specs.Calls.{IsOf}
-use Rattle.srv_session.specs.State.{State}
-use Rattle.srv_session.specs.Steps.{Step, state_after, events_of, marks_of}
+use Rattle.srv_session.specs.Calls.{AreLiving, Holds, IsOf}
+use Rattle.srv_session.specs.State.{State, slots_of}
+use Rattle.srv_session.specs.Steps.{Step, hears, state_after, events_of, marks_of}
 use Rattle.srv_stream.specs.Streams.{moment_told, is_sound, refused, Stands, Follows, View, Passed, FedOn, FedUpTo, FedPart, FedErr, Feeds}
 use Rattle.srv_stream.specs.declared.ended.Ended.{Ended}
 use Rattle.srv_stream.specs.declared.ended.Ended.TheVariants as ends
-use Rattle.srv_stream.proofs.Passing.{grown_on, grown, part_grows, passed_nothing, passed_fed, fed_on_more, fed_err}
+use Rattle.srv_stream.proofs.Passing.{grown_on, grown, part_grows, left_grows, passed_nothing, passed_fed, fed_on_more, fed_err}
 use Rattle.srv_stream.proofs.Resting.{sound_fed}
+use Rattle.srv_session.proofs.Kept.{are_living, begin_free, holds_steps}
 use Rattle.srv_session.proofs.Steps.{step_on_site, steps_on_site}
 
--- The session's channel stays one of the site.
+-- The session's channels stay the site's, and its subscriptions live.
 
 pub passed_on_site : {old mid : Seat} {told : Option Moment} {v u : View} {xs : List ℕ} → Passed old mid told v u xs → IsOf old.seen.base.site v.state → IsOf mid.seen.base.site u.state
 passed_on_site {old} {mid} {told} {v} {u} {xs} a ok =
@@ -38,8 +39,17 @@ passed_on_site {old} {mid} {told} {v} {u} {xs} a ok =
 
 pub handled_on_site : {old new : Shown} {moment : Moment} (e : Event) → Handled old new moment e → IsOf (site_of old) old.state → IsOf (site_of new) new.state
 handled_on_site {old} {new} {moment} e x ok =
-    let step : Step = record { event = e; marks = x.marks; sent = x.sent } in
+    let step : Step = hears e x.marks x.sent in
     subst (λ (z : Base). IsOf z.site new.state) (sym x.adds.grows.base) (subst (IsOf (site_of old)) (sym x.state) (step_on_site (site_of old) old.state step ok))
+
+pub passed_holds : {old mid : Seat} {told : Option Moment} {v u : View} {xs : List ℕ} → Passed old mid told v u xs → Holds old.log v.state → Holds mid.log u.state
+passed_holds {old} {mid} {told} {v} {u} {xs} a holds =
+    subst (λ (l : List Mark). Holds l u.state) (sym a.adds.log)
+    (subst (Holds (old.log ++ marks_of a.steps)) (sym a.state)
+    (holds_steps old.seen.base.site v.state old.log a.steps holds a.rules (begin_free mid.seen mid.number old.log (marks_of a.steps) a.adds.true_)))
+
+pub passed_living : {old mid : Seat} {told : Option Moment} {v u : View} {xs : List ℕ} → Passed old mid told v u xs → Holds old.log v.state → AreLiving mid.log (slots_of u.state.requests)
+passed_living {old} {mid} {told} {v} {u} {xs} a holds = are_living mid.log u.state (passed_holds a holds)
 
 -- What ended it ends it, whatever bytes follow.
 
@@ -68,6 +78,7 @@ module _ {old new : Seat} {told : Option Moment} {v w : View} {xs : List ℕ} (y
   up_to_on : {ended : Ended} → FedUpTo old new told v w xs ended → FedUpTo old new told v w (xs ++ ys) ended
   up_to_on {ended} b = record {
     steps = b.steps;
+    subscribed = b.subscribed;
     follows = subst (λ (a : Assembled). Follows old.seen.base.site v.state a b.steps (Some ended)) (fed-join v.stream xs ys) (follows_on ys b.follows);
     adds = b.adds;
     moments = b.moments;
@@ -85,6 +96,7 @@ module _ {old new : Seat} {told : Option Moment} {v w : View} {xs : List ℕ} (y
           whole = g.1 ∙ ap (λ (l : List Event). l ++ g.0) b.front.whole ∙ append_assoc (events_of b.steps) b.front.rest g.0;
         };
         part = part_grows old.seen.base.site (state_after old.seen.base.site v.state b.steps) b.front.rest g.0 b.more b.part;
+        subscribed = b.subscribed ∙ sym (left_grows old.seen.base.site (state_after old.seen.base.site v.state b.steps) b.front.rest g.0 b.more b.part);
         adds = b.adds;
         moments = b.moments;
         out = b.out;
@@ -92,7 +104,6 @@ module _ {old new : Seat} {told : Option Moment} {v w : View} {xs : List ℕ} (y
 
 pub err_on : (old new : Seat) (told : Option Moment) (v w : View) (xs ys : List ℕ) (ended : Ended) → FedErr old new told v w xs ended → FedErr old new told v w (xs ++ ys) ended
 err_on old new told v w xs ys (ends.Bad fault place) x = up_to_on ys x
-err_on old new told v w xs ys (ends.NotBuilt command place) x = up_to_on ys x
 err_on old new told v w xs ys ends.NoMemory x = part_on ys x
 err_on old new told v w xs ys ends.Closed x = x
 err_on old new told v w xs ys (ends.Truncated place) x = x
@@ -131,6 +142,10 @@ moments_told None moment [] is h = tt
 moments_told None moment (Read at channel footprint found ∷ marks) is h = (tt, moments_told None moment marks is h.1)
 moments_told None moment (Entered at entry looked found ∷ marks) is h = (tt, moments_told None moment marks is h.1)
 moments_told None moment (Overweight at footprint actions kept added limit ∷ marks) is h = (tt, moments_told None moment marks is h.1)
+moments_told None moment (Begun at index slot channel mask size ∷ marks) is h = (tt, moments_told None moment marks is h.1)
+moments_told None moment (Crowded at index count ∷ marks) is h = (tt, moments_told None moment marks is h.1)
+moments_told None moment (Popped at slot update ∷ marks) is h = (tt, moments_told None moment marks is h.1)
+moments_told None moment (Dropped at index slot ∷ marks) is h = (tt, moments_told None moment marks is h.1)
 moments_told (Some t) moment marks is h = subst (λ (m : Moment). HaveMoment (Some m) marks) is h
 
 pub told_is : (told : Option (ℤ × ℕ)) (moment : Moment) (seconds : ℤ) (nanoseconds : ℕ) → moment ≡ record { seconds = seconds; nanoseconds = nanoseconds } → IfSome told (λ t. (seconds ≡ t.0) × (nanoseconds ≡ t.1))
@@ -159,6 +174,7 @@ told_up_to : {old new : Seat} {v w : View} {bytes : List ℕ} {ended : Ended} (t
     → FedUpTo old new (Some moment) v w bytes ended → FedUpTo old new (moment_told told) v w bytes ended
 told_up_to told moment is b = record {
   steps = b.steps;
+  subscribed = b.subscribed;
   follows = b.follows;
   adds = b.adds;
   moments = moments_told told moment (marks_of b.steps) is b.moments;
@@ -173,6 +189,7 @@ told_part told moment is b = record {
   rules = b.rules;
   front = b.front;
   part = b.part;
+  subscribed = b.subscribed;
   adds = b.adds;
   moments = moments_told told moment (marks_of b.steps ++ b.more) is b.moments;
   out = b.out;
@@ -182,7 +199,6 @@ pub feeds_told : (old new : Seat) (told : Option (ℤ × ℕ)) (moment : Moment)
     → IfSome told (λ t. moment ≡ record { seconds = t.0; nanoseconds = t.1 }) → Feeds old new (Some moment) v w bytes result → Feeds old new (moment_told told) v w bytes result
 feeds_told old new told moment v w bytes (Ok u) is x = told_on told moment is x
 feeds_told old new told moment v w bytes (Err (ends.Bad fault place)) is x = told_up_to told moment is x
-feeds_told old new told moment v w bytes (Err (ends.NotBuilt command place)) is x = told_up_to told moment is x
 feeds_told old new told moment v w bytes (Err ends.NoMemory) is x = told_part told moment is x
 feeds_told old new told moment v w bytes (Err ends.Closed) is x = x
 feeds_told old new told moment v w bytes (Err (ends.Truncated place)) is x = x

@@ -8,9 +8,9 @@ use Rattle.pva_frames.specs.Assembled.{opening as unread, fed, rest_of}
 use Rattle.desk_api.specs.Calls.{Adds, HaveMoment}
 use Rattle.desk_api.specs.declared.history.SiteData.{SiteData}
 use Rattle.desk_api.specs.declared.mark.Seat.{Seat}
-use Rattle.srv_session.specs.State.{opening}
+use Rattle.srv_session.specs.State.{opening, slots_of}
 use Rattle.srv_session.specs.Replies.{greeting}
-use Rattle.srv_session.specs.Steps.{Step, state_after, marks_of, out_of}
+use Rattle.srv_session.specs.Steps.{Step, state_after, marks_of, out_of, IsDrained}
 use Rattle.srv_stream.specs.Streams.{View, Follows}
 use Rattle.srv_stream.specs.Moves.{Moves, IsAll}
 use Rattle.srv_stream.specs.Served.{Settled}
@@ -36,6 +36,7 @@ pub record Going (old new : Seat) (start wire : Wire) (told : Option Moment) (or
   pub moves : Moves start wire read written
   pub follows : Follows old.seen.base.site (opening order) (fed unread read) steps trouble
   pub keeps : trouble ≡ None → Keeps old.seen.base.site order v read steps
+  pub slots : slots_of v.state.requests ≡ slots_of (state_after old.seen.base.site (opening order) steps).requests
   pub adds : Adds old new (marks_of steps)
   pub moments : HaveMoment told (marks_of steps)
   pub bytes : greeting order ++ out_of old.seen.base.site (opening order) steps ≡ written ++ v.pending
@@ -46,10 +47,11 @@ pub record Going (old new : Seat) (start wire : Wire) (told : Option Moment) (or
   pub calm : at_end ≡ true → trouble ≡ None
   pub quota : wire.idles + 1 < 2 ^ 64 → start.idles + calls ≤ wire.idles + length read + length written + (if at_end then 1 else 0)
 
--- the same, with nothing to be written
+-- the same, with nothing to be written, and nothing unread that may be sent, unless the stream is at fault
 pub record Idling (old new : Seat) (start wire : Wire) (told : Option Moment) (order : Order) (v : View) (trouble : Option Ended) (at_end : Bool) (calls : ℕ) : Type 0 where
   pub going : Going old new start wire told order v trouble at_end calls
   pub empty : v.pending ≡ []
+  pub dry : trouble ≡ None → IsDrained old.seen.base.site (opening order) going.steps
 
 -- How it ends once all is written: what is wrong in the stream, or that the end was met.
 
@@ -71,7 +73,8 @@ RestIs (Some ends.Closed) rest = rest ≡ None
 RestIs (Some (ends.Truncated place)) rest = rest ≡ Some place
 RestIs (Some ended) rest = ⊤
 
--- a connection that ends so once all is written, or goes on
-pub record Standing (old new : Seat) (start wire : Wire) (told : Option Moment) (order : Order) (v : View) (over : Option Ended) (calls : ℕ) : Type 0 where
+-- a connection that ends so once all is written, or goes on; whether its monitors were popped until nothing was unread
+pub record Standing (old new : Seat) (start wire : Wire) (told : Option Moment) (order : Order) (v : View) (over : Option Ended) (pumped : Bool) (calls : ℕ) : Type 0 where
   pub going : Going old new start wire told order v (trouble_of over) (is_met over) calls
   pub rest : RestIs over (rest_of v.stream.left)
+  pub dry : pumped ≡ true → IsDrained old.seen.base.site (opening order) going.steps

@@ -1,40 +1,41 @@
 -- A connection goes on by one call.
-use Rattle.std.proofs.Common.{◌≡◌, ℕ, ◌+◌, ◌<◌, ◌≤◌, ◌⊎◌, inl, inr, Bool, true, false, List, [], ◌∷◌, ◌++◌, length, take, drop, Option, None, Some, is_some, Result, Ok, Err, refl, sym, ◌∙◌, ap, subst, arith, append_assoc, length-append, length-take, take-append-drop, eqb}
+use Rattle.std.proofs.Common.{◌≡◌, ℕ, ◌+◌, ◌<◌, ◌≤◌, ◌⊎◌, inl, inr, Bool, true, false, List, [], ◌∷◌, ◌++◌, length, take, drop, Option, None, Some, is_some, Result, Ok, Err, refl, sym, ◌∙◌, ap, subst, arith, append_assoc, length-append, length-take, take-append-drop}
 use Rattle.std.specs.Result.{result_err}
 use Rattle.std.proofs.lemmas.Bool.{false≢true}
 use Rattle.std.proofs.lemmas.Option.{none-some}
-use Rattle.std.proofs.Math.Dec.{eqb-suc-zero}
 use Rattle.std.proofs.lemmas.List.{append-nil}
 use Rattle.pva_outside.specs.Count.{Rose}
-use Rattle.pva_outside.specs.Wire.{Wire, Gave, Taken, Idled, CameToEnd, Unchanged}
+use Rattle.pva_outside.specs.Wire.{Wire, Gave, Taken, Idled, CameToEnd}
 use Rattle.pva_wire.specs.declared.order.Order.{Order}
 use Rattle.pva_frames.specs.Messages.{Unfinished}
 use Rattle.pva_frames.specs.Assembled.{Assembled, opening as unread, fed}
 use Rattle.pva_frames.specs.declared.event.Event.{Event}
 use Rattle.pva_frames.specs.declared.fault.FrameFault.{FrameFault}
-use Rattle.desk_api.proofs.Adding.{adds_nothing}
+use Rattle.desk_api.proofs.Adding.{adds_more, adds_nothing, moments_append}
 use Rattle.desk_api.specs.Calls.{Adds, HaveMoment}
 use Rattle.desk_api.specs.History.{IsLegal}
 use Rattle.desk_api.specs.declared.history.SiteData.{SiteData}
 use Rattle.desk_api.specs.declared.history.Base.{Base}
 use Rattle.desk_api.specs.declared.mark.Mark.{Mark}
 use Rattle.desk_api.specs.declared.mark.Seat.{Seat}
-use Rattle.srv_session.specs.State.{State, opening}
+use Rattle.srv_session.specs.State.{State, slots_of, due, opening}
 use Rattle.srv_session.specs.Replies.{greeting}
-use Rattle.srv_session.specs.Steps.{Step, state_after, events_of, marks_of, out_of}
-use Rattle.srv_session.specs.Calls.{IsOf}
+use Rattle.srv_session.specs.Steps.{Step, AreSteps, IsDrained, state_after, events_of, marks_of, out_of}
+use Rattle.srv_session.specs.Calls.{AreLiving, ArePopsOf, Holds, IsOf, Pumped, PumpedSome}
 use Rattle.srv_session.proofs.OnSite.{opening_on_site}
-use Rattle.srv_stream.specs.Streams.{refused, Stands, Follows, View, Passed, FedOn, FedUpTo, FedPart, FedErr}
+use Rattle.srv_session.proofs.Kept.{are_living, begin_free, holds_steps, opening_holds}
+use Rattle.srv_session.proofs.Drained.{pumped_dry}
+use Rattle.srv_session.proofs.Windowed.{windows_hold}
+use Rattle.srv_stream.specs.Streams.{refused, Stands, Follows, View, Passed, FedOn, FedUpTo, FedPart, SameStream, shown_in}
 use Rattle.srv_stream.specs.Views.{first_view}
-use Rattle.srv_stream.specs.Served.{Settled, Served}
+use Rattle.srv_stream.specs.Served.{Settled}
 use Rattle.srv_stream.specs.declared.ended.Ended.{Ended}
-use Rattle.srv_stream.specs.declared.ended.Ended.TheVariants as ends
 use Rattle.srv_stream.proofs.Going.{Going, Idling, Keeps, SawEnd}
 use Rattle.srv_stream.proofs.Moving.{all_read, moves_nothing, moves_rest, moves_got, moves_took}
-use Rattle.srv_stream.proofs.Passing.{fed_on_more, fed_up_to_more, fed_part_more}
+use Rattle.srv_stream.proofs.Passing.{fed_on_more, fed_up_to_more}
+use Rattle.srv_stream.proofs.Finishing.{pops_events, pops_slots, pops_told, sends_bytes}
 use Rattle.srv_stream.proofs.Resting.{rests}
-use Rattle.srv_session.proofs.Rows.{no_next_part}
-use Rattle.srv_session.proofs.Steps.{marks_append, steps_on_site}
+use Rattle.srv_session.proofs.Steps.{after_append, events_append, marks_append, out_append, steps_append, steps_on_site}
 use Rattle.journal_core.specs.Moments.{Moment}
 
 -- What is settled stays so.
@@ -51,6 +52,7 @@ settled_written {site} {order} {r} {w} {l} more (inr s) = inr (record {
   small = s.small;
   log_is = s.log_is;
   talk = s.talk;
+  drained = s.drained;
   begins = record { rest = s.begins.rest ++ more; whole = ap (λ (z : List ℕ). z ++ more) s.begins.whole ∙ append_assoc s.out s.begins.rest more };
 })
 
@@ -66,6 +68,7 @@ settled_log {site} {order} {r} {w} {l} more (inr s) = inr (record {
   small = s.small;
   log_is = ap (λ (z : List Mark). z ++ more) s.log_is ∙ append_assoc s.said s.later more;
   talk = s.talk;
+  drained = s.drained;
   begins = s.begins;
 })
 
@@ -87,6 +90,7 @@ going_start old start told order legal =
       moves = moves_nothing start;
       follows = record { rules = tt; remaining = []; all = ap (λ (a : Assembled). a.events) none; stands = sym (ap (λ (a : Assembled). refused a.left) none) };
       keeps = λ _. record { state = refl; none = refl; left = sym (ap (λ (a : Assembled). a.left) none) };
+      slots = refl;
       adds = adds_nothing old legal;
       moments = tt;
       bytes = append-nil (greeting order);
@@ -100,7 +104,7 @@ going_start old start told order legal =
 
 module _ {old new : Seat} {start wire : Wire} {told : Option Moment} {order : Order} {v : View} {trouble : Option Ended} {at_end : Bool} {calls : ℕ} (a : Going old new start wire told order v trouble at_end calls) where
   -- no byte moved, and the idles rose
-  pub going_idle : (wire2 : Wire) → Idled wire wire2 → Going old new start wire2 told order v trouble at_end (calls + 1)
+  abbrev pub going_idle : (wire2 : Wire) → Idled wire wire2 → Going old new start wire2 told order v trouble at_end (calls + 1)
   going_idle wire2 x = record {
     read = a.read;
     written = a.written;
@@ -108,6 +112,7 @@ module _ {old new : Seat} {start wire : Wire} {told : Option Moment} {order : Or
     moves = moves_rest a.moves x.rests;
     follows = a.follows;
     keeps = a.keeps;
+    slots = a.slots;
     adds = a.adds;
     moments = a.moments;
     bytes = a.bytes;
@@ -120,7 +125,7 @@ module _ {old new : Seat} {start wire : Wire} {told : Option Moment} {order : Or
   }
 
   -- bytes were written
-  pub going_took : (wire2 : Wire) (w : View) (n : ℕ) → Taken wire wire2 n v.pending → w ≡ record v { pending = drop n v.pending } → Going old new start wire2 told order w trouble at_end (calls + 1)
+  abbrev pub going_took : (wire2 : Wire) (w : View) (n : ℕ) → Taken wire wire2 n v.pending → w ≡ record v { pending = drop n v.pending } → Going old new start wire2 told order w trouble at_end (calls + 1)
   going_took wire2 w n x is = record {
     read = a.read;
     written = a.written ++ take n v.pending;
@@ -132,6 +137,7 @@ module _ {old new : Seat} {start wire : Wire} {told : Option Moment} {order : Or
       none = ap (λ (z : View). z.stream.events) is ∙ k.none;
       left = ap (λ (z : View). z.stream.left) is ∙ k.left;
     };
+    slots = ap (λ (z : View). slots_of z.state.requests) is ∙ a.slots;
     adds = a.adds;
     moments = a.moments;
     bytes = a.bytes ∙ ap (λ (z : List ℕ). a.written ++ z) (sym (take-append-drop n v.pending)) ∙ sym (append_assoc a.written (take n v.pending) (drop n v.pending)) ∙ ap (λ (z : List ℕ). (a.written ++ take n v.pending) ++ z) (sym (ap (λ (z : View). z.pending) is));
@@ -144,38 +150,11 @@ module _ {old new : Seat} {start wire : Wire} {told : Option Moment} {order : Or
         let more : length (a.written ++ take n v.pending) ≡ length a.written + n = length-append a.written (take n v.pending) ∙ simp length-take (omega (arith, x.fits)) in omega (arith, x.counts.idles, x.some);
   }
 
-  -- memory ran out in a call of the link
-  pub broken_by_call : (turns : ℕ) (wire2 : Wire) → Unchanged wire wire2 → Served old new start wire2 told order turns ends.NoMemory
-  broken_by_call turns wire2 x = record {
-    log = marks_of a.steps;
-    read = a.read;
-    written = a.written;
-    adds = a.adds;
-    moments = a.moments;
-    moves = moves_rest a.moves x.rests;
-    settled = a.settled;
-    answer = record {
-      events = events_of a.steps;
-      said = marks_of a.steps;
-      more = [];
-      endings = [];
-      out = greeting order ++ out_of old.seen.base.site (opening order) a.steps;
-      talk = record { steps = a.steps; rules = a.follows.rules; events_are = refl; marks_are = refl; out_is = refl };
-      front = record { rest = a.follows.remaining; whole = a.follows.all };
-      part = no_next_part old.seen.base.site (state_after old.seen.base.site (opening order) a.steps) a.follows.remaining;
-      ends = refl;
-      log_is = append-nil (marks_of a.steps ++ []) ∙ append-nil (marks_of a.steps);
-      begins = record { rest = v.pending; whole = a.bytes };
-      faults = x.counts.faults ∙ a.faults;
-    };
-    complete = λ i. inr refl;
-  }
-
 -- The connection as one feeding of a serving of which nothing was taken.
 abbrev pub untaken : List ℕ → View → View
 untaken written v = record v { pending = written ++ v.pending }
 
-shifted : (v w : View) (before said : List ℕ) → w.pending ≡ v.pending ++ said → before ++ w.pending ≡ (before ++ v.pending) ++ said
+pub shifted : (v w : View) (before said : List ℕ) → w.pending ≡ v.pending ++ said → before ++ w.pending ≡ (before ++ v.pending) ++ said
 shifted v w before said out = ap (λ (z : List ℕ). before ++ z) out ∙ sym (append_assoc before v.pending said)
 
 module _ {mid new : Seat} {told : Option Moment} {v w : View} {ys : List ℕ} (before : List ℕ) where
@@ -198,19 +177,21 @@ module _ {mid new : Seat} {told : Option Moment} {v w : View} {ys : List ℕ} (b
   abbrev untaken_up_to : {ended : Ended} → FedUpTo mid new told v w ys ended → FedUpTo mid new told (untaken before v) (untaken before w) ys ended
   untaken_up_to b = record {
     steps = b.steps;
+    subscribed = b.subscribed;
     follows = b.follows;
     adds = b.adds;
     moments = b.moments;
     out = shifted v w before (out_of mid.seen.base.site v.state b.steps) b.out;
   }
 
-  abbrev untaken_part : FedPart mid new told v w ys → FedPart mid new told (untaken before v) (untaken before w) ys
+  abbrev pub untaken_part : FedPart mid new told v w ys → FedPart mid new told (untaken before v) (untaken before w) ys
   untaken_part b = record {
     steps = b.steps;
     more = b.more;
     rules = b.rules;
     front = b.front;
     part = b.part;
+    subscribed = b.subscribed;
     adds = b.adds;
     moments = b.moments;
     out = shifted v w before (out_of mid.seen.base.site v.state b.steps) b.out;
@@ -221,16 +202,16 @@ module _ {old new : Seat} {start wire : Wire} {told : Option Moment} {order : Or
   abbrev site : SiteData
   site = old.seen.base.site
 
-  written_is : greeting order ++ out_of site (opening order) i.going.steps ≡ i.going.written
+  pub written_is : greeting order ++ out_of site (opening order) i.going.steps ≡ i.going.written
   written_is = i.going.bytes ∙ ap (λ (z : List ℕ). i.going.written ++ z) i.empty ∙ append-nil i.going.written
 
-  answered : (i.going.follows.remaining ≡ []) × (refused (fed unread i.going.read).left ≡ None)
+  pub answered : (i.going.follows.remaining ≡ []) × (refused (fed unread i.going.read).left ≡ None)
   answered = untroubled site (state_after site (opening order) i.going.steps) i.going.follows.remaining (fed unread i.going.read).left i.going.follows.stands
 
-  all_answered : (fed unread i.going.read).events ≡ events_of i.going.steps
+  pub all_answered : (fed unread i.going.read).events ≡ events_of i.going.steps
   all_answered = i.going.follows.all ∙ ap (λ (l : List Event). events_of i.going.steps ++ l) answered.0 ∙ append-nil (events_of i.going.steps)
 
-  abbrev passed : Passed old new told (first_view order) (untaken i.going.written v) i.going.read
+  abbrev pub passed : Passed old new told (first_view order) (untaken i.going.written v) i.going.read
   passed = let k = i.going.keeps refl in record {
     steps = i.going.steps;
     rules = i.going.follows.rules;
@@ -243,7 +224,7 @@ module _ {old new : Seat} {start wire : Wire} {told : Option Moment} {order : Or
   }
 
   -- all before this piece is settled
-  settle : (piece : List ℕ) (more : List Mark) → length piece ≤ 4096 → (i.going.read ++ piece ≡ []) ⊎ Settled site order (i.going.read ++ piece) i.going.written (marks_of i.going.steps ++ more)
+  pub settle : (piece : List ℕ) (more : List Mark) → length piece ≤ 4096 → (i.going.read ++ piece ≡ []) ⊎ Settled site order (i.going.read ++ piece) i.going.written (marks_of i.going.steps ++ more)
   settle piece more small = inr (record {
     before = i.going.read;
     piece = piece;
@@ -253,7 +234,15 @@ module _ {old new : Seat} {start wire : Wire} {told : Option Moment} {order : Or
     read_is = refl;
     small = small;
     log_is = refl;
-    talk = record { steps = i.going.steps; rules = i.going.follows.rules; events_are = sym all_answered; marks_are = refl; out_is = written_is };
+    talk = record {
+      steps = i.going.steps;
+      rules = i.going.follows.rules;
+      events_are = sym all_answered;
+      marks_are = refl;
+      out_is = written_is;
+      windows = windows_hold site order i.going.steps i.going.follows.rules;
+    };
+    drained = i.dry refl;
     begins = record { rest = []; whole = sym (append-nil i.going.written) };
   })
 
@@ -265,6 +254,7 @@ module _ {old new : Seat} {start wire : Wire} {told : Option Moment} {order : Or
     moves = moves_rest i.going.moves x.rests;
     follows = i.going.follows;
     keeps = i.going.keeps;
+    slots = i.going.slots;
     adds = i.going.adds;
     moments = i.going.moments;
     bytes = i.going.bytes;
@@ -277,24 +267,25 @@ module _ {old new : Seat} {start wire : Wire} {told : Option Moment} {order : Or
   }
 
   module _ (n : ℕ) (buffer : List ℕ) (x : Gave wire wire2 n buffer) (small : length buffer ≤ 4096) where
-    long : length (take n buffer) ≡ n
+    pub long : length (take n buffer) ≡ n
     long = simp length-take (omega (arith, x.fits))
 
-    abbrev read2 : List ℕ
+    abbrev pub read2 : List ℕ
     read2 = i.going.read ++ take n buffer
 
     -- the connection behind the piece, whose steps these are
     gone_on : {new2 : Seat} (w : View) (trouble : Option Ended) (steps : List Step) (later : List Mark) → marks_of steps ≡ marks_of i.going.steps ++ later
         → Follows site (opening order) (fed unread read2) steps trouble → (trouble ≡ None → Keeps site order w read2 steps)
-        → Adds old new2 (marks_of steps) → HaveMoment told (marks_of steps) → i.going.written ++ w.pending ≡ greeting order ++ out_of site (opening order) steps
+        → slots_of w.state.requests ≡ slots_of (state_after site (opening order) steps).requests → Adds old new2 (marks_of steps) → HaveMoment told (marks_of steps) → i.going.written ++ w.pending ≡ greeting order ++ out_of site (opening order) steps
         → Going old new2 start wire2 told order w trouble false (calls + 1)
-    gone_on w trouble steps later marks follows keeps adds moments bytes = record {
+    gone_on w trouble steps later marks follows keeps slots adds moments bytes = record {
       read = read2;
       written = i.going.written;
       steps = steps;
       moves = moves_got i.going.moves x;
       follows = follows;
       keeps = keeps;
+      slots = slots;
       adds = adds;
       moments = moments;
       bytes = sym bytes;
@@ -317,72 +308,131 @@ module _ {old new : Seat} {start wire : Wire} {told : Option Moment} {order : Or
           stands = sym (ap refused (sym c.passed.left) ∙ unrefused w.stream.left c.sound);
         })
         (λ _. record { state = c.passed.state; none = c.none; left = c.passed.left })
-        c.passed.adds c.passed.moments c.passed.out
+        (ap (λ (z : State). slots_of z.requests) c.passed.state) c.passed.adds c.passed.moments c.passed.out
 
     pub going_refused : {new2 : Seat} {w : View} {ended : Ended} → FedUpTo new new2 told v w (take n buffer) ended → Going old new2 start wire2 told order w (Some ended) false (calls + 1)
     going_refused {new2} {w} {ended} b =
         let c = fed_up_to_more passed (untaken_up_to i.going.written b) in
         gone_on w (Some ended) c.steps (marks_of b.steps) (marks_append i.going.steps b.steps) c.follows
-        (λ no. absurd (none-some ended (sym no))) c.adds c.moments c.out
+        (λ no. absurd (none-some ended (sym no))) c.subscribed c.adds c.moments c.out
 
-    pub broken_by_feed : {new2 : Seat} {w : View} (turns : ℕ) → FedPart new new2 told v w (take n buffer) → Served old new2 start wire2 told order turns ends.NoMemory
-    broken_by_feed {new2} {w} turns b =
-        let c = fed_part_more passed (untaken_part i.going.written b) in
-        let marks : marks_of i.going.steps ++ (marks_of b.steps ++ b.more) ≡ marks_of c.steps ++ b.more =
-        sym (append_assoc (marks_of i.going.steps) (marks_of b.steps) b.more) ∙ ap (λ (z : List Mark). z ++ b.more) (sym (marks_append i.going.steps b.steps)) in record {
-          log = marks_of c.steps ++ b.more;
-          read = read2;
-          written = i.going.written;
-          adds = c.adds;
-          moments = c.moments;
-          moves = moves_got i.going.moves x;
-          settled = subst (λ (z : List Mark). (read2 ≡ []) ⊎ Settled site order read2 i.going.written z) marks (settle (take n buffer) (marks_of b.steps ++ b.more) (omega (arith, long, x.fits)));
-          answer = record {
-            events = events_of c.steps;
-            said = marks_of c.steps;
-            more = b.more;
-            endings = [];
-            out = greeting order ++ out_of site (opening order) c.steps;
-            talk = record { steps = c.steps; rules = c.rules; events_are = refl; marks_are = refl; out_is = refl };
-            front = c.front;
-            part = c.part;
-            ends = refl;
-            log_is = append-nil (marks_of c.steps ++ b.more);
-            begins = record { rest = w.pending; whole = sym c.out };
-            faults = x.counts.faults ∙ i.going.faults;
-          };
-          complete = λ i. inr refl;
-        }
+-- The session's channels stay the site's, and its subscriptions live.
 
--- by other names
-pub going_as : {old new : Seat} {start wire : Wire} {told : Option Moment} {order : Order} {v : View} {trouble other : Option Ended} {at_end at_end2 : Bool} {calls : ℕ} → trouble ≡ other → at_end ≡ at_end2 → Going old new start wire told order v trouble at_end calls → Going old new start wire told order v other at_end2 calls
-going_as {old} {new} {start} {wire} {told} {order} {v} {trouble} {other} {at_end} {at_end2} {calls} is_trouble is_end i =
-    subst (λ (z : Bool). Going old new start wire told order v other z calls) is_end (subst (λ (z : Option Ended). Going old new start wire told order v z at_end calls) is_trouble i)
-
--- nothing is to be written
-pub idle_at : {old new : Seat} {start wire : Wire} {told : Option Moment} {order : Order} {v : View} {trouble other : Option Ended} {at_end at_end2 : Bool} {calls : ℕ} → Going old new start wire told order v trouble at_end calls → v.pending ≡ [] → trouble ≡ other → at_end ≡ at_end2 → Idling old new start wire told order v other at_end2 calls
-idle_at a empty is_trouble is_end = record { going = going_as is_trouble is_end a; empty = empty }
-
-pub is_some_output : (xs ys : List ℕ) (b : Bool) → b ≡ eqb (length xs) 0 → b ≡ false → xs ≡ ys → 0 < length ys
-is_some_output [] ys b is f same = cc
-is_some_output (x ∷ xs) ys b is f same = subst (λ (z : List ℕ). 0 < length z) same (omega arith)
-
-pub is_no_output : (xs ys : List ℕ) (b : Bool) → b ≡ eqb (length xs) 0 → b ≡ true → xs ≡ ys → ys ≡ []
-is_no_output [] ys b is f same = sym same
-is_no_output (x ∷ xs) ys b is f same = absurd (false≢true (sym (eqb-suc-zero (length xs)) ∙ sym is ∙ f))
-
--- the session's channel stays one of the site
 pub going_on_site : {old new : Seat} {start wire : Wire} {told : Option Moment} {order : Order} {v : View} {trouble : Option Ended} {at_end : Bool} {calls : ℕ} → Going old new start wire told order v trouble at_end calls → trouble ≡ None → IsOf new.seen.base.site v.state
 going_on_site {old} {new} {start} {wire} {told} {order} {v} a none =
     subst (λ (z : Base). IsOf z.site v.state) (sym a.adds.grows.base) (subst (IsOf old.seen.base.site) (sym (a.keeps none).state) (steps_on_site old.seen.base.site (opening order) a.steps (opening_on_site old.seen.base.site order)))
 
--- a feeding that ended otherwise than for want of memory
-pub up_to_of : (old new : Seat) (told : Option Moment) (v w : View) (bytes : List ℕ) (ended : Ended) → (ended ≡ ends.NoMemory → ⊥) → FedErr old new told v w bytes ended → FedUpTo old new told v w bytes ended
-up_to_of old new told v w bytes (ends.Bad fault place) other x = x
-up_to_of old new told v w bytes (ends.NotBuilt command place) other x = x
-up_to_of old new told v w bytes ends.NoMemory other x = absurd (other refl)
-up_to_of old new told v w bytes ends.Closed other x = absurd x
-up_to_of old new told v w bytes (ends.Truncated place) other x = absurd x
-up_to_of old new told v w bytes ends.ReadFault other x = absurd x
-up_to_of old new told v w bytes ends.WriteFault other x = absurd x
-up_to_of old new told v w bytes (ends.Spent calls) other x = absurd x
+module _ {old new : Seat} {start wire : Wire} {told : Option Moment} {order : Order} {v : View} {trouble : Option Ended} {at_end : Bool} {calls : ℕ} (a : Going old new start wire told order v trouble at_end calls) where
+  abbrev there_ : State
+  there_ = state_after old.seen.base.site (opening order) a.steps
+
+  steps_hold : Holds new.log there_
+  steps_hold =
+      subst (λ (l : List Mark). Holds l there_) (sym a.adds.log)
+      (holds_steps old.seen.base.site (opening order) old.log a.steps (opening_holds old.log order) a.follows.rules (begin_free new.seen new.number old.log (marks_of a.steps) a.adds.true_))
+
+  pub going_holds : trouble ≡ None → Holds new.log v.state
+  going_holds none = subst (Holds new.log) (sym (a.keeps none).state) steps_hold
+
+  pub going_living : AreLiving new.log (slots_of v.state.requests)
+  going_living = subst (AreLiving new.log) (sym a.slots) (are_living new.log there_ steps_hold)
+
+-- A pump.
+
+module _ {old new : Seat} {start wire : Wire} {told : Option Moment} {order : Order} {v : View} {at_end : Bool} {calls : ℕ} (a : Going old new start wire told order v None at_end calls) where
+  abbrev base : SiteData
+  base = old.seen.base.site
+
+  -- what follows, said of the state and the site that these steps leave
+  pub from_there : (P : SiteData → State → Type 0) → P new.seen.base.site v.state → P base (state_after base (opening order) a.steps)
+  from_there P p =
+      subst (λ (z : SiteData). P z (state_after base (opening order) a.steps)) (ap (λ (b : Base). b.site) a.adds.grows.base) (subst (P new.seen.base.site) (a.keeps refl).state p)
+
+  -- the pops behind the steps
+  module _ {new2 : Seat} (w : View) (reqs : List ℕ) (popped : List Step) (next : List Mark) (p : PumpedSome (shown_in new v) (shown_in new2 w) reqs popped next) where
+    pub popped_rules : AreSteps base (opening order) (a.steps ++ popped)
+    popped_rules = steps_append base (opening order) a.steps popped a.follows.rules (from_there (λ (z : SiteData) (s : State). AreSteps z s popped) p.rules)
+
+    pub popped_events : events_of (a.steps ++ popped) ≡ events_of a.steps
+    popped_events = events_append a.steps popped ∙ ap (λ (l : List Event). events_of a.steps ++ l) (pops_events reqs popped p.are) ∙ append-nil (events_of a.steps)
+
+    pub popped_all : (fed unread a.read).events ≡ events_of (a.steps ++ popped) ++ a.follows.remaining
+    popped_all = a.follows.all ∙ ap (λ (l : List Event). l ++ a.follows.remaining) (sym popped_events)
+
+    pub popped_bytes : greeting order ++ out_of base (opening order) (a.steps ++ popped) ≡ a.written ++ w.pending
+    popped_bytes =
+        let here = state_after base (opening order) a.steps in
+        ap (λ (z : List ℕ). greeting order ++ z) (out_append base (opening order) a.steps popped)
+        ∙ sym (append_assoc (greeting order) (out_of base (opening order) a.steps) (out_of base here popped))
+        ∙ ap (λ (z : List ℕ). z ++ out_of base here popped) a.bytes
+        ∙ append_assoc a.written v.pending (out_of base here popped)
+        ∙ ap (λ (z : List ℕ). a.written ++ z) (sym (from_there (λ (z : SiteData) (s : State). w.pending ≡ v.pending ++ out_of z s popped) p.output))
+
+    pub popped_adds : Adds old new2 (marks_of (a.steps ++ popped) ++ next)
+    popped_adds =
+        subst (λ (l : List Mark). Adds old new2 l)
+        (sym (append_assoc (marks_of a.steps) (marks_of popped) next) ∙ ap (λ (l : List Mark). l ++ next) (sym (marks_append a.steps popped))) (adds_more a.adds p.adds)
+
+    pub popped_moments : HaveMoment told (marks_of (a.steps ++ popped))
+    popped_moments =
+        subst (HaveMoment told) (sym (marks_append a.steps popped))
+        (moments_append told (marks_of a.steps) (marks_of popped) a.moments (pops_told told new.seen.base.site v.state reqs popped p.are p.rules))
+
+    pub popped_settled : (a.read ≡ []) ⊎ Settled base order a.read a.written (marks_of (a.steps ++ popped))
+    popped_settled =
+        subst (λ (l : List Mark). (a.read ≡ []) ⊎ Settled base order a.read a.written l) (sym (marks_append a.steps popped)) (settled_log (marks_of popped) a.settled)
+
+    pub popped_same : slots_of (state_after base (opening order) (a.steps ++ popped)).requests ≡ slots_of v.state.requests
+    popped_same =
+        ap (λ (z : State). slots_of z.requests) (after_append base (opening order) a.steps popped)
+        ∙ from_there (λ (z : SiteData) (s : State). slots_of (state_after z s popped).requests ≡ slots_of s.requests) (pops_slots new v.state reqs popped p.are p.rules)
+        ∙ sym a.slots
+
+  module _ {new2 : Seat} {w : View} (more : Bool) (p : Pumped (shown_in new v) (shown_in new2 w) more) (same : SameStream v w) where
+    abbrev pub going_pumped : Going old new2 start wire told order w None at_end calls
+    going_pumped =
+        let k = a.keeps refl in
+        let reqs = due v.state.requests in
+        let answered = untroubled base (state_after base (opening order) a.steps) a.follows.remaining (fed unread a.read).left a.follows.stands in
+        let state : w.state ≡ state_after base (opening order) (a.steps ++ p.steps) =
+        from_there (λ (z : SiteData) (s : State). w.state ≡ state_after z s p.steps) p.state ∙ sym (after_append base (opening order) a.steps p.steps) in record {
+          read = a.read;
+          written = a.written;
+          steps = a.steps ++ p.steps;
+          moves = a.moves;
+          follows = record {
+            rules = popped_rules w reqs p.steps [] p.some;
+            remaining = [];
+            all = popped_all w reqs p.steps [] p.some ∙ ap (λ (l : List Event). events_of (a.steps ++ p.steps) ++ l) answered.0;
+            stands = sym answered.1;
+          };
+          keeps = λ _. record {
+            state = state;
+            none = ap (λ (c : Assembled). c.events) same ∙ k.none;
+            left = ap (λ (c : Assembled). c.left) same ∙ k.left;
+          };
+          slots = ap (λ (z : State). slots_of z.requests) state;
+          adds = subst (λ (l : List Mark). Adds old new2 l) (append-nil (marks_of (a.steps ++ p.steps))) (popped_adds w reqs p.steps [] p.some);
+          moments = popped_moments w reqs p.steps [] p.some;
+          bytes = popped_bytes w reqs p.steps [] p.some;
+          settled = popped_settled w reqs p.steps [] p.some;
+          faults = a.faults;
+          ends = a.ends;
+          all = a.all;
+          calm = a.calm;
+          quota = a.quota;
+        }
+
+    -- nothing was unread
+    pub pumped_out : more ≡ false → IsDrained base (opening order) (a.steps ++ p.steps)
+    pumped_out none =
+        pumped_dry base (opening order) a.steps p.steps
+        (from_there (λ (z : SiteData) (s : State). ArePopsOf (due s.requests) p.steps) p.some.are)
+        (from_there (λ (z : SiteData) (s : State). AreSteps z s p.steps) p.some.rules) (sym p.more_is ∙ none)
+
+    -- or there is something to be written
+    pub pumped_some : more ≡ true → 0 < length w.pending
+    pumped_some some =
+        let out = out_of new.seen.base.site v.state p.steps in
+        let bytes : 0 < length out = sends_bytes new.seen.base.site v.state (due v.state.requests) p.steps p.some.are p.some.rules (sym p.more_is ∙ some) in
+        omega (arith, bytes, ap length p.some.output, length-append v.pending out)

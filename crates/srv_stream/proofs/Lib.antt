@@ -1,5 +1,6 @@
 mod Resting
 mod Passing
+mod Finishing
 mod Feeding
 mod Moving
 mod Stopping

@@ -13,14 +13,17 @@ use Rattle.desk_api.specs.declared.history.SiteData.{SiteData}
 use Rattle.desk_api.specs.declared.history.Base.{Base}
 use Rattle.desk_api.specs.declared.mark.Mark.{Mark}
 use Rattle.desk_api.specs.declared.mark.Seat.{Seat}
-use Rattle.srv_session.specs.State.{State}
-use Rattle.srv_session.specs.Steps.{Step, bytes_of, after_step, IsStep, AreSteps, state_after, events_of, marks_of, out_of, NextPart}
+use Rattle.srv_session.specs.State.{State, slots_of}
+use Rattle.srv_session.specs.Steps.{Step, hears, bytes_of, after_step, IsStep, AreSteps, state_after, events_of, marks_of, out_of, EventPart, after_part}
 use Rattle.srv_stream.specs.Streams.{stop_of, refused, Stands, View, Passed, FedOn, FedUpTo, FedPart, FedErr, is_sound}
 use Rattle.srv_stream.specs.declared.ended.StreamFault.TheVariants as faults
 use Rattle.srv_stream.specs.declared.ended.Ended.{Ended}
 use Rattle.srv_stream.specs.declared.ended.Ended.TheVariants as ends
 use Rattle.srv_stream.proofs.Resting.{fed_on_append, rests}
-use Rattle.srv_session.proofs.Rows.{no_next_part}
+use Rattle.srv_session.specs.Replies.{Sent}
+use Rattle.srv_session.specs.Tasks.{heard}
+use Rattle.srv_session.proofs.Rows.{no_part_of, none_left_by}
+use Rattle.srv_session.proofs.Covered.{after_part_is}
 use Rattle.srv_session.proofs.Steps.{after_append, steps_append, events_append, marks_append, out_append}
 use Rattle.journal_core.specs.Moments.{Moment}
 
@@ -41,9 +44,28 @@ grown a xs ys =
     let g = grown_on (fed a xs).events (fed a xs).left ys in
     (g.0, ap (λ (b : Assembled). b.events) (sym (fed-join a xs ys)) ∙ g.1)
 
-pub part_grows : (site : SiteData) (s : State) (events more : List Event) (marks : List Mark) → NextPart site s events marks → NextPart site s (events ++ more) marks
-part_grows site s [] more marks none = subst (NextPart site s more) (sym none) (no_next_part site s more)
+-- no mark is a part of the next row
+pub no_event_part : (site : SiteData) (s : State) (events : List Event) → EventPart site s events []
+no_event_part site s [] = refl
+no_event_part site s (e ∷ more) = no_part_of site s (heard site s e)
+
+pub part_grows : (site : SiteData) (s : State) (events more : List Event) (marks : List Mark) → EventPart site s events marks → EventPart site s (events ++ more) marks
+part_grows site s [] more marks none = subst (EventPart site s more) (sym none) (no_event_part site s more)
 part_grows site s (e ∷ events) more marks p = p
+
+-- The subscriptions that a part leaves.
+
+abbrev pub left_slots : SiteData → State → List Event → List Mark → List ℕ
+left_slots site s events marks = slots_of (after_part site s events marks).requests
+
+pub none_left_there : (site : SiteData) (s : State) (events : List Event) → left_slots site s events [] ≡ slots_of s.requests
+none_left_there site s [] = refl
+none_left_there site s (e ∷ more) = none_left_by site s (heard site s e)
+
+pub left_grows : (site : SiteData) (s : State) (events more : List Event) (marks : List Mark) → EventPart site s events marks → left_slots site s (events ++ more) marks ≡ left_slots site s events marks
+left_grows site s [] more marks none =
+    subst (λ (ms : List Mark). left_slots site s more ms ≡ left_slots site s [] ms) (sym none) (none_left_there site s more)
+left_grows site s (e ∷ events) more marks p = after_part_is site s e (events ++ more) marks p ∙ sym (after_part_is site s e events marks p)
 
 pub passed_nothing : (old : Seat) (told : Option Moment) (v : View) → IsLegal old.seen → is_sound v.stream.left ≡ true → Passed old old told v v []
 passed_nothing old told v legal sound =
@@ -106,18 +128,19 @@ module _ {old mid : Seat} {told : Option Moment} {v u : View} {xs : List ℕ} (a
   fed_on_more b = record { passed = passed_more b.passed; none = b.none; sound = b.sound }
 
   -- one event was answered
-  pub passed_step : {new : Seat} (w : View) (x : Step) → IsStep mid.seen.base.site u.state x → u.stream.events ≡ x.event ∷ w.stream.events → w.stream.left ≡ u.stream.left
-      → w.state ≡ after_step mid.seen.base.site u.state x → Adds mid new x.marks → HaveMoment told x.marks → w.pending ≡ u.pending ++ bytes_of u.state x → Passed old new told v w xs
-  passed_step {new} w x rule events left state adds moments out = record {
+  pub passed_step : {new : Seat} (w : View) (e : Event) (marks : List Mark) (sent : List Sent) → IsStep mid.seen.base.site u.state (hears e marks sent) → u.stream.events ≡ e ∷ w.stream.events → w.stream.left ≡ u.stream.left
+      → w.state ≡ after_step mid.seen.base.site u.state (hears e marks sent) → Adds mid new marks → HaveMoment told marks → w.pending ≡ u.pending ++ bytes_of u.state (hears e marks sent)
+      → Passed old new told v w xs
+  passed_step {new} w e marks sent rule events left state adds moments out = let x : Step = hears e marks sent in record {
     steps = a.steps ++ x ∷ [];
     rules = steps_append site v.state a.steps (x ∷ []) a.rules (there (λ (z : SiteData) (s : State). IsStep z s x) rule, tt);
     events = a.events ∙ ap (λ (l : List Event). events_of a.steps ++ l) events
-        ∙ sym (append_assoc (events_of a.steps) (x.event ∷ []) w.stream.events)
+        ∙ sym (append_assoc (events_of a.steps) (e ∷ []) w.stream.events)
         ∙ ap (λ (l : List Event). l ++ w.stream.events) (sym (events_append a.steps (x ∷ [])));
     left = left ∙ a.left;
     state = there (λ (z : SiteData) (s : State). w.state ≡ after_step z s x) state ∙ sym (after_append site v.state a.steps (x ∷ []));
-    adds = subst (λ (z : List Mark). Adds old new z) (ap (λ (z : List Mark). marks_of a.steps ++ z) (sym (append-nil x.marks)) ∙ sym (marks_append a.steps (x ∷ []))) (adds_more a.adds adds);
-    moments = subst (HaveMoment told) (ap (λ (z : List Mark). marks_of a.steps ++ z) (sym (append-nil x.marks)) ∙ sym (marks_append a.steps (x ∷ []))) (moments_append told (marks_of a.steps) x.marks a.moments moments);
+    adds = subst (λ (z : List Mark). Adds old new z) (ap (λ (z : List Mark). marks_of a.steps ++ z) (sym (append-nil marks)) ∙ sym (marks_append a.steps (x ∷ []))) (adds_more a.adds adds);
+    moments = subst (HaveMoment told) (ap (λ (z : List Mark). marks_of a.steps ++ z) (sym (append-nil marks)) ∙ sym (marks_append a.steps (x ∷ []))) (moments_append told (marks_of a.steps) marks a.moments moments);
     out = there (λ (z : SiteData) (s : State). w.pending ≡ u.pending ++ bytes_of s x) out
         ∙ ap (λ (z : List ℕ). z ++ bytes_of (state_after site v.state a.steps) x) a.out
         ∙ append_assoc v.pending (out_of site v.state a.steps) (bytes_of (state_after site v.state a.steps) x)
@@ -127,11 +150,12 @@ module _ {old mid : Seat} {told : Option Moment} {v u : View} {xs : List ℕ} (a
 
   -- the next event has no answer
   pub fed_stopped : {new : Seat} (w : View) (ys : List ℕ) (e : Event) (later : List Event) (ended : Ended) → u.stream.events ≡ e ∷ later → stop_of mid.seen.base.site u.state e ≡ Some ended
-      → new ≡ mid → w.pending ≡ u.pending → FedUpTo old new told v w (xs ++ ys) ended
-  fed_stopped {new} w ys e later ended events stop seat pending =
+      → new ≡ mid → slots_of w.state.requests ≡ slots_of u.state.requests → w.pending ≡ u.pending → FedUpTo old new told v w (xs ++ ys) ended
+  fed_stopped {new} w ys e later ended events stop seat subscribed pending =
       let more = grown v.stream xs ys in
       let here = there (λ (z : SiteData) (s : State). stop_of z s e ≡ Some ended) stop in record {
         steps = a.steps;
+        subscribed = subscribed ∙ ap (λ (s : State). slots_of s.requests) a.state;
         follows = record {
           rules = a.rules;
           remaining = e ∷ (later ++ more.0);
@@ -145,13 +169,14 @@ module _ {old mid : Seat} {told : Option Moment} {v u : View} {xs : List ℕ} (a
       }
 
   -- a header is refused behind the events that were answered
-  pub fed_refused : (w : View) (ys : List ℕ) (fault : FrameFault) → u.stream.events ≡ [] → u.stream.left ≡ Err fault → w.pending ≡ u.pending
+  pub fed_refused : (w : View) (ys : List ℕ) (fault : FrameFault) → u.stream.events ≡ [] → u.stream.left ≡ Err fault → slots_of w.state.requests ≡ slots_of u.state.requests → w.pending ≡ u.pending
       → FedUpTo old mid told v w (xs ++ ys) (ends.Bad (faults.Frame fault) (place_of_fault fault))
-  fed_refused w ys fault none left pending =
+  fed_refused w ys fault none left subscribed pending =
       let nothing : u.stream ≡ (let b : Assembled = record { events = []; left = Err fault } in b) = λ i. record { events = none i; left = left i } in
       let is = joined v.stream u.stream (events_of a.steps) xs ys a.events a.left
       ∙ ap (λ (c : Assembled). let b : Assembled = record { events = events_of a.steps ++ (fed c ys).events; left = (fed c ys).left } in b) nothing in record {
         steps = a.steps;
+        subscribed = subscribed ∙ ap (λ (s : State). slots_of s.requests) a.state;
         follows = record {
           rules = a.rules;
           remaining = [];
@@ -168,6 +193,8 @@ module _ {old mid : Seat} {told : Option Moment} {v u : View} {xs : List ℕ} (a
       let is = joined v.stream u.stream (events_of a.steps) xs ys a.events a.left in
       let left : (fed v.stream (xs ++ ys)).left ≡ (fed u.stream ys).left = ap (λ (c : Assembled). c.left) is in record {
         steps = a.steps ++ b.steps;
+        subscribed = there (λ (z : SiteData) (s : State). slots_of w.state.requests ≡ slots_of (state_after z s b.steps).requests) b.subscribed
+            ∙ ap (λ (s : State). slots_of s.requests) (sym (after_append site v.state a.steps b.steps));
         follows = record {
           rules = steps_append site v.state a.steps b.steps a.rules (there (λ (z : SiteData) (s : State). AreSteps z s b.steps) b.follows.rules);
           remaining = b.follows.remaining;
@@ -200,8 +227,10 @@ module _ {old mid : Seat} {told : Option Moment} {v u : View} {xs : List ℕ} (a
               ∙ sym (append_assoc (events_of a.steps) (events_of b.steps) b.front.rest)
               ∙ ap (λ (l : List Event). l ++ b.front.rest) (sym (events_append a.steps b.steps));
         };
-        part = subst (λ (s : State). NextPart site s b.front.rest b.more) (sym (after_append site v.state a.steps b.steps))
-            (there (λ (z : SiteData) (s : State). NextPart z (state_after z s b.steps) b.front.rest b.more) b.part);
+        part = subst (λ (s : State). EventPart site s b.front.rest b.more) (sym (after_append site v.state a.steps b.steps))
+            (there (λ (z : SiteData) (s : State). EventPart z (state_after z s b.steps) b.front.rest b.more) b.part);
+        subscribed = there (λ (z : SiteData) (s : State). slots_of w.state.requests ≡ left_slots z (state_after z s b.steps) b.front.rest b.more) b.subscribed
+            ∙ ap (λ (s : State). left_slots site s b.front.rest b.more) (sym (after_append site v.state a.steps b.steps));
         adds = subst (λ (z : List Mark). Adds old new z) marks (adds_more a.adds b.adds);
         moments = subst (HaveMoment told) marks (moments_append told (marks_of a.steps) (marks_of b.steps ++ b.more) a.moments b.moments);
         out = there (λ (z : SiteData) (s : State). w.pending ≡ u.pending ++ out_of z s b.steps) b.out
@@ -211,10 +240,11 @@ module _ {old mid : Seat} {told : Option Moment} {v u : View} {xs : List ℕ} (a
       }
 
   -- memory ran out in the row of the next event, or before it
-  pub fed_part : {new : Seat} (w : View) (ys : List ℕ) (more : List Mark) → NextPart mid.seen.base.site u.state u.stream.events more → Adds mid new more → HaveMoment told more
-      → w.pending ≡ u.pending → FedPart old new told v w (xs ++ ys)
-  fed_part {new} w ys more part adds moments pending =
-      let later = grown v.stream xs ys in record {
+  pub fed_part : {new : Seat} (w : View) (ys : List ℕ) (more : List Mark) → EventPart mid.seen.base.site u.state u.stream.events more
+      → slots_of w.state.requests ≡ left_slots mid.seen.base.site u.state u.stream.events more → Adds mid new more → HaveMoment told more → w.pending ≡ u.pending → FedPart old new told v w (xs ++ ys)
+  fed_part {new} w ys more part subscribed adds moments pending =
+      let later = grown v.stream xs ys in
+      let here = there (λ (z : SiteData) (s : State). EventPart z s u.stream.events more) part in record {
         steps = a.steps;
         more = more;
         rules = a.rules;
@@ -222,7 +252,9 @@ module _ {old mid : Seat} {told : Option Moment} {v u : View} {xs : List ℕ} (a
           rest = u.stream.events ++ later.0;
           whole = later.1 ∙ ap (λ (l : List Event). l ++ later.0) a.events ∙ append_assoc (events_of a.steps) u.stream.events later.0;
         };
-        part = part_grows site (state_after site v.state a.steps) u.stream.events later.0 more (there (λ (z : SiteData) (s : State). NextPart z s u.stream.events more) part);
+        part = part_grows site (state_after site v.state a.steps) u.stream.events later.0 more here;
+        subscribed = there (λ (z : SiteData) (s : State). slots_of w.state.requests ≡ left_slots z s u.stream.events more) subscribed
+            ∙ sym (left_grows site (state_after site v.state a.steps) u.stream.events later.0 more here);
         adds = adds_more a.adds adds;
         moments = moments_append told (marks_of a.steps) more a.moments moments;
         out = pending ∙ a.out;
@@ -232,7 +264,6 @@ module _ {old mid : Seat} {told : Option Moment} {v u : View} {xs : List ℕ} (a
 pub fed_err : {old mid : Seat} {told : Option Moment} {v u : View} {xs : List ℕ} (new : Seat) (w : View) (ys : List ℕ) (ended : Ended) → Passed old mid told v u xs
     → FedErr mid new told u w ys ended → FedErr old new told v w (xs ++ ys) ended
 fed_err new w ys (ends.Bad fault place) a b = fed_up_to_more a b
-fed_err new w ys (ends.NotBuilt command place) a b = fed_up_to_more a b
 fed_err new w ys ends.NoMemory a b = fed_part_more a b
 fed_err new w ys ends.Closed a b = b
 fed_err new w ys (ends.Truncated place) a b = b

@@ -1,4 +1,4 @@
--- What ends a connection before its stream does: a fault of the stream, or a message that isn't served so far.
+-- What ends a connection before its stream does: a fault of the stream.
 use Rattle.std.proofs.Common.{◌≡◌, Bool, true, false, List, [], ◌∷◌, Option, None, Some, Result, Ok, Err, sym, ap}
 use Rattle.std.proofs.lemmas.Option.{none-some}
 use Rattle.pva_frames.specs.Messages.{Unfinished}
@@ -8,14 +8,13 @@ use Rattle.pva_frames.specs.declared.event.Event.TheVariants.{Message, Control}
 use Rattle.pva_frames.specs.declared.fault.FrameFault.{FrameFault}
 use Rattle.desk_api.specs.declared.history.SiteData.{SiteData}
 use Rattle.srv_session.specs.State.{State}
-use Rattle.srv_session.specs.Tasks.{Hearing, asks, not_built, unreadable, heard}
+use Rattle.srv_session.specs.Tasks.{Hearing, asks, unreadable, over_range, heard}
 use Rattle.srv_stream.specs.Streams.{stop_at, stop_of, refused, Stands}
 use Rattle.srv_stream.specs.declared.ended.Ended.{Ended}
 use Rattle.srv_stream.specs.declared.ended.Ended.TheVariants as ends
 
 abbrev pub is_stop : Ended → Bool
 is_stop (ends.Bad fault place) = true
-is_stop (ends.NotBuilt command place) = true
 is_stop other = false
 
 -- what an option has, or else this
@@ -29,8 +28,8 @@ refusal_stops (Err fault) ended is = ap (λ (o : Option Ended). is_stop (ended_i
 
 hearing_stops : (m : Whole) (hearing : Hearing) (ended : Ended) → Some ended ≡ stop_at m hearing → is_stop ended ≡ true
 hearing_stops m (asks task types) ended is = absurd (none-some ended (sym is))
-hearing_stops m not_built ended is = ap (λ (o : Option Ended). is_stop (ended_in ended o)) is
 hearing_stops m (unreadable fault) ended is = ap (λ (o : Option Ended). is_stop (ended_in ended o)) is
+hearing_stops m over_range ended is = ap (λ (o : Option Ended). is_stop (ended_in ended o)) is
 
 pub event_stops : (site : SiteData) (s : State) (e : Event) (ended : Ended) → Some ended ≡ stop_of site s e → is_stop ended ≡ true
 event_stops site s (Message m) ended is = hearing_stops m (heard site s (Message m)) ended is

@@ -13,10 +13,11 @@ use Rattle.desk_api.specs.Calls.{Adds, HaveMoment}
 use Rattle.desk_api.specs.declared.history.SiteData.{SiteData}
 use Rattle.desk_api.specs.declared.mark.Mark.{Mark}
 use Rattle.desk_api.specs.declared.mark.Seat.{Seat}
-use Rattle.srv_session.specs.State.{State}
+use Rattle.srv_session.specs.Calls.{Shown}
+use Rattle.srv_session.specs.State.{State, slots_of}
 use Rattle.srv_session.specs.Tasks.{Hearing, asks, unreadable, over_range, heard}
 use Rattle.mon_window.specs.declared.window.WindowFault.TheVariants.{OverRange}
-use Rattle.srv_session.specs.Steps.{Step, hears, bytes_of, after_step, IsStep, AreSteps, state_after, events_of, marks_of, out_of, PartOf, EventPart}
+use Rattle.srv_session.specs.Steps.{Step, hears, bytes_of, after_step, IsStep, AreSteps, state_after, events_of, marks_of, out_of, PartOf, EventPart, after_part, left_by_hearing}
 use Rattle.srv_session.specs.Replies.{Sent}
 use Rattle.srv_session.specs.declared.stop.SessionStop.{SessionStop}
 use Rattle.srv_session.specs.declared.stop.SessionStop.TheVariants as stops
@@ -71,6 +72,14 @@ pub record View : Type 0 where
   pub stream : Assembled
   pub pending : List ℕ
 
+-- the session of a serving beside its desk's seat
+abbrev pub shown_in : Seat → View → Shown
+shown_in seat v = record { seat = seat; state = v.state; output = v.pending }
+
+-- what the stream has brought is as it was
+abbrev pub SameStream : View → View → Type 0
+SameStream v w = w.stream ≡ v.stream
+
 -- So far these bytes made these steps; the events that they brought beside are still to be answered.
 pub record Passed (old new : Seat) (told : Option Moment) (v w : View) (bytes : List ℕ) : Type 0 where
   pub steps : List Step
@@ -91,6 +100,7 @@ pub record FedOn (old new : Seat) (told : Option Moment) (v w : View) (bytes : L
 -- Something in the bytes ends the connection, and all before it was answered.
 pub record FedUpTo (old new : Seat) (told : Option Moment) (v w : View) (bytes : List ℕ) (ended : Ended) : Type 0 where
   pub steps : List Step
+  pub subscribed : slots_of w.state.requests ≡ slots_of (state_after old.seen.base.site v.state steps).requests
   pub follows : Follows old.seen.base.site v.state (fed v.stream bytes) steps (Some ended)
   pub adds : Adds old new (marks_of steps)
   pub moments : HaveMoment told (marks_of steps)
@@ -103,6 +113,8 @@ pub record FedPart (old new : Seat) (told : Option Moment) (v w : View) (bytes :
   pub rules : AreSteps old.seen.base.site v.state steps
   pub front : IsPrefixOf (events_of steps) (fed v.stream bytes).events
   pub part : EventPart old.seen.base.site (state_after old.seen.base.site v.state steps) front.rest more
+  pub subscribed : slots_of w.state.requests
+      ≡ slots_of (after_part old.seen.base.site (state_after old.seen.base.site v.state steps) front.rest more).requests
   pub adds : Adds old new (marks_of steps ++ more)
   pub moments : HaveMoment told (marks_of steps ++ more)
   pub out : w.pending ≡ v.pending ++ out_of old.seen.base.site v.state steps
@@ -129,10 +141,10 @@ TakesSome old new told v w piece (Err ended) = FedErr old new told v w piece end
 
 -- One event, which the stream brought, was answered or wasn't. The stream is as before.
 
-abbrev pub stop_as : ℕ → ℕ → SessionStop → Ended
-stop_as command place (stops.Message fault) = ends.Bad (faults.Message fault) place
-stop_as command place (stops.Window fault) = ends.Bad (faults.Window fault) place
-stop_as command place stops.NoMemory = ends.NoMemory
+abbrev pub stop_as : ℕ → SessionStop → Ended
+stop_as place (stops.Message fault) = ends.Bad (faults.Message fault) place
+stop_as place (stops.Window fault) = ends.Bad (faults.Window fault) place
+stop_as place stops.NoMemory = ends.NoMemory
 
 pub record AnsweredEvent (old new : Seat) (moment : Moment) (v w : View) (e : Event) : Type 0 where
   pub marks : List Mark
@@ -146,12 +158,15 @@ pub record AnsweredEvent (old new : Seat) (moment : Moment) (v w : View) (e : Ev
 
 pub record UnansweredEvent (old new : Seat) (v w : View) (e : Event) (ended : Ended) : Type 0 where
   pub seat : new ≡ old
+  pub subscribed : slots_of w.state.requests ≡ slots_of v.state.requests
   pub stop : stop_of old.seen.base.site v.state e ≡ Some ended
   pub out : w.pending ≡ v.pending
 
 pub record PartOfEvent (old new : Seat) (moment : Moment) (v w : View) (e : Event) : Type 0 where
   pub marks : List Mark
   pub part : PartOf old.seen.base.site v.state (heard old.seen.base.site v.state e) marks
+  pub subscribed : slots_of w.state.requests
+      ≡ slots_of (left_by_hearing old.seen.base.site v.state (heard old.seen.base.site v.state e) marks).requests
   pub adds : Adds old new marks
   pub moments : HaveMoment (Some moment) marks
   pub out : w.pending ≡ v.pending

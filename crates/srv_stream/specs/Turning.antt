@@ -1,5 +1,5 @@
 -- One turn of a connection: which call of the link is due, and what it came to.
-use Rattle.std.specs.Prelude.{◌≡◌, ℕ, ◌<◌, ◌≤◌, ◌⊎◌, List, [], length, take, drop, Option, None, Some, Result, Ok, Err}
+use Rattle.std.specs.Prelude.{◌≡◌, ℕ, ◌<◌, ◌≤◌, ◌⊎◌, Bool, true, false, List, [], length, take, drop, Option, None, Some, Result, Ok, Err}
 use Rattle.pva_outside.specs.Wire.{Wire, Gave, Taken, CameToEnd, Idled, Failed, Unchanged}
 use Rattle.pva_frames.specs.Assembled.{rest_of}
 use Rattle.desk_api.specs.declared.mark.Seat.{Seat}
@@ -10,22 +10,37 @@ use Rattle.srv_stream.specs.declared.ended.Ended.TheVariants as ends
 use Rattle.srv_stream.specs.declared.serve.Due.{Due}
 use Rattle.srv_stream.specs.declared.serve.Due.TheVariants as dues
 
--- All is written, and the connection ends so.
-pub record EndIsDue (pending : List ℕ) (over : Option Ended) (ended : Ended) : Type 0 where
+-- whether the monitors are still to be popped before a connection ends so, or goes on: not behind a fault of the stream
+abbrev pub may_pump : Option Ended → Bool
+may_pump None = true
+may_pump (Some (ends.Bad fault place)) = false
+may_pump (Some ended) = true
+
+-- All is written, and the connection ends so. `pumped` says that the monitors were popped until nothing was unread.
+pub record EndIsDue (pending : List ℕ) (over : Option Ended) (pumped : Bool) (ended : Ended) : Type 0 where
   pub written : pending ≡ []
   pub over_is : over ≡ Some ended
+  pub pumped_out : may_pump over ≡ true → pumped ≡ true
 
--- All is written, and nothing ends the connection yet.
-pub record IsOpen (pending : List ℕ) (over : Option Ended) : Type 0 where
+-- All is written, and something may be unread.
+pub record PumpIsDue (pending : List ℕ) (over : Option Ended) (pumped : Bool) : Type 0 where
+  pub written : pending ≡ []
+  pub may : may_pump over ≡ true
+  pub pumped_is : pumped ≡ false
+
+-- All is written, nothing is unread that may be sent, and nothing ends the connection yet.
+pub record IsOpen (pending : List ℕ) (over : Option Ended) (pumped : Bool) : Type 0 where
   pub written : pending ≡ []
   pub over_is : over ≡ None
+  pub pumped_is : pumped ≡ true
 
 -- What is due behind so many calls of the most that may be made, where this is to be written.
-abbrev pub IsDue : List ℕ → Option Ended → ℕ → ℕ → Due → Type 0
-IsDue pending over calls turns dues.Write = (0 < length pending) × (calls < turns)
-IsDue pending over calls turns dues.Read = IsOpen pending over × (calls < turns)
-IsDue pending over calls turns (dues.End ended) = EndIsDue pending over ended
-IsDue pending over calls turns dues.Spent = (turns ≤ calls) × ((0 < length pending) ⊎ IsOpen pending over)
+abbrev pub IsDue : List ℕ → Option Ended → Bool → ℕ → ℕ → Due → Type 0
+IsDue pending over pumped calls turns dues.Write = (0 < length pending) × (calls < turns)
+IsDue pending over pumped calls turns dues.Pump = PumpIsDue pending over pumped
+IsDue pending over pumped calls turns dues.Read = IsOpen pending over pumped × (calls < turns)
+IsDue pending over pumped calls turns (dues.End ended) = EndIsDue pending over pumped ended
+IsDue pending over pumped calls turns dues.Spent = (turns ≤ calls) × ((0 < length pending) ⊎ IsOpen pending over pumped)
 
 -- A write.
 
@@ -40,10 +55,20 @@ pub record WroteNothing (start end : Wire) (v w : View) : Type 0 where
   pub idled : Idled start end
   pub view : w ≡ v
 
+-- it failed, or memory ran out, and nothing was taken
+
+pub record WriteFailed (start end : Wire) (v w : View) : Type 0 where
+  pub failed : Failed start end
+  pub view : w ≡ v
+
+pub record WriteWithout (start end : Wire) (v w : View) : Type 0 where
+  pub unchanged : Unchanged start end
+  pub view : w ≡ v
+
 abbrev pub WritesSome : Wire → Wire → View → View → Result (Unit {0}) Ended → Type 0
 WritesSome start end v w (Ok u) = Wrote start end v w ⊎ WroteNothing start end v w
-WritesSome start end v w (Err ends.WriteFault) = Failed start end
-WritesSome start end v w (Err ends.NoMemory) = Unchanged start end
+WritesSome start end v w (Err ends.WriteFault) = WriteFailed start end v w
+WritesSome start end v w (Err ends.NoMemory) = WriteWithout start end v w
 WritesSome start end v w (Err other) = ⊥
 
 -- A read.

@@ -1,6 +1,6 @@
 // Why a connection ends.
-use pva_frames::FrameFault;
 use mon_window::WindowFault;
+use pva_frames::FrameFault;
 use pva_messages::MessageFault;
 
 /// What is wrong with a stream.

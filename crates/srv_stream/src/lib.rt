@@ -6,6 +6,8 @@ mod call_tests;
 mod ended;
 mod laws;
 #[cfg(test)]
+mod monitor_tests;
+#[cfg(test)]
 mod put_get_tests;
 mod serve;
 mod serving;

@@ -1,10 +1,11 @@
 // One connection, from its greeting to its end.
-ghost use Rattle.std.specs.Prelude.{◌≡◌, ◌<◌, OnOk, length};
+ghost use Rattle.std.specs.Prelude.{◌≡◌, ◌<◌, length};
 ghost use Rattle.srv_stream.specs.Faults.{EndsAtFirstFault};
-ghost use Rattle.srv_session.specs.Calls.{IsOf};
+ghost use Rattle.srv_session.specs.Calls.{AreLiving, Finished, Holds, IsOf};
+ghost use Rattle.srv_session.specs.State.{slots_of};
 ghost use Rattle.srv_stream.specs.Served.{Served};
-ghost use Rattle.srv_stream.specs.Streams.{Feeds, moment_told};
-ghost use Rattle.srv_stream.specs.Turning.{IsDue, WritesSome, ReadsSome, ended_inside, over_by};
+ghost use Rattle.srv_stream.specs.Streams.{Feeds, moment_told, shown_in};
+ghost use Rattle.srv_stream.specs.Turning.{IsDue, WritesSome, ReadsSome, ended_inside, may_pump, over_by};
 ghost use Rattle.srv_stream.specs.Views.{view_of, first_view};
 
 use crate::ended::Ended;
@@ -22,8 +23,10 @@ fn feed<D: Desk, C: Clock>(
     clock: &C,
     piece: &[u8],
 ) -> Result<(), Ended>
-    requires { IsOf (D.seat desk.old).seen.base.site (view_of serving.old).state }
-    ensures { Feeds (D.seat desk.old) (D.seat desk.new) (moment_told (C.moment clock.now)) (view_of serving.old) (view_of serving.new) piece.now result }
+    requires site { IsOf (D.seat desk.old).seen.base.site (view_of serving.old).state }
+    requires holds { Holds (D.seat desk.old).log (view_of serving.old).state }
+    ensures living { AreLiving (D.seat desk.new).log (slots_of (view_of serving.new).state.requests) }
+    ensures feeds { Feeds (D.seat desk.old) (D.seat desk.new) (moment_told (C.moment clock.now)) (view_of serving.old) (view_of serving.new) piece.now result }
 {
     let (seconds, nanoseconds) = clock.now();
     serving.feed(alloc, desk, piece, Moment::new(seconds, nanoseconds))
@@ -34,6 +37,8 @@ fn feed<D: Desk, C: Clock>(
 pub(crate) enum Due {
     /// A write of what is pending.
     Write,
+    /// A pop of each monitor that may be sent an update.
+    Pump,
     /// A read of the next piece.
     Read,
     /// Nothing: all is written, and the connection ends so.
@@ -42,9 +47,17 @@ pub(crate) enum Due {
     Spent,
 }
 
-/// What is due behind so many calls of the link. `over` is how the connection ends once all is written.
-fn next_due(serving: &Serving, over: Option<Ended>, calls: u64, turns: u64) -> Due
-    ensures { IsDue (view_of serving.now).pending over calls turns result }
+/// Whether the monitors are still to be popped where the connection ends so once all is written, or where it goes on.
+fn may_pump(over: Option<Ended>) -> bool
+    ensures { result ≡ may_pump over }
+{
+    !matches!(over, Some(Ended::Bad(_, _)))
+}
+
+/// What is due behind so many calls of the link. `over` is how the connection ends once all is written, and `pumped` tells that nothing
+/// is unread that may be sent.
+fn next_due(serving: &Serving, over: Option<Ended>, pumped: bool, calls: u64, turns: u64) -> Due
+    ensures { IsDue (view_of serving.now).pending over pumped calls turns result }
 {
     if !serving.output().is_empty() {
         return if calls < turns {
@@ -52,6 +65,9 @@ fn next_due(serving: &Serving, over: Option<Ended>, calls: u64, turns: u64) -> D
         } else {
             Due::Spent
         };
+    }
+    if !pumped && may_pump(over) {
+        return Due::Pump;
     }
     if let Some(ended) = over {
         return Due::End(ended);
@@ -105,8 +121,10 @@ fn read_some<D: Desk, L: Link, C: Clock>(
     link: &mut L,
     clock: &C,
 ) -> Result<Option<Ended>, Ended>
-    requires { IsOf (D.seat desk.old).seen.base.site (view_of serving.old).state }
-    ensures { ReadsSome (D.seat desk.old) (D.seat desk.new) (L.wire link.old) (L.wire link.new) (moment_told (C.moment clock.now)) (view_of serving.old) (view_of serving.new) result }
+    requires site { IsOf (D.seat desk.old).seen.base.site (view_of serving.old).state }
+    requires holds { Holds (D.seat desk.old).log (view_of serving.old).state }
+    ensures living { AreLiving (D.seat desk.new).log (slots_of (view_of serving.new).state.requests) }
+    ensures reads { ReadsSome (D.seat desk.old) (D.seat desk.new) (L.wire link.old) (L.wire link.new) (moment_told (C.moment clock.now)) (view_of serving.old) (view_of serving.new) result }
 {
     let mut buffer = [0u8; 4096];
     match link.read(&mut buffer) {
@@ -118,49 +136,70 @@ fn read_some<D: Desk, L: Link, C: Clock>(
     }
 }
 
-/// Writes and reads until something ends it.
+/// Ends the subscriptions, and the connection so.
+fn end<D: Desk>(serving: Serving, desk: &mut D, ended: Ended) -> Ended
+    requires { AreLiving (D.seat desk.old).log (slots_of (view_of serving).state.requests) }
+    ensures finished { Finished (shown_in (D.seat desk.old) (view_of serving)) (D.seat desk.new) }
+    ensures ended { result ≡ ended }
+{
+    serving.finish(desk);
+    ended
+}
+
+/// Writes, pops and reads until something ends it.
 fn serve<D: Desk, L: Link, C: Clock>(
     alloc: Global,
-    serving: &mut Serving,
+    serving: Serving,
     desk: &mut D,
     link: &mut L,
     clock: &C,
     order: Order,
     turns: u64,
 ) -> Ended
-    requires { view_of serving.old ≡ first_view order }
+    requires { view_of serving ≡ first_view order }
     ensures served { Served (D.seat desk.old) (D.seat desk.new) (L.wire link.old) (L.wire link.new) (moment_told (C.moment clock.now)) order turns result }
     ensures fault { EndsAtFirstFault L.wire link.old link.new result }
 {
     desk.has_legal_history();
+    let mut serving = serving;
     let mut calls = 0;
     let mut over: Option<Ended> = None;
+    let mut pumped = false;
     'turns: loop {
-        match next_due(serving, over, calls, turns) {
-            Due::Write => match write_some(serving, link) {
+        match next_due(&serving, over, pumped, calls, turns) {
+            Due::Write => match write_some(&mut serving, link) {
                 Ok(()) => {
                     calls += 1;
                     continue 'turns;
                 }
-                Err(ended) => return ended,
+                Err(ended) => return end(serving, desk, ended),
             },
-            Due::Read => match read_some(alloc, serving, desk, link, clock) {
+            Due::Pump => match serving.pump(desk) {
+                Ok(more) => {
+                    pumped = !more;
+                    continue 'turns;
+                }
+                Err(_) => return end(serving, desk, Ended::NoMemory),
+            },
+            Due::Read => match read_some(alloc, &mut serving, desk, link, clock) {
                 Ok(found) => {
                     calls += 1;
                     over = found;
+                    pumped = false;
                     continue 'turns;
                 }
-                Err(ended) => return ended,
+                Err(ended) => return end(serving, desk, ended),
             },
-            Due::End(ended) => return ended,
-            Due::Spent => return Ended::Spent(calls),
+            Due::End(ended) => return end(serving, desk, ended),
+            Due::Spent => return end(serving, desk, Ended::Spent(calls)),
         }
     }
 }
 
-/// Serves one connection: writes what is pending, else reads up to 4,096 bytes and answers their events, until the client
-/// ends the stream, something fails, or `turns` calls of the link's read or write were made. The replies are in this
-/// byte order. A put has the moment that the clock tells when the piece is read that ends its message.
+/// Serves one connection: writes what is pending, else pops the monitors until nothing is unread that may be sent, else reads up to 4,096
+/// bytes and answers their events, until the client ends the stream, something fails, or `turns` calls of the link's read or write were
+/// made. The replies are in this byte order. A put has the moment that the clock tells when the piece is read that ends its message. At
+/// the end all subscriptions of the connection have ended.
 pub fn serve_connection<D: Desk, L: Link, C: Clock>(
     alloc: Global,
     desk: &mut D,
@@ -173,8 +212,8 @@ pub fn serve_connection<D: Desk, L: Link, C: Clock>(
     ensures fault { EndsAtFirstFault L.wire link.old link.new result }
 {
     desk.has_legal_history();
-    let Ok(mut serving) = Serving::start(alloc, order) else {
+    let Ok(serving) = Serving::start(alloc, order) else {
         return Ended::NoMemory;
     };
-    serve(alloc, &mut serving, desk, link, clock, order, turns)
+    serve(alloc, serving, desk, link, clock, order, turns)
 }

@@ -17,13 +17,13 @@ use std::alloc::Global;
 /// The bytes of a header (pvAccess Protocol Specification, "Message Header").
 const HEADER: usize = 8;
 
-/// How a message of this command and place, at which the session stops, ends the connection.
-fn ended_at(stop: SessionStop, command: u8, place: u64) -> Ended
-    ensures { result ≡ stop_as command place stop }
+/// How a message of this place, at which the session stops, ends the connection.
+fn ended_at(stop: SessionStop, place: u64) -> Ended
+    ensures { result ≡ stop_as place stop }
 {
     match stop {
-        SessionStop::NotBuilt => Ended::NotBuilt(command, place),
         SessionStop::Message(fault) => Ended::Bad(StreamFault::Message(fault), place),
+        SessionStop::Window(fault) => Ended::Bad(StreamFault::Window(fault), place),
         SessionStop::NoMemory => Ended::NoMemory,
     }
 }
@@ -37,8 +37,9 @@ pub struct Serving {
 }
 
 impl Serving {
-    ghost use Rattle.srv_session.specs.Calls.{IsOf};
-    ghost use Rattle.srv_stream.specs.Streams.{Feeds, TakesSome, AnswersEvent};
+    ghost use Rattle.srv_session.specs.Calls.{AreLiving, Finished, Holds, IsOf, Pumps};
+    ghost use Rattle.srv_session.specs.State.{slots_of};
+    ghost use Rattle.srv_stream.specs.Streams.{Feeds, TakesSome, AnswersEvent, SameStream, shown_in};
     ghost use Rattle.srv_stream.specs.Views.{view_of, first_view};
 
     /// A serving whose output is the greeting. It writes in this byte order.
@@ -82,9 +83,12 @@ impl Serving {
         desk: &mut D,
         moment: Moment,
     ) -> Result<(), Ended>
-        requires { IsOf (D.seat desk.old).seen.base.site (view_of self.old).state }
+        requires site { IsOf (D.seat desk.old).seen.base.site (view_of self.old).state }
+        requires holds { Holds (D.seat desk.old).log (view_of self.old).state }
         ensures answers { AnswersEvent (D.seat desk.old) (D.seat desk.new) moment (view_of self.old) (view_of self.new) event.now result }
         ensures site { OnOk result (IsOf (D.seat desk.new).seen.base.site (view_of self.new).state) }
+        ensures holds { OnOk result (Holds (D.seat desk.new).log (view_of self.new).state) }
+        ensures living { AreLiving (D.seat desk.new).log (slots_of (view_of self.new).state.requests) }
     {
         desk.has_legal_history();
         match event {
@@ -114,13 +118,16 @@ impl Serving {
         desk: &mut D,
         moment: Moment,
     ) -> Result<(), Ended>
-        requires { IsOf (D.seat desk.old).seen.base.site (view_of self.old).state }
+        requires site { IsOf (D.seat desk.old).seen.base.site (view_of self.old).state }
+        requires holds { Holds (D.seat desk.old).log (view_of self.old).state }
         ensures answers { AnswersEvent (D.seat desk.old) (D.seat desk.new) moment (view_of self.old) (view_of self.new) (Message (whole_of message.now)) result }
         ensures site { OnOk result (IsOf (D.seat desk.new).seen.base.site (view_of self.new).state) }
+        ensures holds { OnOk result (Holds (D.seat desk.new).log (view_of self.new).state) }
+        ensures living { AreLiving (D.seat desk.new).log (slots_of (view_of self.new).state.requests) }
     {
         match self.session.handle_message(alloc, message, desk, moment) {
             Ok(()) => Ok(()),
-            Err(stop) => Err(ended_at(stop, message.command, message.place)),
+            Err(stop) => Err(ended_at(stop, message.place)),
         }
     }
 
@@ -131,9 +138,12 @@ impl Serving {
         desk: &mut D,
         moment: Moment,
     ) -> Result<(), Ended>
-        requires { IsOf (D.seat desk.old).seen.base.site (view_of self.old).state }
+        requires site { IsOf (D.seat desk.old).seen.base.site (view_of self.old).state }
+        requires holds { Holds (D.seat desk.old).log (view_of self.old).state }
         ensures feeds { Feeds (D.seat desk.old) (D.seat desk.new) (Some moment) (view_of self.old) (view_of self.new) [] result }
         ensures site { OnOk result (IsOf (D.seat desk.new).seen.base.site (view_of self.new).state) }
+        ensures holds { OnOk result (Holds (D.seat desk.new).log (view_of self.new).state) }
+        ensures living { AreLiving (D.seat desk.new).log (slots_of (view_of self.new).state.requests) }
     {
         desk.has_legal_history();
         'events: loop {
@@ -163,8 +173,11 @@ impl Serving {
     ) -> Result<usize, Ended>
         requires some { 0 < length piece.now }
         requires site { IsOf (D.seat desk.old).seen.base.site (view_of self.old).state }
+        requires holds { Holds (D.seat desk.old).log (view_of self.old).state }
         ensures takes { TakesSome (D.seat desk.old) (D.seat desk.new) (Some moment) (view_of self.old) (view_of self.new) piece.now result }
         ensures site { OnOk result (IsOf (D.seat desk.new).seen.base.site (view_of self.new).state) }
+        ensures holds { OnOk result (Holds (D.seat desk.new).log (view_of self.new).state) }
+        ensures living { AreLiving (D.seat desk.new).log (slots_of (view_of self.new).state.requests) }
     {
         desk.has_legal_history();
         if let Some(message) = self.stream.lend(piece) {
@@ -183,7 +196,7 @@ impl Serving {
     }
 
     /// Takes the next bytes of the stream and answers the events that they bring. What these put has this moment. The answer
-    /// is `Bad`, `NotBuilt` or `NoMemory`; after the first two the output still has the replies to the events before it.
+    /// is `Bad` or `NoMemory`; after `Bad` the output still has the replies to the events before it.
     pub fn feed<D: Desk>(
         &mut self,
         alloc: Global,
@@ -191,9 +204,12 @@ impl Serving {
         piece: &[u8],
         moment: Moment,
     ) -> Result<(), Ended>
-        requires { IsOf (D.seat desk.old).seen.base.site (view_of self.old).state }
+        requires site { IsOf (D.seat desk.old).seen.base.site (view_of self.old).state }
+        requires holds { Holds (D.seat desk.old).log (view_of self.old).state }
         ensures feeds { Feeds (D.seat desk.old) (D.seat desk.new) (Some moment) (view_of self.old) (view_of self.new) piece.now result }
         ensures site { OnOk result (IsOf (D.seat desk.new).seen.base.site (view_of self.new).state) }
+        ensures holds { OnOk result (Holds (D.seat desk.new).log (view_of self.new).state) }
+        ensures living { AreLiving (D.seat desk.new).log (slots_of (view_of self.new).state.requests) }
     {
         desk.has_legal_history();
         let mut at = 0;
@@ -207,5 +223,28 @@ impl Serving {
             }
         }
         self.answer_ready(alloc, desk, moment)
+    }
+
+    /// Pops each started monitor whose window is open once, by the rising ids of their requests, and adds the updates. False exactly
+    /// where each such pop found nothing unread.
+    pub fn pump<D: Desk>(&mut self, desk: &mut D) -> Result<bool, NoMemory>
+        requires site { IsOf (D.seat desk.old).seen.base.site (view_of self.old).state }
+        requires holds { Holds (D.seat desk.old).log (view_of self.old).state }
+        ensures pumps { Pumps (shown_in (D.seat desk.old) (view_of self.old)) (shown_in (D.seat desk.new) (view_of self.new)) result }
+        ensures stream { SameStream (view_of self.old) (view_of self.new) }
+        ensures site { OnOk result (IsOf (D.seat desk.new).seen.base.site (view_of self.new).state) }
+        ensures holds { OnOk result (Holds (D.seat desk.new).log (view_of self.new).state) }
+        ensures living { AreLiving (D.seat desk.new).log (slots_of (view_of self.new).state.requests) }
+    {
+        desk.has_legal_history();
+        self.session.pump(desk)
+    }
+
+    /// Ends the session and its subscriptions. What is still to be written goes with it. It takes no memory.
+    pub fn finish<D: Desk>(self, desk: &mut D)
+        requires { AreLiving (D.seat desk.old).log (slots_of (view_of self).state.requests) }
+        ensures { Finished (shown_in (D.seat desk.old) (view_of self)) (D.seat desk.new) }
+    {
+        self.session.finish(desk);
     }
 }

@@ -77,7 +77,7 @@ const GET: &[u8] = b"\xCA\x02\x00\x0A\x09\x00\x00\x00\x00\x00\x00\x00\x01\x00\x0
 
 const PUT_DONE: &[u8] = b"\xCA\x02\x40\x0B\x06\x00\x00\x00\x02\x00\x00\x00\x00\xFF";
 
-fn joined(alloc: Global, parts: &[&[u8]]) -> Result<Vec<u8>, NoMemory> {
+pub(crate) fn joined(alloc: Global, parts: &[&[u8]]) -> Result<Vec<u8>, NoMemory> {
     let mut bytes = Vec::new(alloc);
     for part in parts {
         bytes.extend_from_slice(part)?;
@@ -86,7 +86,7 @@ fn joined(alloc: Global, parts: &[&[u8]]) -> Result<Vec<u8>, NoMemory> {
 }
 
 /// Drops what it is given.
-fn discard<T: Drop>(_value: T) {}
+pub(crate) fn discard<T: Drop>(_value: T) {}
 
 /// The site of a text without macros.
 fn site_of(alloc: Global, text: &str) -> Result<Site, NoMemory> {
@@ -122,7 +122,7 @@ fn ports_for(alloc: Global, site: &Site) -> Result<Vec<Option<MemoryPort>>, NoMe
 }
 
 /// The desk of the records of a text, whose entries may weigh no more than the limit together.
-fn desk_of(alloc: Global, text: &str, limit: u64) -> Result<SoloDesk<MemoryPort>, NoMemory> {
+pub(crate) fn desk_of(alloc: Global, text: &str, limit: u64) -> Result<SoloDesk<MemoryPort>, NoMemory> {
     let site = site_of(alloc, text)?;
     let ports = ports_for(alloc, &site)?;
     SoloDesk::new(alloc, site, ports, limit)

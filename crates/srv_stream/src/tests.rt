@@ -1,5 +1,5 @@
 ghost use Rattle.std.specs.Prelude.{◌<◌};
-ghost use Rattle.srv_session.specs.Calls.{IsOf};
+ghost use Rattle.srv_session.specs.Calls.{Holds, IsOf};
 ghost use Rattle.srv_stream.specs.Views.{view_of};
 
 use super::*;
@@ -121,6 +121,7 @@ fn feed_pieces<D: Desk>(
 ) -> Result<(), Ended>
     requires size { 0 < size }
     requires site { IsOf (D.seat desk.old).seen.base.site (view_of serving.old).state }
+    requires holds { Holds (D.seat desk.old).log (view_of serving.old).state }
 {
     'pieces: for piece in bytes.chunks(size) {
         match serving.feed(alloc, desk, piece, Moment::new(100, 5)) {
@@ -436,7 +437,7 @@ fn cut_short() -> Ended {
     Ended::Bad(StreamFault::Message(fault), 27)
 }
 
-/// The beginning of a monitor, which isn't served so far.
+/// A monitor begins, for all of the first channel.
 const BEGIN_MONITOR: &[u8] =
     b"\xCA\x02\x00\x0D\x0C\x00\x00\x00\x00\x00\x00\x00\x03\x00\x00\x00\x08\x80\x00\x00";
 
@@ -458,8 +459,6 @@ fn what_ends_a_stream_does_so_in_pieces_of_every_size_and_in_both_orders(
     ends_always(&rt, alloc, header, too_long(0), too_long(27))?;
     let last = b"\xCA\x02\x20\x07\x02\x00\x00\x00\x01X";
     ends_always(&rt, alloc, last, bad_segment(0), bad_segment(27))?;
-    let monitor = (Err(Ended::NotBuilt(13, 27)), None);
-    ends_always(&rt, alloc, BEGIN_MONITOR, on, monitor)?;
     ends_always(&rt, alloc, BAD_CREATE, on, (Err(bad_name()), None))?;
     ends_always(&rt, alloc, CUT_DESTROY, on, (Err(cut_short()), None))?;
     Ok(())
@@ -664,35 +663,41 @@ fn the_channel_behind_4096_is_refused(rt: HostRuntime) -> Result<(), Fail> {
     Ok(())
 }
 
-const OPEN: &[&[u8]] = &[VALIDATION, CREATE];
-
-/// The same in big endian.
+/// The beginning of a monitor in big endian.
 const BEGIN_MONITOR_BIG: &[u8] =
-    b"\xCA\x02\x80\x0D\x00\x00\x00\x0C\x00\x00\x00\x00\x00\x00\x00\x03\x08\x80\x00\x00";
+    b"\xCA\x02\x80\x0D\x00\x00\x00\x0C\x00\x00\x00\x00\x00\x00\x00\x04\x08\x80\x00\x00";
 
-/// Behind these messages this one, of this command, isn't served.
-fn is_unserved(
-    rt: &impl Abort,
-    alloc: Global,
-    order: Order,
-    behind: &[&[u8]],
-    message: &[u8],
-    command: u8,
-) -> Result<(), NoMemory> {
-    let mut input = joined(alloc, behind)?;
-    let place = input.len() as u64;
-    input.extend_from_slice(message)?;
-    let (came, _, rest) = fed(alloc, order, &[&input], 4096)?;
-    assert_eq!(rt; came, Err(Ended::NotBuilt(command, place)));
-    assert_eq!(rt; rest, None);
-    Ok(())
-}
+const MONITOR_BEGUN: &[u8] = b"\xCA\x02\x40\x0D\x8B\x00\x00\x00\x03\x00\x00\x00\x08\xFF";
+
+const OTHER_BEGUN: &[u8] = b"\xCA\x02\x40\x0D\x8B\x00\x00\x00\x04\x00\x00\x00\x08\xFF";
+
+const BIG_MONITOR_BEGUN: &[u8] = b"\xCA\x02\xC0\x0D\x00\x00\x00\x8B\x00\x00\x00\x03\x08\xFF";
+
+const BIG_OTHER_BEGUN: &[u8] = b"\xCA\x02\xC0\x0D\x00\x00\x00\x8B\x00\x00\x00\x04\x08\xFF";
 
 #[test]
-fn monitors_are_not_served_so_far_in_both_orders(rt: HostRuntime) -> Result<(), Fail> {
+fn monitors_begin_in_both_orders(rt: HostRuntime) -> Result<(), Fail> {
     let alloc = rt.alloc();
-    is_unserved(&rt, alloc, Order::Little, OPEN, BEGIN_MONITOR, 0x0D)?;
-    is_unserved(&rt, alloc, Order::Big, OPEN, BEGIN_MONITOR_BIG, 0x0D)?;
+    let input = [VALIDATION, CREATE, BEGIN_MONITOR, BEGIN_MONITOR_BIG];
+    let little = [
+        GREETING,
+        VALIDATED,
+        CREATED,
+        MONITOR_BEGUN,
+        DESCRIPTION,
+        OTHER_BEGUN,
+        DESCRIPTION,
+    ];
+    let big = [
+        BIG_GREETING,
+        BIG_VALIDATED,
+        BIG_CREATED,
+        BIG_MONITOR_BEGUN,
+        DESCRIPTION,
+        BIG_OTHER_BEGUN,
+        DESCRIPTION,
+    ];
+    is_answered(&rt, alloc, &input, &little, &big)?;
     Ok(())
 }
 
@@ -825,6 +830,28 @@ fn where_a_connection_ends_behind_its_validation(rt: HostRuntime) -> Result<(), 
     let twice = [GREETING, VALIDATED, VALIDATED];
     ends(&rt, alloc, &[VALIDATION, VALIDATION], Ended::Closed, &twice)?;
     ends(&rt, alloc, &[CREATE, VALIDATION], Ended::Closed, &output)?;
+    Ok(())
+}
+
+/// The start of a monitor, and its first update.
+const START_MONITOR: &[u8] =
+    b"\xCA\x02\x00\x0D\x09\x00\x00\x00\x00\x00\x00\x00\x03\x00\x00\x00\x44";
+
+const UPDATED: &[u8] =
+    b"\xCA\x02\x40\x0D\x26\x00\x00\x00\x03\x00\x00\x00\x00\x02\xBA\x03\x2A\x00\x00\x00\x00\x00\x00\x00\x00\x00\x00\x00\x00\x00\x00\x00\x00\x00\x00\x00\x00\x00\x00\x00\x00\x00\x00\x00\x00\x00";
+
+#[test]
+fn monitors_are_popped_before_the_end_and_not_behind_a_fault(rt: HostRuntime) -> Result<(), Fail> {
+    let alloc = rt.alloc();
+    let input = [VALIDATION, CREATE, BEGIN_MONITOR, START_MONITOR];
+    let begun = [GREETING, VALIDATED, CREATED, MONITOR_BEGUN, DESCRIPTION];
+    let said = joined(alloc, &begun)?;
+    ends(&rt, alloc, &input, Ended::Closed, &[&said, UPDATED])?;
+    let whole = joined(alloc, &input)?;
+    let place = whole.len() as u64;
+    let magic = FrameFault::BadMagic { byte: 0xCB, place };
+    let bad = Ended::Bad(StreamFault::Frame(magic), place);
+    ends(&rt, alloc, &[&whole, b"\xCB"], bad, &[&said])?;
     Ok(())
 }
 

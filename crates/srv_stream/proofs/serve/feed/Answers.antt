@@ -4,8 +4,8 @@ use Rattle.srv_stream.specs.Views.{view_of}
 use Rattle.srv_stream.proofs.Feeding.{feeds_told, told_is}
 use Rattle.srv_stream.proofs.serve.feed.Goals as goal
 
-pub returns : goal.returns
-returns g c =
+pub returns-clause-feeds : goal.returns-clause-feeds
+returns-clause-feeds g c =
     let fits : SFits w64 c.now-seconds.result.0 = search rules in
     let told = g.C.Clock.moment c.args.clock.now in
     let moment : Moment = c.new.result in

@@ -14,3 +14,9 @@ returns-in-Took g c = inl (record {
 
 pub returns-in-Idle : goal.returns-in-Idle
 returns-in-Idle g c = inr (record { idled = c.in-Idle.ensures.step; view = refl })
+
+pub returns-in-Failed : goal.returns-in-Failed
+returns-in-Failed g c = record { failed = c.in-Failed.ensures.step; view = refl }
+
+pub returns-in-NoMemory : goal.returns-in-NoMemory
+returns-in-NoMemory g c = record { unchanged = c.in-NoMemory.ensures.step; view = refl }

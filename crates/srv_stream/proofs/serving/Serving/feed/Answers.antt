@@ -4,7 +4,7 @@ use Rattle.std.proofs.Math.Seq.{take-add}
 use Rattle.srv_stream.specs.Streams.{Passed, Feeds, FedErr, Took}
 use Rattle.srv_stream.specs.Views.{view_of}
 use Rattle.srv_stream.proofs.Passing.{passed_nothing, passed_more, fed_err}
-use Rattle.srv_stream.proofs.Feeding.{passed_on_site, feeds_end}
+use Rattle.srv_stream.proofs.Feeding.{passed_on_site, passed_holds, feeds_end}
 use Rattle.srv_stream.proofs.serving.Serving.feed.Goals as goal
 
 pub pieces-init : goal.pieces-init
@@ -14,7 +14,10 @@ pieces-init g c = record {
 }
 
 pub take_some-requires-clause-site : goal.take_some-requires-clause-site
-take_some-requires-clause-site g c = passed_on_site c.pieces.invariant.passed c.requires
+take_some-requires-clause-site g c = passed_on_site c.pieces.invariant.passed c.requires.site
+
+pub take_some-requires-clause-holds : goal.take_some-requires-clause-holds
+take_some-requires-clause-holds g c = passed_holds c.pieces.invariant.passed c.requires.holds
 
 pub pieces-preserved : goal.pieces-preserved
 pieces-preserved g c =
@@ -47,8 +50,11 @@ returns-in-Err-clause-feeds g c =
     let x = subst (λ (z : List ℕ). FedErr mid new (Some c.args.moment) u w z ended) all c.in-Err.ensures.takes in
     subst (λ (z : List ℕ). FedErr old new (Some c.args.moment) v w z ended) (take-append-drop at piece) (fed_err new w (drop at piece) ended c.pieces.invariant.passed x)
 
-pub answer_ready-requires : goal.answer_ready-requires
-answer_ready-requires g c = passed_on_site c.pieces.invariant.passed c.requires
+pub answer_ready-requires-clause-site : goal.answer_ready-requires-clause-site
+answer_ready-requires-clause-site g c = passed_on_site c.pieces.invariant.passed c.requires.site
+
+pub answer_ready-requires-clause-holds : goal.answer_ready-requires-clause-holds
+answer_ready-requires-clause-holds g c = passed_holds c.pieces.invariant.passed c.requires.holds
 
 pub returns-clause-feeds : goal.returns-clause-feeds
 returns-clause-feeds g c =

@@ -6,6 +6,7 @@ use Rattle.pva_frames.specs.declared.event.Event.{Event}
 use Rattle.pva_frames.specs.declared.event.Event.TheVariants.{Message}
 use Rattle.srv_stream.specs.Streams.{is_sound, View, Passed, FedErr}
 use Rattle.srv_stream.specs.Views.{view_of}
+use Rattle.srv_session.proofs.Kept.{are_living}
 use Rattle.srv_stream.proofs.Passing.{passed_nothing, passed_fed, passed_more, fed_err}
 use Rattle.srv_stream.proofs.Answering.{ready_answered, ready_err, ready_without}
 use Rattle.srv_stream.proofs.Feeding.{passed_lent, sound_lent, sound_some, err_on}
@@ -47,7 +48,10 @@ pub returns-in_default-feed_some-clause-takes : goal.returns-in_default-feed_som
 returns-in_default-feed_some-clause-takes g c =
     let v = view_of c.args.self.now in
     let w : View = record v { stream = c.feed_some.new.self } in
-    ready_without (passed_nothing (g.D.Desk.seat c.args.desk.now) (Some c.args.moment) v c.has_legal_history.ensures c.args.self.now.sound) w c.args.piece.now refl
+    ready_without (passed_nothing (g.D.Desk.seat c.args.desk.now) (Some c.args.moment) v c.has_legal_history.ensures c.args.self.now.sound) w c.args.piece.now refl refl
+
+pub returns-in_default-feed_some-clause-living : goal.returns-in_default-feed_some-clause-living
+returns-in_default-feed_some-clause-living g c = are_living (g.D.Desk.seat c.args.desk.now).log (view_of c.args.self.now).state c.requires.holds
 
 pub returns-in-Ok-answer_ready-clause-takes : goal.returns-in-Ok-answer_ready-clause-takes
 returns-in-Ok-answer_ready-clause-takes g c =
