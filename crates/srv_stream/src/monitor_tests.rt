@@ -5,7 +5,7 @@ ghost use Rattle.srv_session.specs.State.{slots_of};
 ghost use Rattle.srv_stream.specs.Views.{view_of};
 
 use super::*;
-use crate::session_tests::{LIMIT, desk_of, discard, joined};
+use crate::session_tests::{GROUPED, LIMIT, desk_of, discard, joined};
 use desk_api::{Desk, Moment};
 use desk_core::SoloDesk;
 use mon_window::WindowFault;
@@ -16,22 +16,6 @@ use std::test::Fail;
 
 /// A longout.
 const SINGLE: &str = "record(longout, \"X\") { field(VAL, \"42\") }";
-
-/// Three records, each a member of one group, of which the first triggers all.
-const GROUPED: &str = "\
-record(longout, \"A\") {
-  field(VAL, \"1\")
-  info(Q:group, {\"G\": {\"a\": {+channel:\"VAL\", +type:\"scalar\", +trigger:\"*\"}}})
-}
-record(longout, \"B\") {
-  field(VAL, \"2\")
-  info(Q:group, {\"G\": {\"b\": {+channel:\"VAL\", +type:\"scalar\", +trigger:\"\"}}})
-}
-record(longout, \"C\") {
-  field(VAL, \"3\")
-  info(Q:group, {\"G\": {\"c\": {+channel:\"VAL\", +type:\"scalar\", +trigger:\"\"}}})
-}
-";
 
 /// The client is validated, the channel X is open under the ids 1 and 0, and a put of id 2 has begun there.
 const OPEN: &[u8] =
@@ -281,7 +265,9 @@ fn said_of_many(alloc: Global) -> Result<Vec<u8>, NoMemory> {
         bytes.extend_from_slice(PUT_DONE)?;
     }
     bytes.extend_from_slice(FIRST)?;
-    bytes.extend_from_slice(b"\xCA\x02\x40\x0D\x14\x00\x00\x00\x05\x00\x00\x00\x00\x01\x82\x01\x00\x00\x00\x07\x00\x00\x00\x00\x00\x00\x00\x00")?;
+    bytes.extend_from_slice(
+        b"\xCA\x02\x40\x0D\x14\x00\x00\x00\x05\x00\x00\x00\x00\x01\x82\x01\x00\x00\x00\x07\x00\x00\x00\x00\x00\x00\x00\x00",
+    )?;
     for i in 2..63u32 {
         bytes.extend_from_slice(b"\xCA\x02\x40\x0D\x0C\x00\x00\x00\x05\x00\x00\x00\x00\x01\x02")?;
         bytes.extend_from_slice(&i.to_le_bytes())?;
@@ -361,7 +347,10 @@ fn a_window_that_is_spent_holds_updates_back(rt: HostRuntime) -> Result<(), Fail
     // the second acknowledgement behind the beginning, the start and a put
     let place = opened + 24 + 17 + 23 + 21 + 21;
     let (ended, output) = said_of(alloc, SINGLE, &WINDOWED)?;
-    assert_eq!(rt; ended, Err(Ended::Bad(StreamFault::Window(WindowFault::OverRange), place)));
+    assert_eq!(rt;
+        ended,
+        Err(Ended::Bad(StreamFault::Window(WindowFault::OverRange), place))
+    );
     assert_eq!(rt; output, joined(alloc, &SAID_OF_WINDOWED)?);
     let (ended, output) = said_of(alloc, SINGLE, &STOPPED)?;
     assert_eq!(rt; ended, Ok(()));
@@ -374,7 +363,10 @@ static DESTROYED: [(i64, &[u8]); 6] = [
     (100, OPEN),
     (100, BEGIN),
     (100, START),
-    (100, b"\xCA\x02\x00\x08\x08\x00\x00\x00\x00\x00\x00\x00\x01\x00\x00\x00"),
+    (
+        100,
+        b"\xCA\x02\x00\x08\x08\x00\x00\x00\x00\x00\x00\x00\x01\x00\x00\x00",
+    ),
     (
         100,
         b"\xCA\x02\x00\x07\x08\x00\x00\x00\x01\x00\x01\x00\x00\x00\x01X\

@@ -1,9 +1,12 @@
 // Sessions with requests for parts of groups, with puts that process, with descriptions, and with as many requests as there may be.
-ghost use Rattle.std.specs.Prelude.{◌≡◌, IfOk, is_some};
+ghost use Rattle.std.specs.Prelude.{◌≡◌, IfOk, OnOk, is_some};
+ghost use Rattle.srv_session.specs.Calls.{AreLiving, Holds, IsOf};
+ghost use Rattle.srv_session.specs.State.{slots_of};
+ghost use Rattle.srv_session.specs.Views.{state_of};
 ghost use Rattle.desk_core.specs.Ports.{ports_there, ports_wanted};
 
 use super::*;
-use desk_api::{Moment, Site};
+use desk_api::{Desk, Moment, Site};
 use desk_core::SoloDesk;
 use pva_frames::{Event, Payload, Whole};
 use pva_outside::MemoryPort;
@@ -122,7 +125,11 @@ fn ports_for(alloc: Global, site: &Site) -> Result<Vec<Option<MemoryPort>>, NoMe
 }
 
 /// The desk of the records of a text, whose entries may weigh no more than the limit together.
-pub(crate) fn desk_of(alloc: Global, text: &str, limit: u64) -> Result<SoloDesk<MemoryPort>, NoMemory> {
+pub(crate) fn desk_of(
+    alloc: Global,
+    text: &str,
+    limit: u64,
+) -> Result<SoloDesk<MemoryPort>, NoMemory> {
     let site = site_of(alloc, text)?;
     let ports = ports_for(alloc, &site)?;
     SoloDesk::new(alloc, site, ports, limit)
@@ -333,6 +340,23 @@ fn message(command: u8, payload: Vec<u8>) -> Event {
     })
 }
 
+/// Whether a pump finds something behind this answer, where it is no stop.
+fn pumped_after<D: Desk>(
+    session: &mut Session,
+    desk: &mut D,
+    answer: Result<(), SessionStop>,
+) -> Result<bool, NoMemory>
+    requires site { OnOk answer (IsOf (D.seat desk.old).seen.base.site (state_of session.old)) }
+    requires holds { OnOk answer (Holds (D.seat desk.old).log (state_of session.old)) }
+    requires living { AreLiving (D.seat desk.old).log (slots_of (state_of session.old).requests) }
+    ensures { AreLiving (D.seat desk.new).log (slots_of (state_of session.new).requests) }
+{
+    match answer {
+        Ok(()) => session.pump(desk),
+        Err(_) => Ok(false),
+    }
+}
+
 /// What a session over this desk says to the payload of a validation, once the greeting is taken, and whether a pump then finds
 /// something.
 fn handled_over(
@@ -344,7 +368,7 @@ fn handled_over(
     session.took(session.output().len());
     let answer = session.handle(alloc, message(1, payload), desk, Moment::new(100, 5));
     let output = Vec::from_slice(alloc, session.output());
-    let more = session.pump(desk);
+    let more = pumped_after(&mut session, desk, answer);
     session.finish(desk);
     Ok((answer, output?, more))
 }
