@@ -1,4 +1,4 @@
-ghost use Rattle.std.specs.Prelude.{◌≡◌, ◌==◌, ◌≤◌, ℕ, Bool, List, true, IfOk, slice_get, if◌then◌else◌};
+ghost use Rattle.std.specs.Prelude.{◌≡◌, ◌==◌, ◌<◌, ◌≤◌, ℕ, Bool, List, true, IfOk, Some, length, slice_get, if◌then◌else◌};
 ghost use Rattle.std.specs.FinSet.{empty};
 ghost use Rattle.mon_queue.specs.Told.{are_leaves};
 ghost use Rattle.mon_shown.specs.Channels.{ChannelView};
@@ -32,20 +32,31 @@ const TRIGGERING: [u32; 2] = [0, 1];
 /// Lets a value go.
 fn discard(_value: PvValue) {}
 
+/// The tag of a state.
+fn tag_of(state: &RecState) -> PvValue
+    ensures { view result ≡ shown_tag (Some state.now) }
+{
+    PvValue::I32(state.tag)
+}
+
 /// The tag of a record.
 fn tag_at(states: &[RecState], rec: usize) -> PvValue
+    requires { rec < length states.now }
     ensures { view result ≡ shown_tag (slice_get states.now rec) }
 {
     match states.get(rec) {
-        Some(state) => PvValue::I32(state.tag),
+        Some(state) => tag_of(state),
         None => PvValue::Union(None),
     }
 }
 
-/// The tags of three records.
+/// The tags of three records. It answers want of memory where there are fewer.
 fn tags_of(alloc: Global, states: &[RecState]) -> Result<PvValue, NoMemory>
     ensures { IfOk result (λ v. view v ≡ tags_shown states.now) }
 {
+    if states.len() < 3 {
+        return Err(NoMemory);
+    }
     let tags = vec![in alloc; tag_at(states, 0), tag_at(states, 1), tag_at(states, 2)]?;
     Ok(PvValue::Struct(tags))
 }
