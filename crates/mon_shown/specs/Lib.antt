@@ -5,3 +5,4 @@ pub mod Readies
 pub mod Slots
 pub mod Rolls
 pub mod Answers
+pub mod Tags

@@ -20,3 +20,6 @@ pub use slots::NotBegun;
 pub use subscriptions::{Readied, Subscriptions};
 pub use views::Views;
 pub use watching::{Ready, Watching};
+
+#[cfg(test)]
+mod tests;

@@ -1,0 +1,14 @@
+use Rattle.std.proofs.Common.{◌≡◌, ◌∙◌, ap}
+use Rattle.std.specs.Ordering.{nat_cmp}
+use Rattle.std.specs.FinSet.{FinSet, intersection}
+use Rattle.pvd_type.specs.Numbers.{leaves}
+use Rattle.mon_queue.specs.Told.{are_leaves}
+use Rattle.mon_queue.proofs.Rings.{both_leaves, all_leaves}
+use Rattle.mon_shown.proofs.tests.subscribe.Goals as goal
+
+pub subscribe-requires-clause-leaves : goal.subscribe-requires-clause-leaves
+subscribe-requires-clause-leaves c =
+    let t = c.args.tags.now.ty in
+    let others = c.in_ok-bits.field-0 in
+    ap (are_leaves t) (c.meet.ensures ∙ ap (λ (s : FinSet nat_cmp). intersection s others) (c.in_ok-mask.ensures {u = tt}))
+    ∙ both_leaves t (leaves t) others (all_leaves t)
