@@ -57,7 +57,6 @@ pub fault_at_six : {L : Type 0} (wire : L → Wire) (start end : L) (ended : End
 fault_at_six wire start end ends.Closed fault six = absurd (omega (arith, six))
 fault_at_six wire start end (ends.Truncated place) fault six = absurd (omega (arith, six))
 fault_at_six wire start end (ends.Bad cause place) fault six = absurd (omega (arith, six))
-fault_at_six wire start end (ends.NotBuilt command place) fault six = absurd (omega (arith, six))
 fault_at_six wire start end ends.ReadFault fault six = fault
 fault_at_six wire start end ends.WriteFault fault six = fault
 fault_at_six wire start end ends.NoMemory fault six = absurd (omega (arith, six))

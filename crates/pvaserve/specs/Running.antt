@@ -41,7 +41,6 @@ abbrev pub status_of : Ended → ℕ
 status_of ends.Closed = 0
 status_of (ends.Truncated place) = 5
 status_of (ends.Bad fault place) = 5
-status_of (ends.NotBuilt command place) = 5
 status_of ends.ReadFault = 6
 status_of ends.WriteFault = 6
 status_of ends.NoMemory = 7

@@ -47,7 +47,7 @@ fn status_of(ended: Ended) -> u8
 {
     let status = match ended {
         Ended::Closed => Status::Done,
-        Ended::Truncated(_) | Ended::Bad(_, _) | Ended::NotBuilt(_, _) => Status::Stream,
+        Ended::Truncated(_) | Ended::Bad(_, _) => Status::Stream,
         Ended::ReadFault | Ended::WriteFault => Status::Outside,
         Ended::NoMemory => Status::NoMemory,
         Ended::Spent(_) => Status::Spent,
