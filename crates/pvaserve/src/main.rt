@@ -54,7 +54,7 @@ the alarm HIHI. A record with field(DTYP, \"File\") and field(OUT, \"@file PATH\
 are members of a group, which is a channel too, by info(Q:group, {..}), as the QSRV manual has it.
 
 Status: 0 done; 2 words that aren't taken; 3 a file can't be read, or a port's can't be opened; 4 the text is wrong;
-5 the client's stream is wrong, or asks for what isn't served yet; 6 the connection or a print failed; 7 no memory;
+5 the client's stream is wrong; 6 the connection or a print failed; 7 no memory;
 8 the turns were spent.
 ";
 

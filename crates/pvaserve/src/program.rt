@@ -31,7 +31,7 @@ pub enum Status {
     Files = 3,
     /// The database text is at fault.
     Site = 4,
-    /// The client's stream is at fault, ended inside a message, or asks for what isn't served yet.
+    /// The client's stream is at fault or ended inside a message.
     Stream = 5,
     /// The link failed, or a write to standard output did.
     Outside = 6,
