@@ -237,7 +237,12 @@ impl Session {
         match desk.subscribe(alloc, channel, &wanted.mask, wanted.queue) {
             Ok(living) => {
                 self.add_monitor(sid, req, wanted, window, living);
-                stopping(self.say_begun(AskKind::Monitor, req, BEGINS_ALONE, type_on(desk, channel)))
+                stopping(self.say_begun(
+                    AskKind::Monitor,
+                    req,
+                    BEGINS_ALONE,
+                    type_on(desk, channel),
+                ))
             }
             Err(answer) => stopping(self.refuse_subscription(req, sub, answer)),
         }
