@@ -154,8 +154,8 @@ impl Session {
     /// there was one; where there was, more may be unread. It takes time for the monitors alone.
     ///
     /// What a monitor shows: its first update has all leaves that it asked for, as they were when it began. A later one has the leaves
-    /// that changed since, as the newest change left them; those that changed more than once since the update before it are marked as
-    /// overrun. All updates that a client was sent, laid over one another, are what the channel shows.
+    /// that changed since, as the newest change left them; those that were posted more than once since the update before it are
+    /// marked as overrun. All updates of a monitor, sent and still queued, laid over one another, are each leaf as it was posted last.
     pub fn pump<D: Desk>(&mut self, desk: &mut D) -> Result<bool, NoMemory>
         requires site { IsOf (D.seat desk.old).seen.base.site (state_of self.old) }
         requires holds { Holds (D.seat desk.old).log (state_of self.old) }
