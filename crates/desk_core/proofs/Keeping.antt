@@ -15,6 +15,7 @@ use Rattle.journal_core.specs.declared.entry.Entry.{Entry}
 use Rattle.mon_queue.specs.Shown.{seen}
 use Rattle.mon_queue.specs.Told.{IsUpdateOf}
 use Rattle.mon_queue.specs.declared.update.Update.{Update}
+use Rattle.mon_shown.specs.Channels.{watch}
 use Rattle.mon_shown.specs.Keeping.{tree_of, watch_of}
 use Rattle.mon_shown.specs.Rolls.{alive}
 use Rattle.mon_shown.specs.Slots.{slot_in, SlotsStay, Stand}
@@ -127,7 +128,8 @@ module _ (site : SiteData) (subs more : Subs) (slot : ℕ) (channel : Channel) (
   item = items.Begins slot channel mask size
 
   both : KeepsAll s.seen begun.seen subs more s.number s.log (Begun (hub.now s.seen) (length (roll s.seen)) slot channel mask size ∷ []) × IsTrueBegun begun.seen s.number s.log (hub.now s.seen) (length (roll s.seen)) slot channel mask size
-  both = subst (λ (m : FinSet nat_cmp). Starts site subs slot channel m size states more) mask_is starts s.seen begun.seen s.number s.log site_is (item_rolls s begins item refl) (ap (state_at s.seen) (sym (as_many s.seen)) ∙ sym states_are) k
+  both = subst (λ (m : FinSet nat_cmp). Starts site subs slot channel m size states more) mask_is starts s.seen begun.seen s.number s.log site_is (item_rolls s begins item refl)
+      (λ n wanted. ap (λ (z : List RecState). seen (watch (channel_view site channel) mask) z n) (states_are ∙ sym (ap (state_at s.seen) (sym (as_many s.seen))))) k
 
   begun_true : IsTrueBegun begun.seen s.number s.log (now s) (length (roll s.seen)) slot channel mask size
   begun_true = subst (λ (n : ℕ). IsTrueBegun begun.seen s.number s.log n (length (roll s.seen)) slot channel mask size) (sym (as_many s.seen)) both.1

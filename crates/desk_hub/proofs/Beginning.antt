@@ -10,6 +10,7 @@ use Rattle.rec_kinds.specs.declared.state.RecState.{RecState}
 use Rattle.journal_core.specs.Histories.{state_at as replayed_at}
 use Rattle.mon_queue.specs.Told.{are_leaves}
 use Rattle.mon_shown.specs.Answers.{IsCause}
+use Rattle.mon_shown.specs.Channels.{watch, SeenAlike}
 use Rattle.mon_shown.specs.Keeping.{Begins}
 use Rattle.mon_shown.specs.Rolls.{holder_with, holder, is_held, alive, IsLeastFree, Follows}
 use Rattle.mon_shown.specs.Slots.{slot_in, is_filled, Stand, SlotBegins, OtherSlotsStay, SlotsStay, IsFirstFree, IsFull}
@@ -50,7 +51,7 @@ starts_not law subs more NoMemory stay cause = stay
 
 module _ (law : BeginsFollow) (subs more : Subs) (slot size : ℕ) (channel : Channel) (mask : FinSet nat_cmp) (states : List RecState) (some : (1 ≤ size) × (size ≤ 64)) (first : IsFirstFree subs slot) (few : slot < 1024)
     (others : OtherSlotsStay subs slot more) (h k : History) (seat : ℕ) (r : Rolls h k seat (items.Begins slot channel mask size)) (stand : Stand (may_be_watched h.base.site) (channel_view h.base.site) more)
-    (at : state_at h (now h) ≡ states) (x : Watching Channel) (there : slot_in more slot ≡ Some x) (begins : Begins (may_be_watched h.base.site) (channel_view h.base.site) channel mask size states x) where
+    (alike : SeenAlike (watch (channel_view h.base.site channel) mask) mask states (state_at h (now h))) (x : Watching Channel) (there : slot_in more slot ≡ Some x) (begins : Begins (may_be_watched h.base.site) (channel_view h.base.site) channel mask size states x) where
   abbrev item : Item
   item = items.Begins slot channel mask size
 
@@ -66,14 +67,19 @@ module _ (law : BeginsFollow) (subs more : Subs) (slot size : ℕ) (channel : Ch
   held_now : holder (roll k) slot ≡ Some seat
   held_now = holder_now h k seat item r slot ∙ if_here slot (Some seat) (holder (roll h) slot)
 
-  state_same : states ≡ state_at k (now k)
+  state_same : state_at h (now h) ≡ state_at k (now k)
   state_same =
-      sym at ∙ sym (λ i. replayed_at (base_same h k seat item r i).site.opening (r.commits_are i) (length (r.commits_are i)))
+      sym (λ i. replayed_at (base_same h k seat item r i).site.opening (r.commits_are i) (length (r.commits_are i)))
+
+  alike_now : SeenAlike (watch (channel_view k.base.site channel) mask) mask states (state_at k (now k))
+  alike_now =
+      subst (λ (b : Base). SeenAlike (watch (channel_view b.site channel) mask) mask states (state_at k (now k))) (sym (base_same h k seat item r))
+      (subst (SeenAlike (watch (channel_view h.base.site channel) mask) mask states) state_same alike)
 
   keeps : KeepsLiving k new x
   keeps =
       subst (λ (n : ℕ). KeepsLiving k (record { place = n; channel = channel; mask = mask; size = size; pops = [] }) x) (now_same h k seat item r)
-      (living_begun k channel mask size states x (subst (λ (b : Base). Begins (may_be_watched b.site) (channel_view b.site) channel mask size states x) (sym (base_same h k seat item r)) begins) state_same some)
+      (living_begun k channel mask size states x (subst (λ (b : Base). Begins (may_be_watched b.site) (channel_view b.site) channel mask size states x) (sym (base_same h k seat item r)) begins) alike_now some)
 
   module _ (st : SlotsStand h subs) where
     nobody : is_held (roll h) slot ≡ false
@@ -122,12 +128,13 @@ module _ (law : BeginsFollow) (subs more : Subs) (slot size : ℕ) (channel : Ch
 pub starts_all : BeginsFollow → (site : SiteData) (subs more : Subs) (slot size : ℕ) (channel : Channel) (mask : FinSet nat_cmp) (states : List RecState) → (1 ≤ size) × (size ≤ 64)
     → IsFirstFree subs slot → slot < 1024 → SlotBegins (may_be_watched site) (channel_view site) channel mask size states (slot_in more slot) → OtherSlotsStay subs slot more
     → Stand (may_be_watched site) (channel_view site) more → Starts site subs slot channel mask size states more
-starts_all law site subs more slot size channel mask states some first few begins others stand h k seat log is r at t = step (slot_in more slot) refl begins
+starts_all law site subs more slot size channel mask states some first few begins others stand h k seat log is r alike t = step (slot_in more slot) refl begins
   where
     step : (o : Option (Watching Channel)) → slot_in more slot ≡ o → SlotBegins (may_be_watched site) (channel_view site) channel mask size states o
         → KeepsAll h k subs more seat log (Begun (now h) (length (roll h)) slot channel mask size ∷ []) × IsTrueBegun k seat log (now h) (length (roll h)) slot channel mask size
     step None there b = absurd b
-    step (Some x) there b = begun_all law subs more slot size channel mask states some first few others h k seat r (subst (λ (z : SiteData). Stand (may_be_watched z) (channel_view z) more) (sym is) stand) at x there
+    step (Some x) there b = begun_all law subs more slot size channel mask states some first few others h k seat r (subst (λ (z : SiteData). Stand (may_be_watched z) (channel_view z) more) (sym is) stand)
+        (subst (λ (z : SiteData). SeenAlike (watch (channel_view z channel) mask) mask states (state_at h (now h))) (sym is) alike) x there
         (subst (λ (z : SiteData). Begins (may_be_watched z) (channel_view z) channel mask size states x) (sym is) b) log t
 
 -- what a call of the subscriptions answers

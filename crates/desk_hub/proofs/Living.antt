@@ -85,12 +85,13 @@ living_rolled h k base same l x t = record {
 
 -- a beginning at the end of a history
 pub living_begun : (h : History) (channel : Channel) (mask : FinSet nat_cmp) (size : ℕ) (states : List RecState) (x : Watching Channel)
-    → Begins (may_be_watched h.base.site) (channel_view h.base.site) channel mask size states x → states ≡ state_at h (now h) → (1 ≤ size) × (size ≤ 64)
+    → Begins (may_be_watched h.base.site) (channel_view h.base.site) channel mask size states x
+    → SeenAlike (watch (channel_view h.base.site channel) mask) mask states (state_at h (now h)) → (1 ≤ size) × (size ≤ 64)
     → KeepsLiving h (record { place = now h; channel = channel; mask = mask; size = size; pops = [] }) x
-living_begun h channel mask size states x b at some =
+living_begun h channel mask size states x b alike some =
     let l : Living = record { place = now h; channel = channel; mask = mask; size = size; pops = [] } in
     let sub = subscription h l in
-    let first = b.keeps (state_at h (now h)) (λ j inside. ap (λ (s : List RecState). leaf_at j sub.watch.ty (sub.watch.view s)) at) in
+    let first = b.keeps (state_at h (now h)) alike in
     record {
       channel_is = b.channel_is;
       keeps =

@@ -8,7 +8,7 @@ use Rattle.journal_core.specs.Histories.{written}
 use Rattle.journal_core.specs.declared.entry.Entry.{Entry}
 use Rattle.mon_queue.specs.Shown.{anew}
 use Rattle.mon_queue.specs.declared.update.Update.{Update}
-use Rattle.mon_shown.specs.Channels.{SeenAlike}
+use Rattle.mon_shown.specs.Channels.{watch, SeenAlike}
 use Rattle.mon_shown.specs.Keeping.{watch_of}
 use Rattle.mon_shown.specs.Rolls.{alive}
 use Rattle.mon_shown.specs.Slots.{slot_in, SlotsStay}
@@ -53,11 +53,13 @@ Ends site subs slot more =
     → KeepsAll h k subs more seat log (Dropped (now h) (length (roll h)) slot ∷ [])
     × IsTrueDropped k seat log (now h) (length (roll h)) slot
 
--- One begins in this slot, where the records have these states.
+-- One begins in this slot. The states may be any of which the same is seen, under the requested leaves, as of those that
+-- the records have.
 abbrev pub Starts : SiteData → Subs → ℕ → Channel → FinSet nat_cmp → ℕ → List RecState → Subs → Type 0
 Starts site subs slot channel mask size states more =
     (h k : History) (seat : ℕ) (log : List Mark) → h.base.site ≡ site
-    → Rolls h k seat (items.Begins slot channel mask size) → state_at h (now h) ≡ states → KeepsSeat h subs seat log
+    → Rolls h k seat (items.Begins slot channel mask size)
+    → SeenAlike (watch (channel_view site channel) mask) mask states (state_at h (now h)) → KeepsSeat h subs seat log
     → KeepsAll h k subs more seat log (Begun (now h) (length (roll h)) slot channel mask size ∷ [])
     × IsTrueBegun k seat log (now h) (length (roll h)) slot channel mask size
 
