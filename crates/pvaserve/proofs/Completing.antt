@@ -28,7 +28,7 @@ no_fault_read macros (file name) old new none is = none is.faults
 
 site_done : (asked : Asked) (site : SiteData) (told : Option (ℤ × ℕ)) (old new : Outside) (status : ℕ) → ¬ (Rose old.ports.faults new.ports.faults)
     → ((s : IsServed asked site told old.ports new.ports old.wire new.wire status)
-    → IsSmooth site asked.order old.wire new.wire asked.turns s.serves.served.read s.serves.served.written s.serves.served.log)
+    → IsSmooth site asked.order old.wire new.wire asked.turns s.serves.served.read s.serves.served.written s.serves.served.log s.ended s.serves.served.answer)
     → SiteServes asked site told old.ports new.ports old.wire new.wire status → (status ≡ 0) ⊎ (status ≡ 7)
 site_done asked site told old new status none smooth (inl s) = by_end s.ended status s.status_is (s.serves.served.complete (smooth s))
 site_done asked site told old new status none smooth (inr (inl u)) = absurd (none u.unmade.faults)
@@ -38,7 +38,7 @@ found_done : (asked : Asked) (found : Result SiteData SourceStop) (told : Option
     → ((fault : SiteFault) → ¬ (found ≡ Err (stops.Fault fault))) → ¬ (Rose old.files.faults new.files.faults) → ¬ (Rose old.ports.faults new.ports.faults)
     → Opens asked.macros asked.source old.files new.files found
     → ((site : SiteData) (s : IsServed asked site told old.ports new.ports old.wire new.wire status)
-    → IsSmooth site asked.order old.wire new.wire asked.turns s.serves.served.read s.serves.served.written s.serves.served.log)
+    → IsSmooth site asked.order old.wire new.wire asked.turns s.serves.served.read s.serves.served.written s.serves.served.log s.ended s.serves.served.answer)
     → Serving asked found told old.ports new.ports old.wire new.wire status → (status ≡ 0) ⊎ (status ≡ 7)
 found_done asked (Ok site) told old new status text files ports opens smooth is = site_done asked site told old new status ports (smooth site) is
 found_done asked (Err stops.Unread) told old new status text files ports opens smooth is = absurd (no_fault_read asked.macros asked.source old.files new.files files opens)

@@ -18,7 +18,7 @@ pub record IsFaultless (words : List Text) (told : Option (ℤ × ℕ)) (old new
   pub files : ¬ (Rose old.files.faults new.files.faults)
   pub ports : ¬ (Rose old.ports.faults new.ports.faults)
   pub smooth : (site : SiteData) (s : IsServed run.asked site told old.ports new.ports old.wire new.wire status)
-      → IsSmooth site run.asked.order old.wire new.wire run.asked.turns s.serves.served.read s.serves.served.written s.serves.served.log
+      → IsSmooth site run.asked.order old.wire new.wire run.asked.turns s.serves.served.read s.serves.served.written s.serves.served.log s.ended s.serves.served.answer
 
 -- Such a run ends with status 0, or 7 for want of memory.
 abbrev pub Completes : Type 0

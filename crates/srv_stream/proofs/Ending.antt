@@ -21,7 +21,7 @@ use Rattle.srv_session.specs.Calls.{Finished, PumpStopped}
 use Rattle.srv_session.specs.State.{State, slots_of, opening}
 use Rattle.srv_session.specs.Rows.{AreEndingsOf}
 use Rattle.srv_session.specs.Replies.{greeting}
-use Rattle.srv_session.specs.Steps.{Step, AreSteps, AreEndings, NextPart, PopPart, after_part, state_after, events_of, marks_of, out_of}
+use Rattle.srv_session.specs.Steps.{Step, AreSteps, AreEndings, NextPart, PopPart, after_part, state_after, events_of, marks_of, turns_of, out_of}
 use Rattle.srv_stream.specs.Streams.{refused, Stands, FedPart, View, shown_in}
 use Rattle.srv_stream.specs.Views.{first_view}
 use Rattle.srv_stream.specs.Moves.{Moves}
@@ -48,26 +48,26 @@ no_refusal (Err fault) ended whole is = none-some (place_of_fault fault) (sym wh
 
 -- nothing stands behind the events that were answered
 unstopped : (site : SiteData) (order : Order) (read : List ℕ) (log : List Mark) (steps : List Step) (remaining : List Event) (ended : Ended)
-    → AreSteps site (opening order) steps → AllAnswered site order (events_from 0 None read) log → events_from 0 None read ≡ events_of steps ++ remaining
+    → AreSteps site (opening order) steps → AllAnswered site order (events_from 0 None read) log (turns_of steps) → events_from 0 None read ≡ events_of steps ++ remaining
     → IsPrefixOf (marks_of steps) log → rest_from 0 None read ≡ None → Stands site (state_after site (opening order) steps) remaining (left_from 0 None read) (Some ended) → ⊥
 unstopped site order read log steps [] ended rules turns all front whole stands = no_refusal (left_from 0 None read) ended whole stands
 unstopped site order read log steps (e ∷ more) ended rules turns all front whole stands =
-    false≢true (ap (λ (o : Option Ended). is_some o) (sym (turns steps e more rules all front)) ∙ stands.1)
+    false≢true (ap (λ (o : Option Ended). is_some o) (sym (turns steps e more rules all front (record { rest = []; whole = sym (append-nil (turns_of steps)) }))) ∙ stands.1)
 
-no_trouble : {site : SiteData} {order : Order} {start end : Wire} {turns : ℕ} {read written : List ℕ} {log : List Mark} {out : List ℕ} {ended : Ended}
-    → IsSmooth site order start end turns read written log → Whole site order read log out (Some ended) → ⊥
-no_trouble {site} {order} {start} {end} {turns} {read} {written} {log} {out} {ended} i w =
+no_trouble : {site : SiteData} {order : Order} {read : List ℕ} {log : List Mark} {out : List ℕ} {ended : Ended} (w : Whole site order read log out (Some ended))
+    → AllAnswered site order (events_from 0 None read) log (turns_of w.dialogue.talk.steps) → rest_from 0 None read ≡ None → ⊥
+no_trouble {site} {order} {read} {log} {out} {ended} w answered whole =
     let talk = w.dialogue.talk in
-    unstopped site order read log talk.steps w.remaining ended talk.rules i.answered
+    unstopped site order read log talk.steps w.remaining ended talk.rules answered
     (w.all ∙ ap (λ (l : List Event). l ++ w.remaining) (sym talk.events_are))
     (record { rest = w.dialogue.endings; whole = sym w.dialogue.marks_are ∙ ap (λ (l : List Mark). l ++ w.dialogue.endings) (sym talk.marks_are) })
-    i.whole w.stands
+    whole w.stands
 
 completes : (site : SiteData) (order : Order) (start end : Wire) (turns : ℕ) (read written : List ℕ) (log : List Mark) (result : Ended)
-    → HasCause site order start end turns read written log result → Completes site order start end turns read written log result
+    (a : HasCause site order start end turns read written log result) → Completes site order start end turns read written log result a
 completes site order start end turns read written log ends.Closed a i = inl refl
 completes site order start end turns read written log (ends.Truncated place) a i = absurd (none-some place (sym (sym a.rest_is ∙ i.whole)))
-completes site order start end turns read written log (ends.Bad fault place) a i = absurd (no_trouble i a.whole)
+completes site order start end turns read written log (ends.Bad fault place) a i = absurd (no_trouble a.whole i.answered i.whole)
 completes site order start end turns read written log ends.ReadFault a i = absurd (i.faults a.faults)
 completes site order start end turns read written log ends.WriteFault a i = absurd (i.faults a.faults)
 completes site order start end turns read written log (ends.Spent calls) a i = let bound = a.bound i.idles in absurd (omega (arith, a.all, i.turns_))

@@ -9,7 +9,7 @@ use Rattle.desk_api.specs.Marks.{AllHold}
 use Rattle.desk_api.specs.declared.history.SiteData.{SiteData}
 use Rattle.desk_api.specs.declared.mark.Mark.{Mark}
 use Rattle.srv_session.specs.Steps.{turns_of}
-use Rattle.srv_stream.specs.Served.{Dialogue, Whole, IsProperPrefixOf, HasCause}
+use Rattle.srv_stream.specs.Served.{Dialogue, Whole, IsProperPrefixOf, HasCause, turns_in}
 use Rattle.srv_stream.specs.declared.ended.Ended.{Ended}
 use Rattle.srv_stream.specs.declared.ended.Ended.TheVariants as ends
 
@@ -59,18 +59,6 @@ TellsTrouble site order start end turns read written log trouble ends.NoMemory a
 TellsTrouble site order start end turns read written log trouble ends.ReadFault a = ⊥
 TellsTrouble site order start end turns read written log trouble ends.WriteFault a = IsProperPrefixOf written a.out
 TellsTrouble site order start end turns read written log trouble (ends.Spent calls) a = IsProperPrefixOf written a.out
-
--- the turns of the dialogue of an answer
-abbrev pub turns_in : (site : SiteData) (order : Order) (start end : Wire) (turns : ℕ) (read written : List ℕ)
-    (log : List Mark) (result : Ended) → HasCause site order start end turns read written log result
-    → List (Option Event)
-turns_in site order start end turns read written log ends.Closed a = turns_of a.whole.dialogue.talk.steps
-turns_in site order start end turns read written log (ends.Truncated place) a = turns_of a.whole.dialogue.talk.steps
-turns_in site order start end turns read written log (ends.Bad fault place) a = turns_of a.whole.dialogue.talk.steps
-turns_in site order start end turns read written log ends.NoMemory a = turns_of a.talk.steps
-turns_in site order start end turns read written log ends.ReadFault a = turns_of a.whole.dialogue.talk.steps
-turns_in site order start end turns read written log ends.WriteFault a = turns_of a.whole.dialogue.talk.steps
-turns_in site order start end turns read written log (ends.Spent calls) a = turns_of a.whole.dialogue.talk.steps
 
 -- One of them takes the turns of the other, and maybe more.
 abbrev pub GoTogether : List (Option Event) → List (Option Event) → Type 0

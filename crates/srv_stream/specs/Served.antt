@@ -14,7 +14,7 @@ use Rattle.desk_api.specs.declared.mark.Mark.{Mark}
 use Rattle.desk_api.specs.declared.mark.Seat.{Seat}
 use Rattle.srv_session.specs.State.{opening}
 use Rattle.srv_session.specs.Replies.{greeting}
-use Rattle.srv_session.specs.Steps.{Step, AreSteps, state_after, events_of, marks_of, out_of, IsDrained, AreEndings, NextPart, after_part}
+use Rattle.srv_session.specs.Steps.{Step, AreSteps, state_after, events_of, marks_of, turns_of, out_of, IsDrained, AreEndings, NextPart, after_part}
 use Rattle.srv_session.specs.Windowing.{WindowsHold}
 use Rattle.srv_stream.specs.Streams.{Stands, stop_of}
 use Rattle.srv_stream.specs.Moves.{Moves, IsAll}
@@ -160,26 +160,43 @@ HasCause site order start end turns read written log (ends.Spent calls) =
     AtSpent site order start end turns read written log calls
 HasCause site order start end turns read written log ends.NoMemory = AtNoMemory site order start end read written log
 
--- Each event has an answer when the dialogue comes to it, whatever front of the log its marks are.
-abbrev pub AllAnswered : SiteData → Order → List Event → List Mark → Type 0
-AllAnswered site order events log =
+-- the turns of an answer's dialogue: each is an event that was heard, or the pop of a monitor
+abbrev pub turns_in : (site : SiteData) (order : Order) (start end : Wire) (turns : ℕ) (read written : List ℕ)
+    (log : List Mark) (result : Ended) → HasCause site order start end turns read written log result
+    → List (Option Event)
+turns_in site order start end turns read written log ends.Closed a = turns_of a.whole.dialogue.talk.steps
+turns_in site order start end turns read written log (ends.Truncated place) a = turns_of a.whole.dialogue.talk.steps
+turns_in site order start end turns read written log (ends.Bad fault place) a = turns_of a.whole.dialogue.talk.steps
+turns_in site order start end turns read written log ends.NoMemory a = turns_of a.talk.steps
+turns_in site order start end turns read written log ends.ReadFault a = turns_of a.whole.dialogue.talk.steps
+turns_in site order start end turns read written log ends.WriteFault a = turns_of a.whole.dialogue.talk.steps
+turns_in site order start end turns read written log (ends.Spent calls) a = turns_of a.whole.dialogue.talk.steps
+
+-- Each event has an answer when the dialogue comes to it, which took these turns, whatever front of the log its marks are.
+abbrev pub AllAnswered : SiteData → Order → List Event → List Mark → List (Option Event) → Type 0
+AllAnswered site order events log turns =
     (steps : List Step) (e : Event) (more : List Event) → AreSteps site (opening order) steps
-    → events ≡ events_of steps ++ e ∷ more → IsPrefixOf (marks_of steps) log
+    → events ≡ events_of steps ++ e ∷ more → IsPrefixOf (marks_of steps) log → IsPrefixOf (turns_of steps) turns
     → stop_of site (state_after site (opening order) steps) e ≡ None
 
--- The link's faults don't rise, all that was read is whole messages that have answers, and the turns are enough.
+-- The link's faults don't rise, all that was read is whole messages that have answers when the answer's dialogue comes to them, and
+-- the turns are enough.
 pub record IsSmooth (site : SiteData) (order : Order) (start end : Wire) (turns : ℕ) (read written : List ℕ)
-    (log : List Mark) : Type 0 where
+    (log : List Mark) (result : Ended) (answer : HasCause site order start end turns read written log result)
+    : Type 0 where
   pub faults : Rose start.faults end.faults → ⊥
   pub answered : AllAnswered site order (events_from 0 None read) log
+      (turns_in site order start end turns read written log result answer)
   pub whole : rest_from 0 None read ≡ None
   pub idles : end.idles + 1 < 2 ^ 64
   pub turns_ : end.idles + length read + length written + 2 ≤ start.idles + turns
 
 -- Then the answer is Closed, or memory ran out.
-abbrev pub Completes : SiteData → Order → Wire → Wire → ℕ → List ℕ → List ℕ → List Mark → Ended → Type 0
-Completes site order start end turns read written log result =
-    IsSmooth site order start end turns read written log → (result ≡ ends.Closed) ⊎ (result ≡ ends.NoMemory)
+abbrev pub Completes : (site : SiteData) (order : Order) (start end : Wire) (turns : ℕ) (read written : List ℕ)
+    (log : List Mark) (result : Ended) → HasCause site order start end turns read written log result → Type 0
+Completes site order start end turns read written log result answer =
+    IsSmooth site order start end turns read written log result answer
+    → (result ≡ ends.Closed) ⊎ (result ≡ ends.NoMemory)
 
 -- One connection: what was read and written, the marks of the desk, and why it ended. The entries of the seat are those
 -- of its marks (`adds.own`), each at the moment that the clock tells. Each subscription has ended, and the updates that were handed out of
@@ -195,4 +212,4 @@ pub record Served (old new : Seat) (start end : Wire) (told : Option Moment) (or
   pub moves : Moves start end read written
   pub settled : (read ≡ []) ⊎ Settled old.seen.base.site order read written log
   pub answer : HasCause old.seen.base.site order start end turns read written log result
-  pub complete : Completes old.seen.base.site order start end turns read written log result
+  pub complete : Completes old.seen.base.site order start end turns read written log result answer
