@@ -1,21 +1,20 @@
 -- A run that meets no fault.
-use Rattle.std.proofs.Common.{◌≡◌, ◌⊎◌, ℕ, ℤ, Option, Result, Ok, Err, inl, inr, refl, ◌∙◌, ap, subst}
+use Rattle.std.proofs.Common.{◌≡◌, ◌⊎◌, ℕ, ℤ, Option, Result, Ok, Err, inl, inr, refl, ◌∙◌, ap}
 use Rattle.pva_outside.specs.Count.{Rose}
 use Rattle.desk_api.specs.declared.fault.SiteFault.{SiteFault}
 use Rattle.desk_api.specs.declared.history.SiteData.{SiteData}
 use Rattle.pva_outside.specs.Files.{FilesView}
-use Rattle.srv_stream.specs.Served.{IsSmooth}
 use Rattle.srv_stream.specs.declared.ended.Ended.{Ended}
 use Rattle.srv_stream.specs.declared.ended.Ended.TheVariants as ends
 use Rattle.db_text.specs.Macros.{Macros}
 use Rattle.pvaserve.specs.Words.{Asked, Source, single, file}
 use Rattle.pvaserve.specs.Opening.{Opens}
-use Rattle.pvaserve.specs.Running.{Does, IsServed, Outside, Serving, SiteServes, status_of}
-use Rattle.pvaserve.specs.Completeness.{Completes}
+use Rattle.pvaserve.specs.Running.{Does, Outside, SiteServes, status_of}
+use Rattle.pvaserve.specs.Completeness.{Completes, IsDoneSmoothly, IsServedSmoothly}
 use Rattle.pvaserve.specs.declared.loading.SourceStop.{SourceStop}
 use Rattle.pvaserve.specs.declared.loading.SourceStop.TheVariants as stops
 use Rattle.pvaserve.specs.declared.words.Task.{Task}
-use Rattle.pvaserve.specs.declared.words.Task.TheVariants.{Inetd}
+use Rattle.pvaserve.specs.declared.words.Task.TheVariants.{Inetd, Check}
 
 by_end : (ended : Ended) (status : ℕ) → status ≡ status_of ended → (ended ≡ ends.Closed) ⊎ (ended ≡ ends.NoMemory) → (status ≡ 0) ⊎ (status ≡ 7)
 by_end ended status same (inl closed) = inl (same ∙ ap status_of closed)
@@ -27,25 +26,22 @@ no_fault_read macros (single name value) old new none is = is
 no_fault_read macros (file name) old new none is = none is.faults
 
 site_done : (asked : Asked) (site : SiteData) (told : Option (ℤ × ℕ)) (old new : Outside) (status : ℕ) → ¬ (Rose old.ports.faults new.ports.faults)
-    → ((s : IsServed asked site told old.ports new.ports old.wire new.wire status)
-    → IsSmooth site asked.order old.wire new.wire asked.turns s.serves.served.read s.serves.served.written s.serves.served.log s.ended s.serves.served.answer)
-    → SiteServes asked site told old.ports new.ports old.wire new.wire status → (status ≡ 0) ⊎ (status ≡ 7)
-site_done asked site told old new status none smooth (inl s) = by_end s.ended status s.status_is (s.serves.served.complete (smooth s))
-site_done asked site told old new status none smooth (inr (inl u)) = absurd (none u.unmade.faults)
-site_done asked site told old new status none smooth (inr (inr u)) = inr u.status_is
+    → (served : SiteServes asked site told old.ports new.ports old.wire new.wire status)
+    → IsServedSmoothly asked site told old.ports new.ports old.wire new.wire status served → (status ≡ 0) ⊎ (status ≡ 7)
+site_done asked site told old new status none (inl s) smooth = by_end s.ended status s.status_is (s.serves.served.complete smooth)
+site_done asked site told old new status none (inr (inl u)) smooth = absurd (none u.unmade.faults)
+site_done asked site told old new status none (inr (inr u)) smooth = inr u.status_is
 
-found_done : (asked : Asked) (found : Result SiteData SourceStop) (told : Option (ℤ × ℕ)) (old new : Outside) (status : ℕ)
+task_done : (task : Task) (asked : Asked) (found : Result SiteData SourceStop) (told : Option (ℤ × ℕ)) (old new : Outside) (status : ℕ)
     → ((fault : SiteFault) → ¬ (found ≡ Err (stops.Fault fault))) → ¬ (Rose old.files.faults new.files.faults) → ¬ (Rose old.ports.faults new.ports.faults)
     → Opens asked.macros asked.source old.files new.files found
-    → ((site : SiteData) (s : IsServed asked site told old.ports new.ports old.wire new.wire status)
-    → IsSmooth site asked.order old.wire new.wire asked.turns s.serves.served.read s.serves.served.written s.serves.served.log s.ended s.serves.served.answer)
-    → Serving asked found told old.ports new.ports old.wire new.wire status → (status ≡ 0) ⊎ (status ≡ 7)
-found_done asked (Ok site) told old new status text files ports opens smooth is = site_done asked site told old new status ports (smooth site) is
-found_done asked (Err stops.Unread) told old new status text files ports opens smooth is = absurd (no_fault_read asked.macros asked.source old.files new.files files opens)
-found_done asked (Err (stops.Fault fault)) told old new status text files ports opens smooth is = absurd (text fault refl)
-found_done asked (Err stops.NoMemory) told old new status text files ports opens smooth is = inr is.status_is
+    → (does : Does task asked found told old new status) → IsDoneSmoothly task asked found told old new status does → (status ≡ 0) ⊎ (status ≡ 7)
+task_done Check asked found told old new status text files ports opens does smooth = absurd smooth
+task_done Inetd asked (Ok site) told old new status text files ports opens does smooth = site_done asked site told old new status ports does.0 smooth
+task_done Inetd asked (Err stops.Unread) told old new status text files ports opens does smooth = absurd (no_fault_read asked.macros asked.source old.files new.files files opens)
+task_done Inetd asked (Err (stops.Fault fault)) told old new status text files ports opens does smooth = absurd (text fault refl)
+task_done Inetd asked (Err stops.NoMemory) told old new status text files ports opens does smooth = inr does.0.status_is
 
 pub completes : Completes
 completes words told old new status run none =
-    let does : Does Inetd run.asked run.found told old new status = subst (λ (t : Task). Does t run.asked run.found told old new status) none.task_is run.does in
-    found_done run.asked run.found told old new status none.text none.files none.ports run.opens none.smooth does.0
+    task_done run.asked.task run.asked run.found told old new status none.text none.files none.ports run.opens run.does none.smooth
