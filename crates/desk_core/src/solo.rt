@@ -23,7 +23,8 @@ use crate::log::{Log, Terms, note_begun, note_crowded, note_dropped, note_popped
 use crate::looks::note_looks;
 use desk_api::{
     Action, Channel, ChannelKind, Desk, Done, FieldAnswer, Moment, NoMemory, PutAnswer, PvType,
-    PvValue, RecRow, Site, Sub, SubAnswer, Update, entries_write_inside, looks_show_states,
+    PvValue, RecRow, RecState, Site, Sub, SubAnswer, Update, entries_write_inside,
+    looks_show_states,
 };
 use desk_hub::{
     NotBegun, Subscriptions, a_new_desk_keeps, begin, end, logs_tell_slots, marks_keep, pop,
@@ -101,6 +102,25 @@ impl<P: Port + Drop> SoloDesk<P> {
             }),
             Err(no_memory) => Err(no_memory),
         }
+    }
+}
+
+impl<P> SoloDesk<P> {
+    ghost use Rattle.desk_api.specs.Calls.{now};
+    ghost use Rattle.desk_api.specs.History.{state_at};
+
+    /// How many entries the history has.
+    pub fn entries(&self) -> u64
+        ensures { result ≡ now self.now.log }
+    {
+        self.history.len()
+    }
+
+    /// The states of all records behind them, by the records' numbers.
+    pub fn states(&self) -> &[RecState]
+        ensures { result.now ≡ state_at self.now.log.seen (now self.now.log) }
+    {
+        self.cells.states.as_slice()
     }
 }
 
