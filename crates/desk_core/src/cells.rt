@@ -10,15 +10,17 @@ use std::alloc::Global;
 
 /// The present states of the records of a site, and their ports, each at its record's place.
 #[derive(Drop)]
-pub(crate) struct Cells<P> {
-    pub(crate) states: Vec<RecState>,
-    pub(crate) ports: Vec<Option<P>>,
+pub struct Cells<P> {
+    /// The states.
+    pub states: Vec<RecState>,
+    /// The ports.
+    pub ports: Vec<Option<P>>,
     /// The states that the records of the last draft had before it, in the order of its writes. It is kept for its memory.
-    pub(crate) before: Vec<(u32, RecState)>,
+    pub before: Vec<(u32, RecState)>,
 }
 
 /// The states that the records of a site open with.
-pub(crate) fn opening_of(alloc: Global, site: &Site) -> Result<Vec<RecState>, NoMemory>
+pub fn opening_of(alloc: Global, site: &Site) -> Result<Vec<RecState>, NoMemory>
     ensures states { IfOk result (λ states. states.items ≡ site.now.opening) }
     ensures valid { AreValid site.now.configs site.now.opening }
 {
@@ -51,7 +53,7 @@ pub(crate) fn record_at<'a>(
 }
 
 /// Nothing is done. It tells that there are as many names as configurations, and at most 4,000.
-pub(crate) fn names_and_configs(site: &Site)
+pub fn names_and_configs(site: &Site)
     ensures same { length site.now.names ≡ length site.now.configs }
     ensures few { length site.now.configs < 4001 }
 {
@@ -59,7 +61,7 @@ pub(crate) fn names_and_configs(site: &Site)
 }
 
 /// Nothing is done. It tells that the groups of a site are over its records.
-pub(crate) fn groups_over_records(site: &Site)
+pub fn groups_over_records(site: &Site)
     ensures { AreOver site.now }
 {
     let _ = site.groups();

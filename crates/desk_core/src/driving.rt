@@ -46,7 +46,7 @@ pub(crate) struct Outcome {
 }
 
 /// Lets a value go in a function of its own, since its parts would else be let go one by one in the caller's proof.
-pub(crate) fn discard<T: Drop>(_value: T) {}
+pub fn discard<T: Drop>(_value: T) {}
 
 /// Does an action to a record that was in this state, and drives its port, if it has one, with the new value. Where the
 /// port fails the record is processed anew, as one that wasn't driven.

@@ -17,9 +17,10 @@ mod solo;
 #[cfg(test)]
 mod tests;
 
+pub use cells::{Cells, groups_over_records, names_and_configs, opening_of};
 pub use desk_api::{
     Channel, Desk, Done, Moment, NoMemory, PutAnswer, PvType, PvValue, Site, Sub, SubAnswer, Update,
 };
-pub use driving::drive;
+pub use driving::{discard, drive};
 pub use pva_outside::Port;
-pub use solo::SoloDesk;
+pub use solo::{MOST, SERVICE, SoloDesk, not_done, one_action};

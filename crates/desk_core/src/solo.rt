@@ -58,7 +58,7 @@ pub struct SoloDesk<P> {
 }
 
 /// Why a put isn't done that gives no action.
-fn not_done(answer: FieldAnswer) -> PutAnswer
+pub fn not_done(answer: FieldAnswer) -> PutAnswer
     ensures { result ≡ answer_of answer }
 {
     match answer {
@@ -138,7 +138,7 @@ impl<P: Port> SoloDesk<P> {
 }
 
 /// The list of one action.
-fn one_action(alloc: Global, action: (u32, Action)) -> Result<Vec<(u32, Action)>, NoMemory>
+pub fn one_action(alloc: Global, action: (u32, Action)) -> Result<Vec<(u32, Action)>, NoMemory>
     ensures { IfOk result (λ actions. actions.items ≡ action ∷ []) }
 {
     Ok(vec![in alloc; action]?)
@@ -244,7 +244,7 @@ impl<P: Port> SoloDesk<P> {
 }
 
 /// How many subscriptions may live at a time.
-const MOST: u32 = 1024;
+pub const MOST: u32 = 1024;
 
 /// What is answered where no subscription begins. It is noted where too many live.
 fn not_begun(log: &mut Log, cause: NotBegun) -> SubAnswer
@@ -260,7 +260,7 @@ fn not_begun(log: &mut Log, cause: NotBegun) -> SubAnswer
 }
 
 /// The service of the server.
-const SERVICE: Channel = Channel {
+pub const SERVICE: Channel = Channel {
     kind: ChannelKind::Service,
     number: 0,
 };
