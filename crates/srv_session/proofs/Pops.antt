@@ -358,6 +358,7 @@ module _ {site : SiteData} {log : List Mark} {s : State} {req : ℕ} {ask : Aske
   target_channel = held_.subscribed.channel
 
   pub target_found : channel_at s.channels ask.sid ≡ Some target_channel
+  unfolding held_ target_channel
   target_found = held_.channel_is
 
   module _ (channel : Channel) (open_ : channel_at s.channels ask.sid ≡ Some channel) where

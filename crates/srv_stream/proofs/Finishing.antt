@@ -67,7 +67,7 @@ pops_told told site s (r ∷ reqs) (pops req marks sent ∷ xs) are rules =
     (popped_told told p.place p.sub.slot rules.0.update, pops_told told site (after_pop s req marks) reqs xs are.1 rules.1)
 
 pub next_told : (told : Option Moment) (s : State) (next : List Mark) → PopPart s next → HaveMoment told next
-next_told told s next (req, channel, update, p) = subst (HaveMoment told) (sym p.marks_are) (popped_told told p.place p.sub.slot (Some update), tt)
+next_told told s next (req, (channel, update, p)) = subst (HaveMoment told) (sym p.marks_are) (popped_told told p.place p.sub.slot (Some update), tt)
 
 -- Pops hear nothing, and leave the subscriptions as they are.
 
@@ -89,7 +89,7 @@ pops_slots seat s (r ∷ reqs) (pops req marks sent ∷ xs) are rules =
 
 -- The marks of a pop whose update wasn't sent.
 pub next_slots : (site : SiteData) (s : State) (events : List Event) (next : List Mark) → PopPart s next → left_slots site s events next ≡ slots_of s.requests
-next_slots site s events next (req, channel, update, p) = ap (left_slots site s events) p.marks_are
+next_slots site s events next (req, (channel, update, p)) = ap (left_slots site s events) p.marks_are
 
 -- What sends an update has bytes.
 
