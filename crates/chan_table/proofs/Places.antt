@@ -1,6 +1,7 @@
 -- Lists of entries in the rising order of their keys: where a key stands, and what an entry that comes or goes leaves.
 use Rattle.std.specs.Prelude.{◌≡◌, ◌≢◌, ℕ, suc, zero, ◌+◌, ◌<◌, ◌≤◌, Bool, true, false, cond, not, ◌&&◌, T, List, [], ◌∷◌, length, Option, None, Some, is_some, slice_get, slice_index_or, refl}
 use Rattle.std.proofs.Common.{sym, ap, subst, ◌∙◌, inl, inr, arith}
+use Rattle.std.specs.Bool.{OnTrue}
 use Rattle.std.specs.declared.cmp.Ordering.{Ordering}
 use Rattle.std.specs.declared.cmp.Ordering.TheVariants.{Less, Equal, Greater}
 use Rattle.std.specs.Ordering.{is_lt, is_eq, eq_by_cmp, ordering_reverse}
@@ -107,6 +108,30 @@ module _ {K V : Type 0} (R : K → K → Ordering) where
     -- what stands at its place says whether a key is there
     pub find-read : (k : K) (i : ℕ) (es : List (K × V)) (r : Option (K × V)) → is_sorted R es ≡ true → i ≡ place R k es → r ≡ slice_get es i → find R k es ≡ at_place k r
     find-read k i es r h at is = find-place k es (subst T (sym h) tt) ∙ ap (at_place k) (ap (slice_get es) (sym at) ∙ sym is)
+
+    some_same : {x y : K × V} → Some x ≡ Some y → x ≡ y
+    some_same e = cc
+
+    below_got : (x : K) (i : ℕ) (e : K × V) (es : List (K × V)) → T (below_all R x es) → Some e ≡ slice_get es i → R x e.0 ≡ Less
+    below_got x i e [] h at = absurd (some_is_not e at)
+    below_got x zero e (f ∷ fs) h at = ap (λ (y : K × V). R x y.0) (some_same at) ∙ less _ (first_of _ _ h)
+    below_got x (suc i) e (f ∷ fs) h at = below_got x i e fs (second_of _ _ h) at
+
+    -- a key's place is where its entry stands
+    pub place-at : (k : K) (i : ℕ) (e : K × V) (es : List (K × V)) → T (is_sorted R es) → Some e ≡ slice_get es i → R k e.0 ≡ Equal → i ≡ place R k es
+    place-at k i e [] h at is = absurd (some_is_not e at)
+    place-at k zero e (f ∷ fs) h at is =
+        let tied : R k f.0 ≡ Equal = ap (λ (y : K × V). R k y.0) (sym (some_same at)) ∙ is in
+        first_place (λ n. n) (place R k fs) (R f.0 k) (ap is_lt (back o k f.0 Equal tied))
+    place-at k (suc i) e (f ∷ fs) h at is =
+        let rises : R f.0 e.0 ≡ Less = below_got f.0 i e fs (first_of _ _ h) at in
+        let under : R f.0 k ≡ Less = back o k f.0 Greater (o.congr k e.0 f.0 is ∙ back o f.0 e.0 Less rises) in
+        ap suc (place-at k i e fs (second_of _ _ h) at is) ∙ next_place (λ n. n) (place R k fs) (R f.0 k) under
+
+    -- the same by what a test of the entry says
+    pub place-read : (k : K) (i : ℕ) (e : K × V) (es : List (K × V)) → is_sorted R es ≡ true → Some e ≡ slice_get es i → (b : Bool) → b ≡ is_eq (R k e.0) → OnTrue b (i ≡ place R k es)
+    place-read k i e es h at true is = place-at k i e es (subst T (sym h) tt) at (equal (R k e.0) (subst T is tt))
+    place-read k i e es h at false is = tt
 
     -- a key that is there has its place among the entries
     pub place-within : (k : K) (v : V) (i : ℕ) (es : List (K × V)) → is_sorted R es ≡ true → i ≡ place R k es → find R k es ≡ Some v → i < length es

@@ -72,6 +72,18 @@ impl<V> Directory<V> {
         }
     }
 
+    /// The value of a number, which is looked for first at the places from `near` on. `near` is then its place.
+    pub(crate) fn get_near(&self, near: &mut usize, number: u32) -> Option<&V>
+        ensures { option_copied result ≡ map.get self.now.values number }
+    {
+        let (key, place) = self.keys.get_near(*near, number);
+        *near = place;
+        match key {
+            Some(key) => self.values.get(key),
+            None => None,
+        }
+    }
+
     /// The value of a number that has one, for writing.
     pub(crate) fn value_mut(&mut self, number: u32) -> &mut V
         requires { IsSome (map.get self.old.values number) }

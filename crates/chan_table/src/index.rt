@@ -1,10 +1,14 @@
 ghost use Rattle.std.specs.Prelude.{◌≡◌, ◌<◌, ◌≤◌, ◌+◌, ◌^◌, [], cond, is_some, None, Some, OnOk, IfOk, IfNone, IsTrue, vec_len, vec_capacity, slice_get};
+ghost use Rattle.std.specs.Bool.{OnTrue};
 ghost use Rattle.std.specs.Ordering.{eq_by_cmp, nat_cmp};
 ghost use Rattle.std.specs.FinMap.{find, is_sorted};
 ghost use Rattle.chan_table.specs.Index.{place as place_of, IsFirstFrom};
 ghost use Rattle.chan_table.specs.Numbers.{IsLeastAbsent};
 
 use std::alloc::{AllocError, Global};
+
+/// How many places are looked at from a hint on before the list is searched.
+const NEAR: usize = 4;
 
 /// Values by their keys, in the rising order of the keys.
 ///
@@ -42,6 +46,28 @@ impl<K: Ord + Copy, V: Copy> Index<K, V> {
             .partition_point(|entry| entry.0.cmp(&key).is_lt())
     }
 
+    /// The same, where the key is looked for first at the places from `near` on.
+    fn place_near(&self, near: usize, key: K) -> usize
+        ensures { result ≡ place_of K.cmp key self.now.entries.items }
+    {
+        for place in near..near.saturating_add(NEAR) {
+            if self.stands_at(place, key) {
+                return place;
+            }
+        }
+        self.place_of(key)
+    }
+
+    /// Whether a key has its entry at this place.
+    fn stands_at(&self, place: usize, key: K) -> bool
+        ensures { OnTrue result (place ≡ place_of K.cmp key self.now.entries.items) }
+    {
+        match self.entry_at(place) {
+            Some(entry) => key.cmp(&entry.0).is_eq(),
+            None => false,
+        }
+    }
+
     /// The entry at a place, if there are so many.
     fn entry_at(&self, place: usize) -> Option<(K, V)>
         ensures { result ≡ slice_get self.now.entries.items place }
@@ -69,6 +95,15 @@ impl<K: Ord + Copy, V: Copy> Index<K, V> {
         ensures { result ≡ find K.cmp key self.now.entries.items }
     {
         self.value_at(self.place_of(key), key)
+    }
+
+    /// The value of a key, which is looked for first at the places from `near` on. The place where it is, or would be, is
+    /// told too.
+    pub(crate) fn get_near(&self, near: usize, key: K) -> (Option<V>, usize)
+        ensures { result.0 ≡ find K.cmp key self.now.entries.items }
+    {
+        let place = self.place_near(near, key);
+        (self.value_at(place, key), place)
     }
 
     /// The entry with the least key that isn't below `from`.

@@ -156,6 +156,15 @@ impl<C, S> Table<C, S> {
         self.asks.get(id)
     }
 
+    /// The request of an id, if there is one, whatever `near` is: a place in the list of ids, which is looked at first with
+    /// the few behind it. `near` is then the id's place in that list. So requests that are looked up by rising ids, one
+    /// after another, take a step or two each. From a `near` that doesn't help it is one look-up.
+    pub fn ask_near(&self, near: &mut usize, id: u32) -> Option<&Ask<S>>
+        ensures { option_copied result ≡ map.get self.now.asks id }
+    {
+        self.asks.get_near(near, id)
+    }
+
     /// The request of an id for writing, if there is one. All of it may be written: with another sid it is on that
     /// channel. Three look-ups. No memory is taken.
     pub fn ask_mut(&mut self, id: u32) -> Option<&mut Ask<S>>

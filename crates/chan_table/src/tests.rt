@@ -99,6 +99,34 @@ fn an_id_in_use_is_told_before_a_full_table(rt: HostRuntime) -> Result<(), Fail>
     Ok(())
 }
 
+/// The sid of the request of an id, which is looked for near a place.
+fn sid_near(table: &Table<u32, u32>, near: &mut usize, id: u32) -> Option<u32> {
+    match table.ask_near(near, id) {
+        Some(ask) => Some(ask.sid),
+        None => None,
+    }
+}
+
+#[test]
+fn a_request_is_found_from_any_place(rt: HostRuntime) -> Result<(), Fail> {
+    let mut table: Table<u32, u32> = Table::new(rt.alloc())?;
+    for n in 0..40u32 {
+        assert_eq!(rt; begin(rt.alloc(), &mut table, 3 * n, n), Ok(()));
+    }
+    for place in 0..50usize {
+        let mut near = place;
+        assert_eq!(rt; sid_near(&table, &mut near, 60), Some(20));
+        assert_eq!(rt; near, 20);
+        assert_eq!(rt; sid_near(&table, &mut near, 61), None);
+        assert_eq!(rt; near, 21);
+        assert_eq!(rt; sid_near(&table, &mut near, 63), Some(21));
+    }
+    let mut near = usize::MAX;
+    assert_eq!(rt; sid_near(&table, &mut near, 117), Some(39));
+    assert_eq!(rt; sid_near(&table, &mut near, 118), None);
+    Ok(())
+}
+
 #[test]
 fn requests_of_a_channel_leave_in_rising_order(rt: HostRuntime) -> Result<(), Fail> {
     let mut table: Table<u32, u32> = Table::new(rt.alloc())?;

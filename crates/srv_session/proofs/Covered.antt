@@ -393,9 +393,9 @@ module _ (site : SiteData) (log : List Mark) (s : State) (c : Covers log s) (end
 
   next_ended : (events : List Event) (more : List Mark) → NextPart site s events more → AreEndings (after_part site s events more) endings → lives ((log ++ more) ++ endings) slot ≡ false
   next_ended events more (inl p) ending_ = event_ended events more p ending_
-  next_ended events more (inr (req, channel, update, p)) ending_ =
+  next_ended events more (inr (req, (channel, update, p))) ending_ =
       subst (λ (ms : List Mark). AreEndings (after_part site s events ms) endings → lives ((log ++ ms) ++ endings) slot ≡ false) (sym p.marks_are)
-      (λ e. none_lives (log ++ Popped p.place p.sub.slot update ∷ []) s endings (past_covers log s p.place p.sub.slot update c) e slot) ending_
+      (λ e. none_lives (log ++ Popped p.place p.sub.slot (Some update) ∷ []) s endings (past_covers log s p.place p.sub.slot (Some update) c) e slot) ending_
 
 pub all_ended_behind : (site : SiteData) (order : Order) (steps : List Step) (events : List Event) (more endings : List Mark) → AreSteps site (opening order) steps
     → NextPart site (state_after site (opening order) steps) events more → AreEndings (after_part site (state_after site (opening order) steps) events more) endings

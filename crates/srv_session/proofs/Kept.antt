@@ -33,7 +33,7 @@ use Rattle.srv_session.specs.State.{State, Channels, Requests, Asked, channel_at
 use Rattle.srv_session.specs.Tasks.{Task, pass_over, echo_control, refuse, tell, validate, echo, create, destroy_channel, begin, get, put, put_get, respond, snapshot, subscribe, steer, destroy_request, Hearing, asks, unreadable, over_range, heard}
 use Rattle.srv_session.specs.Replies.{Sent}
 use Rattle.srv_session.specs.Rows.{asked, Says, Row, Part, NoPart, AreEndingsOf, subscribed, ask_of, monitor_of, steered, behind, after_task, left_by, all_opened}
-use Rattle.srv_session.specs.Steps.{Step, hears, pops, knowing, IsAnswer, IsPopOf, PopPart, PartOf, IsFreeBegun, IsStep, AreSteps, one_sent, with_sent, after_pop, after_hearing, after_step, left_by_hearing, state_after, marks_in, marks_of}
+use Rattle.srv_session.specs.Steps.{Step, hears, pops, knowing, IsAnswer, IsPopOf, PartOf, IsFreeBegun, IsStep, AreSteps, one_sent, with_sent, after_pop, after_hearing, after_step, left_by_hearing, state_after, marks_in, marks_of}
 use Rattle.srv_session.specs.Calls.{IsHeld, Holds, AreLiving, ArePopsOf, Shown, site_of, Heeds, Handles, Pumps}
 use Rattle.srv_session.specs.declared.stop.SessionStop.{SessionStop}
 use Rattle.srv_session.specs.declared.stop.SessionStop.TheVariants as stops
@@ -587,17 +587,14 @@ pumped_holds old new (Ok more) p holds =
     (holds_steps (site_of old) old.state old.seat.log p.steps holds p.some.rules (subst (λ (l : List Mark). AllTrue IsFreeBegun old.seat.log l) (append-nil marks) b.free)))
 pumped_holds old new (Err e) p holds = tt
 
-next_past : (log next : List Mark) (s t : State) → (next ≡ []) ⊎ PopPart t next → Holds log s → Holds (log ++ next) s
-next_past log next s t (inl none) holds = subst (λ (l : List Mark). Holds l s) (sym (ap (λ (l : List Mark). log ++ l) none ∙ append-nil log)) holds
-next_past log next s t (inr p) holds = past_pop log next s t p.0 p.1 p.2 p.3 holds
-
 pub pumped_living : (old new : Shown) (result : Result Bool NoMemory) → Pumps old new result → Holds old.seat.log old.state → AreLiving new.seat.log (slots_of new.state.requests)
 pumped_living old new (Ok more) p holds = are_living new.seat.log new.state (pumped_holds old new (Ok more) p holds)
 pumped_living old new (Err e) p holds =
     let marks = marks_of p.steps in
     let site = site_of old in
     let held : Holds ((old.seat.log ++ marks) ++ p.next) old.state =
-    next_past (old.seat.log ++ marks) p.next old.state (state_after site old.state p.steps) p.next_is (past_pops site old.seat.log old.state old.state p.reqs p.steps p.some.are p.some.rules holds) in
+    past_pop (old.seat.log ++ marks) p.next old.state (state_after site old.state p.steps) p.req p.next_is.0 (Some p.next_is.1) p.next_is.2
+    (past_pops site old.seat.log old.state old.state p.reqs p.steps p.some.are p.some.rules holds) in
     let log : (old.seat.log ++ marks) ++ p.next ≡ new.seat.log = append_assoc old.seat.log marks p.next ∙ sym p.some.adds.log in
     subst (AreLiving new.seat.log) (sym p.subscribed) (are_living new.seat.log old.state (subst (λ (l : List Mark). Holds l old.state) log held))
 

@@ -1,6 +1,6 @@
 -- Pops, and pumps, which are pops of all monitors that are due.
-use Rattle.std.proofs.Common.{◌≡◌, ◌≢◌, ◌==◌, ℕ, zero, suc, ◌+◌, ◌-◌, ◌<◌, ◌≤◌, Bool, true, false, ◌&&◌, ◌||◌, not, cond, List, [], ◌∷◌, ◌++◌, drop, length, Option, None, Some, Result, Ok, Err, refl, sym, ◌∙◌, ap, subst, arith, inl, inr, append_assoc}
-use Rattle.std.specs.Prelude.{◌⊎◌, IsErr, IsTrue, get_or, is_some, nat_lt}
+use Rattle.std.proofs.Common.{◌≡◌, ◌≢◌, ◌==◌, ℕ, zero, suc, ◌+◌, ◌-◌, ◌<◌, ◌≤◌, Bool, true, false, ◌&&◌, ◌||◌, not, cond, List, [], ◌∷◌, ◌++◌, drop, length, Option, None, Some, Result, Ok, Err, refl, sym, ◌∙◌, ap, subst, arith, append_assoc}
+use Rattle.std.specs.Prelude.{IsErr, IsTrue, get_or, is_some, nat_lt}
 use Rattle.std.specs.List.{filter, list_all, list_any}
 use Rattle.std.specs.FinMap.{get as at, insert}
 use Rattle.std.proofs.lemmas.Bool.{false≢true}
@@ -27,10 +27,10 @@ use Rattle.desk_api.specs.declared.sub.Sub.{Sub}
 use Rattle.srv_session.specs.State.{State, Requests, Asked, channel_at, is_due, due, slot_of_sub, slots_of}
 use Rattle.srv_session.specs.Replies.{Sent, is_call, said, spelled, spelled_all, updated}
 use Rattle.srv_session.specs.Rising.{is_rising}
-use Rattle.srv_session.specs.Steps.{Step, hears, pops, IsDue, IsPopOf, PopRow, PopPart, one_sent, with_sent, after_pop, after_step, AreSteps, state_after, marks_of, sent_in, out_of, update_sent}
+use Rattle.srv_session.specs.Steps.{Step, hears, pops, IsDueMonitor, IsPopOf, PopRow, UnsentPop, one_sent, with_sent, after_pop, after_step, AreSteps, state_after, marks_of, sent_in, out_of, update_sent}
 use Rattle.srv_session.specs.Calls.{AreLiving, IsOf, IsHeld, Holds, ArePopsOf, is_some_sent, sends, Pumps, Pumped, PumpedSome, PumpStopped}
 use Rattle.srv_session.specs.Views.{state_of, output_of, show}
-use Rattle.srv_session.specs.Watching.{HasPopped, HasFailed, Pops, PopsDue, Idles, SendsUpdate}
+use Rattle.srv_session.specs.Watching.{HasPopped, HasFailed, PopsOne, PopsDue, Idles, SendsUpdate}
 use Rattle.srv_session.specs.declared.session.Session.{Session}
 use Rattle.srv_session.proofs.Tables.{got_beside}
 use Rattle.srv_session.proofs.Slots.{slots_insert}
@@ -61,15 +61,12 @@ oks more = Ok more
 abbrev fails : NoMemory → Result Bool NoMemory
 fails e = Err e
 
-module _ (here there : Seat) (s : State) (req : ℕ) (ask : Asked) (channel : Channel) (sub : Sub) (is : IsDue s req ask channel sub) (update : Option Update) (calls : Calls here there (IsPop sub.slot update)) where
+module _ (here there : Seat) (s : State) (req : ℕ) (ask : Asked) (channel : Channel) (sub : Sub) (is : IsDueMonitor s req ask channel sub) (update : Option Update) (calls : Calls here there (IsPop sub.slot update)) where
   pop_of : IsPopOf s req channel update calls.marks
   pop_of = record { ask = ask; sub = sub; is_due = is; place = calls.named.at; marks_are = calls.named.marks_are }
 
   pub popped_row : PopRow here.seen.base.site s req calls.marks (update_sent here.seen.base.site req channel update)
   popped_row = record { channel = channel; update = update; is_pop = pop_of; sent_is = refl }
-
-  pub popped_part : PopPart s calls.marks
-  popped_part = (req, channel, update, pop_of)
 
   -- the state behind it
   pub after_popped : after_pop s req calls.marks ≡ after_pop s req (Popped calls.named.at sub.slot update ∷ [])
@@ -268,20 +265,21 @@ module _ (here : Seat) (s : State) (out : List ℕ) (now : Seat) (old : Session)
               same_due (state_of old).requests (state_of new).requests id later above_id
               (λ q apart. ap (λ (z : State). at z.requests q) p.state ∙ popped_beside now there (state_of old) id p.marks p.sent p.row q apart)
 
-    -- memory ran out
-    pub going_stopped : HasFailed now there old new → PumpStopped (shown here s out) (show there new)
-    going_stopped f = record {
+    -- memory ran out at one that is
+    pub going_stopped : (id : ℕ) (later : List ℕ) → ids ≡ id ∷ later → is_due (at (state_of old).requests id) ≡ true → HasFailed now there old new id → PumpStopped (shown here s out) (show there new)
+    going_stopped id later ids_are on f = record {
       reqs = g.reqs;
+      req = id;
+      later = due_in (state_of old).requests later;
+      due_are =
+          sym g.rest ∙ ap (λ (l : List ℕ). g.reqs ++ due_in (state_of old).requests l) ids_are
+          ∙ ap (λ (b : Bool). g.reqs ++ cond b (id ∷ due_in (state_of old).requests later) (due_in (state_of old).requests later)) on;
       steps = g.steps;
       next = f.next;
       some = record { are = g.are; rules = g.rules; adds = adds_more g.adds f.adds; output = f.output ∙ g.output };
-      next_is = part_at f.next_is;
+      next_is = subst (λ (z : State). UnsentPop z id f.next) g.state f.next_is;
       subscribed = f.subscribed ∙ g.slots;
     }
-      where
-        part_at : (f.next ≡ []) ⊎ PopPart (state_of old) f.next → (f.next ≡ []) ⊎ PopPart (state_after site_ s g.steps) f.next
-        part_at (inl e) = inl e
-        part_at (inr part) = inr (subst (λ (z : State). PopPart z f.next) g.state part)
 
 -- all were looked at
 pub gone : (here : Seat) (s : State) (out : List ℕ) (now : Seat) (t : State) (after : List ℕ) (sent : Bool) → Going here s out now t after [] sent → Pumped (shown here s out) (shown now t after) sent
@@ -314,7 +312,7 @@ module _ (here : Seat) (s : State) (out : List ℕ) (now there : Seat) (old new 
       err_ok e = cc
 
       by_test : (b : Bool) → is_due (at (state_of old).requests id) ≡ b → PumpStopped (shown here s out) (show there new)
-      by_test true is = going_stopped here s out now old ids sent g there new (p.due is)
+      by_test true is = going_stopped here s out now old ids sent g there new id later ids_are is (p.due is)
       by_test false is = absurd (err_ok (p.idle is).result_is)
 
   pub failed_living : (e : NoMemory) → PopsDue now there old new id sent (Err e) → Holds here.log s → AreLiving there.log (slots_of (state_of new).requests)
@@ -325,40 +323,67 @@ rising_drop zero ids rising = rising
 rising_drop (suc n) [] rising = refl
 rising_drop (suc n) (id ∷ ids) rising = rising_drop n ids (both_true (list_all (λ x. nat_lt id x) ids) (is_rising ids) rising).1
 
--- The monitor of a request that has a subscription, on its channel.
-module _ (site : SiteData) (log : List Mark) (s : State) (ok : Holds log s) (real : IsOf site s) (req : ℕ) (ask : Asked) (sub : Sub) (channel : Channel) (here : at s.requests req ≡ Some ask) (has : ask.sub ≡ Some sub)
-    (open_ : channel_at s.channels ask.sid ≡ Some channel) where
+-- The monitor of a request, which is due, by a session that holds its subscriptions.
+pub record Target (site : SiteData) (log : List Mark) (s : State) (req : ℕ) (ask : Asked) (sub : Sub) : Type 0 where
+  pub ok : Holds log s
+  pub real : IsOf site s
+  pub here : at s.requests req ≡ Some ask
+  pub has : ask.sub ≡ Some sub
+  pub on : is_due (Some ask) ≡ true
+
+pub target : {site : SiteData} {log : List Mark} {s : State} {req : ℕ} {ask : Asked} {sub : Sub} → Holds log s → IsOf site s → Some ask ≡ at s.requests req → ask.sub ≡ Some sub → true ≡ is_due (Some ask) → Target site log s req ask sub
+target ok real here has on = record { ok = ok; real = real; here = sym here; has = has; on = sym on }
+
+same_channel : {x y : Channel} → Some x ≡ Some y → x ≡ y
+same_channel e = cc
+
+some_none : {x : Channel} → Some x ≡ None → ⊥
+some_none e = cc
+
+module _ {site : SiteData} {log : List Mark} {s : State} {req : ℕ} {ask : Asked} {sub : Sub} (t : Target site log s req ask sub) where
   held_ : IsHeld log s.channels ask sub.slot
-  held_ = ok.held req ask sub here has
+  held_ = t.ok.held req ask sub t.here t.has
+
+  pub target_on : is_due (at s.requests req) ≡ true
+  target_on = ap is_due t.here ∙ t.on
 
   pub target_lives : lives log sub.slot ≡ true
   target_lives = ap (λ (o : Option Living). is_some o) held_.there
 
-  pub target_real : IsTrue (is_channel site channel)
-  target_real = real.channels ask.sid channel open_
+  -- its channel is open
+  pub target_open : channel_at s.channels ask.sid ≡ None → ⊥
+  target_open none = some_none (sym held_.channel_is ∙ none)
 
-  same_channel : {x y : Channel} → Some x ≡ Some y → x ≡ y
-  same_channel e = cc
+  pub target_channel : Channel
+  target_channel = held_.subscribed.channel
 
-  pub target_valued : IsTrue (has_values channel)
-  target_valued =
-      let on = real.requests req ask here in
-      let call : is_call ask.kind ≡ false = ap is_call held_.kind_is in
-      subst (λ (c : Channel). IsTrue (has_values c)) (same_channel (sym on.open_ ∙ open_)) (on.selects call).valued
+  pub target_found : channel_at s.channels ask.sid ≡ Some target_channel
+  unfolding held_ target_channel
+  target_found = held_.channel_is
 
-  pub target_fits : (update : Update) → ((l : Living) → living log sub.slot ≡ Some l → IsUpdateOf (type_of site l.channel) update) → IsUpdateOf (type_of site channel) update
-  target_fits update fits =
-      subst (λ (c : Channel). IsUpdateOf (type_of site c) update) (same_channel (sym held_.channel_is ∙ open_)) (fits held_.subscribed held_.there)
+  module _ (channel : Channel) (open_ : channel_at s.channels ask.sid ≡ Some channel) where
+    pub target_due : IsDueMonitor s req ask channel sub
+    target_due = record { here = t.here; open_ = open_; subscribed = t.has; due = t.on }
 
-  pub target_due : is_due (at s.requests req) ≡ true → IsDue s req ask channel sub
-  target_due due = record { here = here; open_ = open_; subscribed = has; due = ap is_due (sym here) ∙ due }
+    pub target_real : IsTrue (is_channel site channel)
+    target_real = t.real.channels ask.sid channel open_
+
+    pub target_valued : IsTrue (has_values channel)
+    target_valued =
+        let of_site = t.real.requests req ask t.here in
+        let call : is_call ask.kind ≡ false = ap is_call held_.kind_is in
+        subst (λ (c : Channel). IsTrue (has_values c)) (same_channel (sym of_site.open_ ∙ open_)) (of_site.selects call).valued
+
+    pub target_fits : (update : Update) → ((l : Living) → living log sub.slot ≡ Some l → IsUpdateOf (type_of site l.channel) update) → IsUpdateOf (type_of site channel) update
+    target_fits update fits =
+        subst (λ (c : Channel). IsUpdateOf (type_of site c) update) (same_channel (sym held_.channel_is ∙ open_)) (fits held_.subscribed held_.there)
 
 true_ : (b : Bool) → true ≡ (b || true)
 true_ true = refl
 true_ false = refl
 
 -- What a pop leaves, by what was sent.
-module _ (here there : Seat) (old : Session) (req : ℕ) (ask : Asked) (channel : Channel) (sub : Sub) (is : IsDue (state_of old) req ask channel sub) (before : Bool) where
+module _ (here there : Seat) (old : Session) (req : ℕ) (ask : Asked) (channel : Channel) (sub : Sub) (is : IsDueMonitor (state_of old) req ask channel sub) (before : Bool) where
   pub popped_nothing : Calls here there (IsPop sub.slot None) → HasPopped here there old old req before before
   popped_nothing calls = record {
     marks = calls.marks;
@@ -384,22 +409,36 @@ module _ (here there : Seat) (old : Session) (req : ℕ) (ask : Asked) (channel 
       now_is = true_ before;
     }
 
-    pub popped_unsent : (e : NoMemory) → SendsUpdate old new req ty update (Err e) → HasFailed here there old new
+    pub popped_unsent : (e : NoMemory) → SendsUpdate old new req ty update (Err e) → HasFailed here there old new req
     popped_unsent e kept = record {
       next = calls.marks;
-      next_is = inr (popped_part here there (state_of old) req ask channel sub is (Some update) calls);
+      next_is = (channel, update, pop_of here there (state_of old) req ask channel sub is (Some update) calls);
       adds = calls.adds;
       subscribed = ap (λ (z : State). slots_of z.requests) kept.1;
       output = kept.0;
     }
 
-pub nothing_popped : (here : Seat) (old : Session) → IsLegal here.seen → HasFailed here here old old
-nothing_popped here old legal = record { next = []; next_is = inl refl; adds = adds_nothing here legal; subscribed = refl; output = refl }
-
 -- a call that failed
-pub pops_failed : (here there : Seat) (old new : Session) (req : ℕ) (before : Bool) (result : Result Bool NoMemory) → IsErr result → HasFailed here there old new → Pops here there old new req before result
+pub pops_failed : (here there : Seat) (old new : Session) (req : ℕ) (before : Bool) (result : Result Bool NoMemory) → IsErr result → HasFailed here there old new req → PopsOne here there old new req before result
 pops_failed here there old new req before (Ok more) is f = absurd (false≢true is)
 pops_failed here there old new req before (Err e) is f = f
+
+-- one that isn't due
+pub idles : (here : Seat) (old : Session) (req : ℕ) (before : Bool) → is_due (at (state_of old).requests req) ≡ false → PopsDue here here old old req before (Ok before)
+idles here old req before off = record {
+  due = λ on. absurd (false≢true (sym off ∙ on));
+  idle = λ none. record { seat = refl; state = refl; output = refl; result_is = refl };
+  monitors = refl;
+}
+
+-- one that is
+pub pops_due : (here there : Seat) (old new : Session) (req : ℕ) (before : Bool) (result : Result Bool NoMemory) → is_due (at (state_of old).requests req) ≡ true → new.monitors ≡ old.monitors
+    → PopsOne here there old new req before result → PopsDue here there old new req before result
+pops_due here there old new req before result on same p = record {
+  due = λ is. p;
+  idle = λ off. absurd (false≢true (sym off ∙ on));
+  monitors = ap (λ v. v.items) same;
+}
 
 pub sends_failed : (old new : Session) (req : ℕ) (ty : Tree) (update : Update) (result : Result (Unit {0}) NoMemory) → IsErr result → output_of new ≡ output_of old → state_of new ≡ state_of old → SendsUpdate old new req ty update result
 sends_failed old new req ty update (Ok u) is same state = absurd (false≢true is)

@@ -1,5 +1,6 @@
 -- What the calls of a session do.
-use Rattle.std.specs.Prelude.{◌≡◌, ◌==◌, ◌≢◌, ◌⊎◌, ℕ, Bool, true, false, List, [], ◌∷◌, ◌++◌, Some, Result, Ok, Err, IsTrue, ⊤}
+use Rattle.std.specs.Prelude.{◌≡◌, ◌==◌, ◌≢◌, ℕ, Bool, true, false, List, [], ◌∷◌, ◌++◌, Some, Result, Ok, Err}
+use Rattle.std.specs.Prelude.{IsTrue, ⊤}
 use Rattle.std.specs.List.{list_any}
 use Rattle.std.specs.FinMap.{get as at}
 use Rattle.std.specs.FinSet as set
@@ -20,7 +21,8 @@ use Rattle.srv_session.specs.State.{State, Channels, Asked, channel_at, due, slo
 use Rattle.srv_session.specs.Replies.{Sent, spelled_all, is_call}
 use Rattle.srv_session.specs.Tasks.{Task, Hearing, unreadable, over_range, heard}
 use Rattle.srv_session.specs.Rows.{Row, Part, after_task, left_by}
-use Rattle.srv_session.specs.Steps.{Step, pops, IsAnswer, PartOf, PopPart, AreSteps, AreEndings, after_hearing, left_by_hearing, state_after, marks_of, sent_in, out_of}
+use Rattle.srv_session.specs.Steps.{Step, pops, IsAnswer, PartOf, UnsentPop, AreSteps, AreEndings, after_hearing}
+use Rattle.srv_session.specs.Steps.{left_by_hearing, state_after, marks_of, sent_in, out_of}
 use Rattle.srv_session.specs.declared.stop.SessionStop.{SessionStop}
 use Rattle.srv_session.specs.declared.stop.SessionStop.TheVariants as stops
 
@@ -43,8 +45,8 @@ pub record IsOf (site : SiteData) (s : State) : Type 0 where
       → IsTrue (is_channel site channel)
   pub requests : (req : ℕ) (ask : Asked) → at s.requests req ≡ Some ask → IsAskOf site s.channels ask
 
--- A session holds its subscriptions: each lives by the log of its desk's seat, on its request's channel with its request's leaves, and
--- no other request has it. Only monitors have one.
+-- A session holds its subscriptions: each lives by the log of its desk's seat, on its request's channel with its request's
+-- leaves, and no other request has it. Only monitors have one.
 
 pub record IsHeld (log : List Mark) (channels : Channels) (ask : Asked) (slot : ℕ) : Type 0 where
   pub subscribed : Living
@@ -85,7 +87,8 @@ pub record Answered (old new : Shown) (moment : Moment) (task : Task) : Type 0 w
   pub output : new.output ≡ old.output ++ spelled_all old.state.order old.state.segment sent
 
 -- Memory ran out in it. The session then has the subscriptions that the marks leave.
-pub record GaveUp (old new : Shown) (moment : Moment) (part : List Mark → Type 0) (left : List Mark → State) : Type 0 where
+pub record GaveUp (old new : Shown) (moment : Moment) (part : List Mark → Type 0) (left : List Mark → State)
+    : Type 0 where
   pub marks : List Mark
   pub part_is : part marks
   pub adds : Adds old.seat new.seat marks
@@ -156,27 +159,31 @@ is_some_sent (x ∷ sent) = true
 abbrev pub sends : List Step → Bool
 sends steps = list_any (λ x. is_some_sent (sent_in x)) steps
 
--- So many of the monitors that were due were popped once each, by the rising ids of their requests, and their updates were added.
+-- The monitors of these requests were popped once each, in this order, and their updates were added.
 pub record PumpedSome (old new : Shown) (reqs : List ℕ) (steps : List Step) (more : List Mark) : Type 0 where
   pub are : ArePopsOf reqs steps
   pub rules : AreSteps (site_of old) old.state steps
   pub adds : Adds old.seat new.seat (marks_of steps ++ more)
   pub output : new.output ≡ old.output ++ out_of (site_of old) old.state steps
 
--- All of them were. It tells whether one had an update.
+-- All that were due were, by the rising ids of their requests. It tells whether one had an update.
 pub record Pumped (old new : Shown) (more : Bool) : Type 0 where
   pub steps : List Step
   pub some : PumpedSome old new (due old.state.requests) steps []
   pub state : new.state ≡ state_after (site_of old) old.state steps
   pub more_is : more ≡ sends steps
 
--- Memory ran out behind some of them, and maybe behind a pop of the next whose update wasn't added.
+-- Memory ran out at one of them: those before it were popped, and so was it, but its update wasn't added. Those behind it
+-- weren't popped.
 pub record PumpStopped (old new : Shown) : Type 0 where
   pub reqs : List ℕ
+  pub req : ℕ
+  pub later : List ℕ
+  pub due_are : due old.state.requests ≡ reqs ++ req ∷ later
   pub steps : List Step
   pub next : List Mark
   pub some : PumpedSome old new reqs steps next
-  pub next_is : (next ≡ []) ⊎ PopPart (state_after (site_of old) old.state steps) next
+  pub next_is : UnsentPop (state_after (site_of old) old.state steps) req next
   pub subscribed : slots_of new.state.requests ≡ slots_of old.state.requests
 
 abbrev pub Pumps : Shown → Shown → Result Bool NoMemory → Type 0

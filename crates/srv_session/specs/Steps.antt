@@ -1,5 +1,6 @@
 -- A session as a list of steps. What it reads, what its desk did and what it says are functions of that list.
-use Rattle.std.specs.Prelude.{◌≡◌, ◌==◌, ◌-◌, ◌⊎◌, ℕ, true, false, List, [], ◌∷◌, ◌++◌, Option, None, Some, option_map, ⊤, if◌then◌else◌}
+use Rattle.std.specs.Prelude.{◌≡◌, ◌==◌, ◌-◌, ◌⊎◌, ℕ, true, false, List, [], ◌∷◌, ◌++◌, Option, None, Some}
+use Rattle.std.specs.Prelude.{option_map, ⊤, if◌then◌else◌}
 use Rattle.std.specs.FinMap.{get as at, insert}
 use Rattle.pva_frames.specs.declared.event.Event.{Event}
 use Rattle.pvd_desc.specs.Types.{Types}
@@ -17,7 +18,8 @@ use Rattle.srv_session.specs.Tasks.{Hearing, asks, unreadable, over_range, heard
 use Rattle.srv_session.specs.Replies.{Sent, said, spelled_all, updated}
 use Rattle.srv_session.specs.Rows.{Row, NoPart, Part, after_task, left_by, AreEndingsOf}
 
--- One step: an event of the client, or a pop of the monitor of a request; the marks that it made, and what the session sent.
+-- One step: an event of the client, or a pop of the monitor of a request; the marks that it made, and what the session
+-- sent.
 pub data Step : Type 0 where
   hears : Event → List Mark → List Sent → Step
   pops : ℕ → List Mark → List Sent → Step
@@ -42,7 +44,7 @@ abbrev pub after_event : SiteData → State → Event → List Mark → State
 after_event site s e marks = after_hearing site s (heard site s e) marks
 
 -- a monitor that is started and may be sent an update, with its channel and its subscription
-pub record IsDue (s : State) (req : ℕ) (ask : Asked) (channel : Channel) (sub : Sub) : Type 0 where
+pub record IsDueMonitor (s : State) (req : ℕ) (ask : Asked) (channel : Channel) (sub : Sub) : Type 0 where
   pub here : at s.requests req ≡ Some ask
   pub open_ : channel_at s.channels ask.sid ≡ Some channel
   pub subscribed : ask.sub ≡ Some sub
@@ -57,7 +59,7 @@ update_sent site req channel (Some update) = said (updated req (type_of site cha
 pub record IsPopOf (s : State) (req : ℕ) (channel : Channel) (update : Option Update) (marks : List Mark) : Type 0 where
   pub ask : Asked
   pub sub : Sub
-  pub is_due : IsDue s req ask channel sub
+  pub is_due : IsDueMonitor s req ask channel sub
   pub place : ℕ
   pub marks_are : marks ≡ Popped place sub.slot update ∷ []
 
@@ -152,17 +154,20 @@ abbrev pub IsDrained : SiteData → State → List Step → Type 0
 IsDrained site s steps =
     (req : ℕ) → is_due (at (state_after site s steps).requests req) ≡ true → IsEmptyPop (last_pop req None steps)
 
--- The marks that may stand where memory ran out in the row of the next event, or in a pop. Of an event that has no answer there are
--- none.
+-- The marks that may stand where memory ran out in the row of the next event, or in a pop. Of an event that has no answer
+-- there are none.
 
 abbrev pub PartOf : SiteData → State → Hearing → List Mark → Type 0
 PartOf site s (asks task types) marks = Part site (knowing s types) task marks
 PartOf site s (unreadable fault) marks = NoPart marks
 PartOf site s over_range marks = NoPart marks
 
--- the pop of a monitor whose update wasn't sent
+-- the pop of a request's monitor which took an update that wasn't sent
+abbrev pub UnsentPop : State → ℕ → List Mark → Type 0
+UnsentPop s req marks = (channel : Channel) × (update : Update) × IsPopOf s req channel (Some update) marks
+
 abbrev pub PopPart : State → List Mark → Type 0
-PopPart s marks = (req : ℕ) × (channel : Channel) × (update : Option Update) × IsPopOf s req channel update marks
+PopPart s marks = (req : ℕ) × UnsentPop s req marks
 
 abbrev pub EventPart : SiteData → State → List Event → List Mark → Type 0
 EventPart site s [] marks = NoPart marks

@@ -1,5 +1,6 @@
 -- What contracts see of monitors.
-use Rattle.std.specs.Prelude.{◌≡◌, ◌⊎◌, ◌||◌, ℕ, Bool, true, false, List, [], ◌∷◌, ◌++◌, Option, None, Some, Result, Ok, Err, codes}
+use Rattle.std.specs.Prelude.{◌≡◌, ◌||◌, ℕ, Bool, true, false, List, [], ◌∷◌, ◌++◌, Option, None, Some, Result, Ok}
+use Rattle.std.specs.Prelude.{Err, codes}
 use Rattle.std.specs.FinMap.{get as at, insert}
 use Rattle.pvd_type.specs.Tree.{Tree}
 use Rattle.pvd_type.specs.declared.memory.NoMemory.{NoMemory}
@@ -14,7 +15,7 @@ use Rattle.desk_api.specs.declared.sub.SubAnswer.TheVariants as answers
 use Rattle.srv_session.specs.Calls.{is_some_sent}
 use Rattle.srv_session.specs.State.{State, Asked, Requests, is_due, slots_of}
 use Rattle.srv_session.specs.Replies.{Sent, said, spelled, spelled_all, refused, updated}
-use Rattle.srv_session.specs.Steps.{PopRow, PopPart, after_pop, with_sent}
+use Rattle.srv_session.specs.Steps.{PopRow, UnsentPop, after_pop, with_sent}
 use Rattle.srv_session.specs.Tasks.{Hearing, started_by}
 use Rattle.srv_session.specs.Views.{state_of, output_of, HeedsHearing}
 use Rattle.srv_session.specs.declared.session.Session.{Session}
@@ -61,17 +62,17 @@ pub record HasPopped (here there : Seat) (old new : Session) (req : ℕ) (before
   pub output : output_of new ≡ output_of old ++ spelled_all old.order old.segment sent
   pub now_is : now ≡ (before || is_some_sent sent)
 
--- Memory ran out, maybe behind its pop.
-pub record HasFailed (here there : Seat) (old new : Session) : Type 0 where
+-- It was popped, and memory ran out as its update was added.
+pub record HasFailed (here there : Seat) (old new : Session) (req : ℕ) : Type 0 where
   pub next : List Mark
-  pub next_is : (next ≡ []) ⊎ PopPart (state_of old) next
+  pub next_is : UnsentPop (state_of old) req next
   pub adds : Adds here there next
   pub subscribed : slots_of (state_of new).requests ≡ slots_of (state_of old).requests
   pub output : output_of new ≡ output_of old
 
-abbrev pub Pops : Seat → Seat → Session → Session → ℕ → Bool → Result Bool NoMemory → Type 0
-Pops here there old new req before (Ok now) = HasPopped here there old new req before now
-Pops here there old new req before (Err e) = HasFailed here there old new
+abbrev pub PopsOne : Seat → Seat → Session → Session → ℕ → Bool → Result Bool NoMemory → Type 0
+PopsOne here there old new req before (Ok now) = HasPopped here there old new req before now
+PopsOne here there old new req before (Err e) = HasFailed here there old new req
 
 -- nothing was done
 pub record Idles (here there : Seat) (old new : Session) (before : Bool) (result : Result Bool NoMemory) : Type 0 where
@@ -83,6 +84,6 @@ pub record Idles (here there : Seat) (old new : Session) (before : Bool) (result
 -- Where it was due it was popped.
 pub record PopsDue (here there : Seat) (old new : Session) (req : ℕ) (before : Bool) (result : Result Bool NoMemory)
     : Type 0 where
-  pub due : is_due (at (state_of old).requests req) ≡ true → Pops here there old new req before result
+  pub due : is_due (at (state_of old).requests req) ≡ true → PopsOne here there old new req before result
   pub idle : is_due (at (state_of old).requests req) ≡ false → Idles here there old new before result
   pub monitors : new.monitors.items ≡ old.monitors.items

@@ -19,6 +19,16 @@ use pvd_type::{NoMemory, PvType};
 use pvd_value::PvValue;
 use std::alloc::Global;
 
+/// What a message says that begins a monitor, beside its request structure: the channel's id, the request's, the subcommand, and the
+/// first window of a pipelined one.
+#[derive(Clone, Copy)]
+struct Beginning {
+    sid: u32,
+    req: u32,
+    sub: u8,
+    count: Option<u32>,
+}
+
 /// The window of a monitor that would begin; a monitor whose message has no count has none.
 fn first_window(count: Option<u32>) -> Result<Option<Window>, WindowFault>
     ensures ok { IfOk result (λ window. window ≡ count) }
@@ -97,7 +107,13 @@ impl Session {
     {
         desk.has_legal_history();
         if begins(sub) {
-            return self.begin_monitor(alloc, sid, req, sub, request, count, desk);
+            let asked = Beginning {
+                sid,
+                req,
+                sub,
+                count,
+            };
+            return self.begin_monitor(alloc, asked, request, desk);
         }
         match self.find(AskKind::Monitor, sid, req) {
             Ok(_found) => self.steer(req, sub, count, desk),
@@ -109,25 +125,26 @@ impl Session {
     fn begin_monitor<D: Desk>(
         &mut self,
         alloc: Global,
-        sid: u32,
-        req: u32,
-        sub: u8,
+        asked: Beginning,
         request: &Option<(PvType, PvValue)>,
-        count: Option<u32>,
         desk: &mut D,
     ) -> Result<(), SessionStop>
         requires site { IsOf (D.seat desk.old).seen.base.site (state_of self.old) }
-        requires begins { begins sub ≡ true }
         requires fits { IfSome request.now (λ r. fits_of 16 (view r.1) r.0 ≡ true) }
-        ensures { HeedsAnytime (D.seat desk.old) (D.seat desk.new) self.old self.new (windowed (state_of self.old).types count (beginning (D.seat desk.old).seen.base.site (state_of self.old) kinds.Monitor req sub sid (valued_view request.now) (channel_at (state_of self.old).channels sid))) result }
+        ensures { HeedsAnytime (D.seat desk.old) (D.seat desk.new) self.old self.new
+            (windowed (state_of self.old).types asked.count
+            (beginning (D.seat desk.old).seen.base.site (state_of self.old) kinds.Monitor asked.req asked.sub asked.sid
+            (valued_view request.now) (channel_at (state_of self.old).channels asked.sid))) result }
     {
         desk.has_legal_history();
-        let Some(channel) = self.channel_at(sid) else {
-            return stopping(self.refuse_channel(AskKind::Monitor, req, sub));
+        let Some(channel) = self.channel_at(asked.sid) else {
+            return stopping(self.refuse_channel(AskKind::Monitor, asked.req, asked.sub));
         };
-        match self.make_room(req) {
-            Ok(()) => self.begin_monitor_on(alloc, sid, channel, req, sub, request, count, desk),
-            Err(answer) => stopping(self.refuse_place(AskKind::Monitor, req, sub, answer)),
+        match self.make_room(asked.req) {
+            Ok(()) => self.begin_monitor_on(alloc, channel, asked, request, desk),
+            Err(answer) => {
+                stopping(self.refuse_place(AskKind::Monitor, asked.req, asked.sub, answer))
+            }
         }
     }
 
@@ -135,24 +152,23 @@ impl Session {
     fn begin_monitor_on<D: Desk>(
         &mut self,
         alloc: Global,
-        sid: u32,
         channel: Channel,
-        req: u32,
-        sub: u8,
+        asked: Beginning,
         request: &Option<(PvType, PvValue)>,
-        count: Option<u32>,
         desk: &mut D,
     ) -> Result<(), SessionStop>
         requires channel { IsTrue (is_channel (D.seat desk.old).seen.base.site channel) }
-        requires room { IsReady self.old.table req }
-        requires begins { begins sub ≡ true }
+        requires room { IsReady self.old.table asked.req }
         requires fits { IfSome request.now (λ r. fits_of 16 (view r.1) r.0 ≡ true) }
-        ensures { HeedsAnytime (D.seat desk.old) (D.seat desk.new) self.old self.new (windowed (state_of self.old).types count (beginning_on (D.seat desk.old).seen.base.site kinds.Monitor req sub sid (valued_view request.now) channel (unfit kinds.Monitor channel))) result }
+        ensures { HeedsAnytime (D.seat desk.old) (D.seat desk.new) self.old self.new
+            (windowed (state_of self.old).types asked.count
+            (beginning_on (D.seat desk.old).seen.base.site kinds.Monitor asked.req asked.sub asked.sid
+            (valued_view request.now) channel (unfit kinds.Monitor channel))) result }
     {
         desk.has_legal_history();
         match unfit(AskKind::Monitor, channel) {
-            Some(text) => stopping(self.refuse(AskKind::Monitor, req, sub, text)),
-            None => self.begin_watching(alloc, sid, channel, req, sub, request, count, desk),
+            Some(text) => stopping(self.refuse(AskKind::Monitor, asked.req, asked.sub, text)),
+            None => self.begin_watching(alloc, channel, asked, request, desk),
         }
     }
 
@@ -160,26 +176,31 @@ impl Session {
     fn begin_watching<D: Desk>(
         &mut self,
         alloc: Global,
-        sid: u32,
         channel: Channel,
-        req: u32,
-        sub: u8,
+        asked: Beginning,
         request: &Option<(PvType, PvValue)>,
-        count: Option<u32>,
         desk: &mut D,
     ) -> Result<(), SessionStop>
         requires channel { IsTrue (is_channel (D.seat desk.old).seen.base.site channel) }
         requires valued { IsTrue (has_values channel) }
-        requires room { IsReady self.old.table req }
-        requires begins { begins sub ≡ true }
+        requires room { IsReady self.old.table asked.req }
         requires fits { IfSome request.now (λ r. fits_of 16 (view r.1) r.0 ≡ true) }
-        ensures { HeedsAnytime (D.seat desk.old) (D.seat desk.new) self.old self.new (windowed (state_of self.old).types count (beginning_as kinds.Monitor req sub sid channel (wanted_for kinds.Monitor (type_of (D.seat desk.old).seen.base.site channel) (valued_view request.now)))) result }
+        ensures { HeedsAnytime (D.seat desk.old) (D.seat desk.new) self.old self.new
+            (windowed (state_of self.old).types asked.count
+            (beginning_as kinds.Monitor asked.req asked.sub asked.sid channel
+            (wanted_for kinds.Monitor (type_of (D.seat desk.old).seen.base.site channel) (valued_view request.now)))) result }
     {
         desk.has_legal_history();
         let ty = type_on(desk, channel);
         match read_request(alloc, ty, request.as_ref(), root_for(AskKind::Monitor)) {
-            Ok(wanted) => self.begin_windowed(alloc, sid, channel, req, sub, wanted, count, desk),
-            Err(fault) => stopping(self.refuse_fault(alloc, AskKind::Monitor, req, sub, &fault)),
+            Ok(wanted) => self.begin_windowed(alloc, channel, asked, wanted, desk),
+            Err(fault) => stopping(self.refuse_fault(
+                alloc,
+                AskKind::Monitor,
+                asked.req,
+                asked.sub,
+                &fault,
+            )),
         }
     }
 
@@ -187,25 +208,23 @@ impl Session {
     fn begin_windowed<D: Desk>(
         &mut self,
         alloc: Global,
-        sid: u32,
         channel: Channel,
-        req: u32,
-        sub: u8,
+        asked: Beginning,
         wanted: Request,
-        count: Option<u32>,
         desk: &mut D,
     ) -> Result<(), SessionStop>
         requires channel { IsTrue (is_channel (D.seat desk.old).seen.base.site channel) }
         requires valued { IsTrue (has_values channel) }
-        requires room { IsReady self.old.table req }
-        requires begins { begins sub ≡ true }
+        requires room { IsReady self.old.table asked.req }
         requires leaves { HoldsLeaves (type_of (D.seat desk.old).seen.base.site channel) wanted.mask }
         requires size { (1 ≤ wanted.queue) × (wanted.queue ≤ 64) }
-        ensures { HeedsAnytime (D.seat desk.old) (D.seat desk.new) self.old self.new (windowed (state_of self.old).types count (task.begin kinds.Monitor req sub sid channel wanted)) result }
+        ensures { HeedsAnytime (D.seat desk.old) (D.seat desk.new) self.old self.new
+            (windowed (state_of self.old).types asked.count
+            (task.begin kinds.Monitor asked.req asked.sub asked.sid channel wanted)) result }
     {
         desk.has_legal_history();
-        match first_window(count) {
-            Ok(window) => self.subscribe(alloc, sid, channel, req, sub, wanted, window, desk),
+        match first_window(asked.count) {
+            Ok(window) => self.subscribe(alloc, channel, asked, wanted, window, desk),
             Err(fault) => Err(SessionStop::Window(fault)),
         }
     }
@@ -214,21 +233,19 @@ impl Session {
     fn subscribe<D: Desk>(
         &mut self,
         alloc: Global,
-        sid: u32,
         channel: Channel,
-        req: u32,
-        sub: u8,
+        asked: Beginning,
         wanted: Request,
         window: Option<Window>,
         desk: &mut D,
     ) -> Result<(), SessionStop>
         requires channel { IsTrue (is_channel (D.seat desk.old).seen.base.site channel) }
         requires valued { IsTrue (has_values channel) }
-        requires room { IsReady self.old.table req }
-        requires begins { begins sub ≡ true }
+        requires room { IsReady self.old.table asked.req }
         requires leaves { HoldsLeaves (type_of (D.seat desk.old).seen.base.site channel) wanted.mask }
         requires size { (1 ≤ wanted.queue) × (wanted.queue ≤ 64) }
-        ensures { HeedsAnytime (D.seat desk.old) (D.seat desk.new) self.old self.new (asks (task.subscribe req sub sid channel wanted window) (state_of self.old).types) result }
+        ensures { HeedsAnytime (D.seat desk.old) (D.seat desk.new) self.old self.new
+            (asks (task.subscribe asked.req asked.sub asked.sid channel wanted window) (state_of self.old).types) result }
     {
         desk.has_legal_history();
         let Ok(()) = self.make_monitor_room() else {
@@ -236,15 +253,15 @@ impl Session {
         };
         match desk.subscribe(alloc, channel, &wanted.mask, wanted.queue) {
             Ok(living) => {
-                self.add_monitor(sid, req, wanted, window, living);
+                self.add_monitor(asked.sid, asked.req, wanted, window, living);
                 stopping(self.say_begun(
                     AskKind::Monitor,
-                    req,
+                    asked.req,
                     BEGINS_ALONE,
                     type_on(desk, channel),
                 ))
             }
-            Err(answer) => stopping(self.refuse_subscription(req, sub, answer)),
+            Err(answer) => stopping(self.refuse_subscription(asked.req, asked.sub, answer)),
         }
     }
 

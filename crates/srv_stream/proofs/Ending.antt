@@ -30,7 +30,7 @@ use Rattle.srv_stream.specs.declared.ended.Ended.{Ended}
 use Rattle.srv_stream.specs.declared.ended.Ended.TheVariants as ends
 use Rattle.srv_stream.proofs.Going.{Going, Idling, SawEnd}
 use Rattle.srv_stream.proofs.GoingOn.{settled_log, passed, untaken_part, settle, long, from_there, popped_rules, popped_all, popped_bytes, popped_adds, popped_moments, popped_settled, popped_same}
-use Rattle.srv_stream.proofs.Finishing.{endings_told, folds_behind, folds_ended, none_at_first, next_part, next_slots, next_told}
+use Rattle.srv_stream.proofs.Finishing.{endings_told, folds_behind, folds_ended, none_at_first, next_slots, next_told}
 use Rattle.srv_stream.proofs.Moving.{moves_got, moves_nothing, moves_rest}
 use Rattle.srv_stream.proofs.Passing.{fed_part_more, left_slots, none_left_there}
 use Rattle.srv_session.proofs.Rows.{no_next_part}
@@ -269,13 +269,13 @@ broken_by_pump {old} {new} {start} {wire} {told} {order} {v} {at_end} {calls} a 
     let site = old.seen.base.site in
     let steps = a.steps ++ p.steps in
     let there = state_after site (opening order) steps in
-    let next : (p.next ≡ []) ⊎ PopPart there p.next =
-    subst (λ (s : State). (p.next ≡ []) ⊎ PopPart s p.next) (sym (after_append site (opening order) a.steps p.steps))
-    (from_there a (λ (z : SiteData) (s : State). (p.next ≡ []) ⊎ PopPart (state_after z s p.steps) p.next) p.next_is) in
+    let next : PopPart there p.next =
+    subst (λ (s : State). PopPart s p.next) (sym (after_append site (opening order) a.steps p.steps))
+    (from_there a (λ (z : SiteData) (s : State). PopPart (state_after z s p.steps) p.next) (p.req, p.next_is)) in
     let slots : slots_of w.state.requests ≡ left_slots site there a.follows.remaining p.next =
     p.subscribed ∙ sym (popped_same a w p.reqs p.steps p.next p.some) ∙ sym (next_slots site there a.follows.remaining p.next next) in
     without_memory old new2 last start wire told order turns w a.read a.written steps a.follows.remaining p.next
-    (popped_rules a w p.reqs p.steps p.next p.some) (popped_all a w p.reqs p.steps p.next p.some) (next_part site there a.follows.remaining p.next next) slots
+    (popped_rules a w p.reqs p.steps p.next p.some) (popped_all a w p.reqs p.steps p.next p.some) (inr next) slots
     (popped_adds a w p.reqs p.steps p.next p.some)
     (moments_append told (marks_of steps) p.next (popped_moments a w p.reqs p.steps p.next p.some) (next_told told there p.next next))
     (popped_bytes a w p.reqs p.steps p.next p.some) a.moves (settled_log p.next (popped_settled a w p.reqs p.steps p.next p.some)) a.faults f

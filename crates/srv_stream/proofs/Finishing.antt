@@ -1,5 +1,5 @@
 -- Pops of a pump, and the marks that end a session's subscriptions.
-use Rattle.std.proofs.Common.{◌≡◌, ℕ, ◌<◌, ◌⊎◌, ◌||◌, inl, inr, Bool, true, false, cond, List, [], ◌∷◌, ◌++◌, length, take, drop, Option, None, Some, refl, sym, ◌∙◌, ap, subst, arith, length-append}
+use Rattle.std.proofs.Common.{◌≡◌, ℕ, ◌<◌, ◌||◌, inl, Bool, true, false, cond, List, [], ◌∷◌, ◌++◌, length, take, drop, Option, None, Some, refl, sym, ◌∙◌, ap, subst, arith, length-append}
 use Rattle.std.specs.Prelude.{nat_le}
 use Rattle.std.proofs.lemmas.Bool.{false≢true}
 use Rattle.std.proofs.lemmas.Option.{none-some}
@@ -30,8 +30,7 @@ use Rattle.srv_session.specs.Calls.{ArePopsOf, is_some_sent, sends}
 use Rattle.srv_session.proofs.Covered.{all_ended, all_ended_behind}
 use Rattle.srv_session.proofs.Owning.{Has, owner}
 use Rattle.srv_session.proofs.Pops.{popped_slots}
-use Rattle.srv_session.proofs.Rows.{no_next_part}
-use Rattle.srv_stream.proofs.Passing.{left_slots, none_left_there}
+use Rattle.srv_stream.proofs.Passing.{left_slots}
 
 -- The moments of entries say nothing of endings and pops.
 
@@ -67,9 +66,8 @@ pops_told told site s (r ∷ reqs) (pops req marks sent ∷ xs) are rules =
     subst (λ (ms : List Mark). HaveMoment told (ms ++ marks_of xs)) (sym p.marks_are)
     (popped_told told p.place p.sub.slot rules.0.update, pops_told told site (after_pop s req marks) reqs xs are.1 rules.1)
 
-pub next_told : (told : Option Moment) (s : State) (next : List Mark) → (next ≡ []) ⊎ PopPart s next → HaveMoment told next
-next_told told s next (inl none) = subst (HaveMoment told) (sym none) tt
-next_told told s next (inr (req, channel, update, p)) = subst (HaveMoment told) (sym p.marks_are) (popped_told told p.place p.sub.slot update, tt)
+pub next_told : (told : Option Moment) (s : State) (next : List Mark) → PopPart s next → HaveMoment told next
+next_told told s next (req, (channel, update, p)) = subst (HaveMoment told) (sym p.marks_are) (popped_told told p.place p.sub.slot (Some update), tt)
 
 -- Pops hear nothing, and leave the subscriptions as they are.
 
@@ -89,15 +87,9 @@ pops_slots seat s (r ∷ reqs) (hears e marks sent ∷ xs) are rules = absurd ar
 pops_slots seat s (r ∷ reqs) (pops req marks sent ∷ xs) are rules =
     pops_slots seat (after_pop s req marks) reqs xs are.1 rules.1 ∙ popped_slots seat seat s req marks sent rules.0
 
--- The marks of a pop whose update wasn't sent, if there are any.
-
-pub next_part : (site : SiteData) (s : State) (events : List Event) (next : List Mark) → (next ≡ []) ⊎ PopPart s next → NextPart site s events next
-next_part site s events next (inl none) = subst (NextPart site s events) (sym none) (no_next_part site s events)
-next_part site s events next (inr p) = inr p
-
-pub next_slots : (site : SiteData) (s : State) (events : List Event) (next : List Mark) → (next ≡ []) ⊎ PopPart s next → left_slots site s events next ≡ slots_of s.requests
-next_slots site s events next (inl none) = ap (left_slots site s events) none ∙ none_left_there site s events
-next_slots site s events next (inr (req, channel, update, p)) = ap (left_slots site s events) p.marks_are
+-- The marks of a pop whose update wasn't sent.
+pub next_slots : (site : SiteData) (s : State) (events : List Event) (next : List Mark) → PopPart s next → left_slots site s events next ≡ slots_of s.requests
+next_slots site s events next (req, (channel, update, p)) = ap (left_slots site s events) p.marks_are
 
 -- What sends an update has bytes.
 

@@ -98,6 +98,10 @@ const PUT_DONE: &[u8] = b"\xCA\x02\x40\x0B\x06\x00\x00\x00\x02\x00\x00\x00\x00\x
 const FIRST: &[u8] =
     b"\xCA\x02\x40\x0D\x26\x00\x00\x00\x05\x00\x00\x00\x00\x02\xBA\x03\x2A\x00\x00\x00\x00\x00\x00\x00\x00\x00\x00\x00\x00\x00\x00\x00\x00\x00\x00\x00\x00\x00\x00\x00\x00\x00\x00\x00\x00\x00";
 
+/// All leaves: 1 at 1 second.
+const FIRST_OF_1: &[u8] =
+    b"\xCA\x02\x40\x0D\x26\x00\x00\x00\x05\x00\x00\x00\x00\x02\xBA\x03\x01\x00\x00\x00\x00\x00\x00\x00\x00\x00\x00\x00\x00\x01\x00\x00\x00\x00\x00\x00\x00\x00\x00\x00\x00\x00\x00\x00\x00\x00";
+
 /// All leaves: 1, or 42, at 1 second, of which the value and the seconds changed more than once.
 const MERGED: &[u8] =
     b"\xCA\x02\x40\x0D\x27\x00\x00\x00\x05\x00\x00\x00\x00\x02\xBA\x03\x01\x00\x00\x00\x00\x00\x00\x00\x00\x00\x00\x00\x00\x01\x00\x00\x00\x00\x00\x00\x00\x00\x00\x00\x00\x00\x00\x00\x00\x01\x82";
@@ -398,6 +402,161 @@ fn a_monitor_ends_with_its_channel(rt: HostRuntime) -> Result<(), Fail> {
     Ok(())
 }
 
+/// What starts a monitor and ends it at once, with its first update unread: by bit 10 in a message of its own and in that of the start,
+/// and by a destroy request.
+static ENDINGS: [&[u8]; 3] = [
+    b"\xCA\x02\x00\x0D\x09\x00\x00\x00\x00\x00\x00\x00\x05\x00\x00\x00\x44\
+      \xCA\x02\x00\x0D\x09\x00\x00\x00\x00\x00\x00\x00\x05\x00\x00\x00\x10",
+    b"\xCA\x02\x00\x0D\x09\x00\x00\x00\x00\x00\x00\x00\x05\x00\x00\x00\x54",
+    b"\xCA\x02\x00\x0D\x09\x00\x00\x00\x00\x00\x00\x00\x05\x00\x00\x00\x44\
+      \xCA\x02\x00\x0F\x08\x00\x00\x00\x00\x00\x00\x00\x05\x00\x00\x00",
+];
+
+/// What is said to such an ending, and then to a put and to another monitor of the same id.
+const SAID_OF_ENDINGS: [&[u8]; 8] = [
+    OPENED,
+    DESCRIPTION,
+    BEGUN,
+    DESCRIPTION,
+    PUT_DONE,
+    BEGUN,
+    DESCRIPTION,
+    FIRST_OF_1,
+];
+
+/// What is said around the ending of a monitor.
+fn said_around(alloc: Global, ending: &[u8]) -> Result<(Result<(), Ended>, Vec<u8>), NoMemory> {
+    let pieces = [
+        (100, OPEN),
+        (100, BEGIN),
+        (100, ending),
+        (1, PUT_1),
+        (100, BEGIN),
+        (100, START),
+    ];
+    said_of(alloc, SINGLE, &pieces)
+}
+
+#[test]
+fn a_monitor_that_ends_sends_nothing_that_was_unread(rt: HostRuntime) -> Result<(), Fail> {
+    let alloc = rt.alloc();
+    let wanted = joined(alloc, &SAID_OF_ENDINGS)?;
+    for ending in &ENDINGS {
+        let (ended, output) = said_around(alloc, ending)?;
+        assert_eq!(rt; ended, Ok(()));
+        assert_eq!(rt; output.as_slice(), wanted.as_slice());
+    }
+    Ok(())
+}
+
+/// A monitor is named with another channel of X, and its id by another command; a put's id is named as a monitor's. None of them
+/// starts or ends it.
+static MISNAMED: [(i64, &[u8]); 11] = [
+    (100, OPEN),
+    (100, BEGIN),
+    (
+        100,
+        b"\xCA\x02\x00\x07\x08\x00\x00\x00\x01\x00\x02\x00\x00\x00\x01X",
+    ),
+    // start, bit 10 and a destroy request on the other channel
+    (
+        100,
+        b"\xCA\x02\x00\x0D\x09\x00\x00\x00\x01\x00\x00\x00\x05\x00\x00\x00\x44",
+    ),
+    (
+        100,
+        b"\xCA\x02\x00\x0D\x09\x00\x00\x00\x01\x00\x00\x00\x05\x00\x00\x00\x10",
+    ),
+    (
+        100,
+        b"\xCA\x02\x00\x0F\x08\x00\x00\x00\x01\x00\x00\x00\x05\x00\x00\x00",
+    ),
+    // a get on its own channel, with bit 10 too, and one on the other
+    (
+        100,
+        b"\xCA\x02\x00\x0A\x09\x00\x00\x00\x00\x00\x00\x00\x05\x00\x00\x00\x10",
+    ),
+    (
+        100,
+        b"\xCA\x02\x00\x0A\x09\x00\x00\x00\x01\x00\x00\x00\x05\x00\x00\x00\x00",
+    ),
+    // the put of id 2 is started and ended as a monitor
+    (
+        100,
+        b"\xCA\x02\x00\x0D\x09\x00\x00\x00\x00\x00\x00\x00\x02\x00\x00\x00\x54",
+    ),
+    (100, START),
+    (1, PUT_1),
+];
+
+/// What is said to it.
+const SAID_OF_MISNAMED: [&[u8]; 10] = [
+    OPENED,
+    DESCRIPTION,
+    BEGUN,
+    DESCRIPTION,
+    b"\xCA\x02\x40\x07\x09\x00\x00\x00\x02\x00\x00\x00\x01\x00\x00\x00\xFF",
+    b"\xCA\x02\x40\x0A\x13\x00\x00\x00\x05\x00\x00\x00\x10\x02\x0Bwrong phase\x00",
+    b"\xCA\x02\x40\x0A\x17\x00\x00\x00\x05\x00\x00\x00\x00\x02\x0Funknown request\x00",
+    FIRST,
+    PUT_DONE,
+    UPDATE_1,
+];
+
+#[test]
+fn a_monitor_is_steered_by_its_own_channel_and_command_alone(rt: HostRuntime) -> Result<(), Fail> {
+    let alloc = rt.alloc();
+    let (ended, output) = said_of(alloc, SINGLE, &MISNAMED)?;
+    assert_eq!(rt; ended, Ok(()));
+    assert_eq!(rt; output, joined(alloc, &SAID_OF_MISNAMED)?);
+    Ok(())
+}
+
+/// A window of 2,147,483,648 and of 2,147,483,647 at the beginning, and an acknowledgement of 2,147,483,648.
+const BEGIN_TOO_MUCH: &[u8] =
+    b"\xCA\x02\x00\x0D\x10\x00\x00\x00\x00\x00\x00\x00\x05\x00\x00\x00\x88\x80\x00\x00\x00\x00\x00\x80";
+
+const BEGIN_MOST: &[u8] =
+    b"\xCA\x02\x00\x0D\x10\x00\x00\x00\x00\x00\x00\x00\x05\x00\x00\x00\x88\x80\x00\x00\xFF\xFF\xFF\x7F";
+
+const TOO_MUCH_MORE: &[u8] =
+    b"\xCA\x02\x00\x0D\x0D\x00\x00\x00\x00\x00\x00\x00\x05\x00\x00\x00\x80\x00\x00\x00\x80";
+
+static OVER_AT_FIRST: [(i64, &[u8]); 2] = [(100, OPEN), (100, BEGIN_TOO_MUCH)];
+
+static OVER_BY_ONE: [(i64, &[u8]); 3] = [(100, OPEN), (100, BEGIN_MOST), (100, ONE_MORE)];
+
+static OVER_AT_ONCE: [(i64, &[u8]); 3] = [(100, OPEN), (100, BEGIN_WINDOW), (100, TOO_MUCH_MORE)];
+
+/// A monitor without a window has nothing to acknowledge.
+static WITHOUT_WINDOW: [(i64, &[u8]); 4] = [
+    (100, OPEN),
+    (100, BEGIN),
+    (100, TOO_MUCH_MORE),
+    (100, START),
+];
+
+#[test]
+fn a_window_takes_no_more_than_2147483647(rt: HostRuntime) -> Result<(), Fail> {
+    let alloc = rt.alloc();
+    let opened = OPEN.len() as u64;
+    let over = StreamFault::Window(WindowFault::OverRange);
+    let (ended, output) = said_of(alloc, SINGLE, &OVER_AT_FIRST)?;
+    assert_eq!(rt; ended, Err(Ended::Bad(over, opened)));
+    assert_eq!(rt; output, joined(alloc, &[OPENED, DESCRIPTION])?);
+    let begun = joined(alloc, &[OPENED, DESCRIPTION, BEGUN, DESCRIPTION])?;
+    let (ended, output) = said_of(alloc, SINGLE, &OVER_BY_ONE)?;
+    assert_eq!(rt; ended, Err(Ended::Bad(over, opened + 24)));
+    assert_eq!(rt; output.as_slice(), begun.as_slice());
+    let (ended, output) = said_of(alloc, SINGLE, &OVER_AT_ONCE)?;
+    assert_eq!(rt; ended, Err(Ended::Bad(over, opened + 24)));
+    assert_eq!(rt; output.as_slice(), begun.as_slice());
+    let (ended, output) = said_of(alloc, SINGLE, &WITHOUT_WINDOW)?;
+    assert_eq!(rt; ended, Ok(()));
+    assert_eq!(rt; output, joined(alloc, &[&begun, FIRST])?);
+    Ok(())
+}
+
 /// A monitor of a group starts; its member b is put, which triggers nothing, and then a, which triggers all.
 static TRIGGERED: [(i64, &[u8]); 4] = [
     (
@@ -457,10 +616,10 @@ fn a_trigger_posts_members_that_changed_before(rt: HostRuntime) -> Result<(), Fa
     Ok(())
 }
 
-/// Monitors of the ids 5 to 1,029 begin.
-fn many_monitors(alloc: Global) -> Result<Vec<u8>, NoMemory> {
+/// Monitors of the ids from 5 on begin, up to one below this.
+fn monitors_below(alloc: Global, end: u32) -> Result<Vec<u8>, NoMemory> {
     let mut bytes = joined(alloc, &[OPEN])?;
-    for id in 5..1030u32 {
+    for id in 5..end {
         bytes.extend_from_slice(&BEGIN[..12])?;
         bytes.extend_from_slice(&id.to_le_bytes())?;
         bytes.extend_from_slice(&BEGIN[16..])?;
@@ -468,7 +627,7 @@ fn many_monitors(alloc: Global) -> Result<Vec<u8>, NoMemory> {
     Ok(bytes)
 }
 
-/// What is said to them: the last is one too many.
+/// What is said to the first 1,024 of them.
 fn many_begun(alloc: Global) -> Result<Vec<u8>, NoMemory> {
     let mut bytes = joined(alloc, &[OPENED, DESCRIPTION])?;
     for id in 5..1029u32 {
@@ -477,11 +636,12 @@ fn many_begun(alloc: Global) -> Result<Vec<u8>, NoMemory> {
         bytes.extend_from_slice(&BEGUN[12..])?;
         bytes.extend_from_slice(DESCRIPTION)?;
     }
-    bytes.extend_from_slice(
-        b"\xCA\x02\x40\x0D\x19\x00\x00\x00\x05\x04\x00\x00\x08\x02\x11too many monitors\x00",
-    )?;
     Ok(bytes)
 }
+
+/// What is said to a monitor of the id 1,029 behind them.
+const TOO_MANY: &[u8] =
+    b"\xCA\x02\x40\x0D\x19\x00\x00\x00\x05\x04\x00\x00\x08\x02\x11too many monitors\x00";
 
 /// What two connections say to this input, one after the other, over the record X.
 fn said_twice(alloc: Global, input: &[u8]) -> Result<(Vec<u8>, Vec<u8>), NoMemory> {
@@ -497,10 +657,43 @@ fn the_monitor_behind_1024_is_refused_and_a_connection_ends_its_own(
     rt: HostRuntime,
 ) -> Result<(), Fail> {
     let alloc = rt.alloc();
-    let input = many_monitors(alloc)?;
-    let wanted = many_begun(alloc)?;
+    let input = monitors_below(alloc, 1030)?;
+    let wanted = joined(alloc, &[&many_begun(alloc)?, TOO_MANY])?;
     let (first, second) = said_twice(alloc, &input)?;
     assert_eq!(rt; first.as_slice(), wanted.as_slice());
     assert_eq!(rt; second, wanted);
+    Ok(())
+}
+
+/// Behind 1,024 monitors one more would begin, with a window over range: with a bad option, and without.
+const BAD_AND_OVER: &[u8] =
+    b"\xCA\x02\x00\x0D\x33\x00\x00\x00\x00\x00\x00\x00\x05\x04\x00\x00\x88\x80\x00\x01\x06record\x80\x00\x01\x08_options\x80\x00\x01\x09queueSize\x60\x01x\x00\x00\x00\x80";
+
+const OVER_AND_MANY: &[u8] =
+    b"\xCA\x02\x00\x0D\x10\x00\x00\x00\x00\x00\x00\x00\x05\x04\x00\x00\x88\x80\x00\x00\x00\x00\x00\x80";
+
+/// What is said to the first; to the second nothing is.
+const BAD: &[u8] =
+    b"\xCA\x02\x40\x0D\x1C\x00\x00\x00\x05\x04\x00\x00\x88\x02\x14bad option queueSize\x00";
+
+#[test]
+fn a_bad_option_is_told_before_a_window_over_range_and_that_before_too_many(
+    rt: HostRuntime,
+) -> Result<(), Fail> {
+    let alloc = rt.alloc();
+    let input = monitors_below(alloc, 1029)?;
+    let wanted = joined(alloc, &[&many_begun(alloc)?, BAD])?;
+    let place = input.len() as u64 + 59;
+    let pieces = [
+        (100, input.as_slice()),
+        (100, BAD_AND_OVER),
+        (100, OVER_AND_MANY),
+    ];
+    let (ended, output) = said_of(alloc, SINGLE, &pieces)?;
+    assert_eq!(rt;
+        ended,
+        Err(Ended::Bad(StreamFault::Window(WindowFault::OverRange), place))
+    );
+    assert_eq!(rt; output, wanted);
     Ok(())
 }

@@ -19,14 +19,14 @@ returns-in_default g c moment =
     let s = state_of c.args.self.now in
     let old = show seat c.args.self.now in
     let new = show seat c.refuse_channel.new.self in
-    let task = refuse (refused kinds.Monitor c.args.req c.args.sub (codes "unknown channel")) in
+    let task = refuse (refused kinds.Monitor c.args.asked.req c.args.asked.sub (codes "unknown channel")) in
     heeds_so old new moment _ (asks task s.types) c.stopping.result
-    (ap (windowed s.types c.args.count)
-    (unknown_channel seat.seen.base.site s kinds.Monitor c.args.req c.args.sub c.args.sid (valued_view c.args.request.now) (channel_at s.channels c.args.sid) (sym c.channel_at.ensures ∙ c.in_default.is)))
+    (ap (windowed s.types c.args.asked.count)
+    (unknown_channel seat.seen.base.site s kinds.Monitor c.args.asked.req c.args.asked.sub c.args.asked.sid (valued_view c.args.request.now) (channel_at s.channels c.args.asked.sid) (sym c.channel_at.ensures ∙ c.in_default.is)))
     (heeds_as old new moment task c.refuse_channel.result c.stopping.result c.stopping.ensures (c.refuse_channel.ensures seat c.has_legal_history.ensures moment))
 
 pub begin_monitor_on-requires-clause-channel : goal.begin_monitor_on-requires-clause-channel
-begin_monitor_on-requires-clause-channel g c = c.requires.site.channels c.args.sid c.in-Some.channel (sym c.channel_at.ensures ∙ c.in-Some.is)
+begin_monitor_on-requires-clause-channel g c = c.requires.site.channels c.args.asked.sid c.in-Some.channel (sym c.channel_at.ensures ∙ c.in-Some.is)
 
 pub returns-in-Ok : goal.returns-in-Ok
 returns-in-Ok g c moment =
@@ -36,15 +36,15 @@ returns-in-Ok g c moment =
     let state = c.make_room.ensures.state in
     let ready = (c.in-Ok.ensures {u = tt}).ready in
     let new = show (g.D.Desk.seat c.begin_monitor_on.new.desk) c.begin_monitor_on.new.self in
-    let task : Task = beginning_on seat.seen.base.site kinds.Monitor c.args.req c.args.sub c.args.sid (valued_view c.args.request.now) c.in-Some.channel (unfit kinds.Monitor c.in-Some.channel) in
-    heeds_so (show seat c.args.self.now) new moment _ (windowed s.types c.args.count task) c.begin_monitor_on.result
-    (ap (windowed s.types c.args.count)
-    (may_begin seat.seen.base.site s kinds.Monitor c.args.req c.args.sub c.args.sid (valued_view c.args.request.now) (channel_at s.channels c.args.sid) c.in-Some.channel (sym c.channel_at.ensures ∙ c.in-Some.is)
-    (sym (ap (λ (z : State). get z.requests c.args.req) state) ∙ ready.free)
+    let task : Task = beginning_on seat.seen.base.site kinds.Monitor c.args.asked.req c.args.asked.sub c.args.asked.sid (valued_view c.args.request.now) c.in-Some.channel (unfit kinds.Monitor c.in-Some.channel) in
+    heeds_so (show seat c.args.self.now) new moment _ (windowed s.types c.args.asked.count task) c.begin_monitor_on.result
+    (ap (windowed s.types c.args.asked.count)
+    (may_begin seat.seen.base.site s kinds.Monitor c.args.asked.req c.args.asked.sub c.args.asked.sid (valued_view c.args.request.now) (channel_at s.channels c.args.asked.sid) c.in-Some.channel (sym c.channel_at.ensures ∙ c.in-Some.is)
+    (sym (ap (λ (z : State). get z.requests c.args.asked.req) state) ∙ ready.free)
     (subst (λ (z : State). len z.requests < limit) state ready.few)))
-    (heeds_old seat s m (output_of c.args.self.now) (output_of c.make_room.new.self) new moment (windowed s.types c.args.count task) c.begin_monitor_on.result state c.make_room.ensures.output
-    (heeds_so (show seat c.make_room.new.self) new moment (windowed s.types c.args.count task) (windowed m.types c.args.count task) c.begin_monitor_on.result
-    (ap (λ (z : State). windowed z.types c.args.count task) (sym state)) (c.begin_monitor_on.ensures moment)))
+    (heeds_old seat s m (output_of c.args.self.now) (output_of c.make_room.new.self) new moment (windowed s.types c.args.asked.count task) c.begin_monitor_on.result state c.make_room.ensures.output
+    (heeds_so (show seat c.make_room.new.self) new moment (windowed s.types c.args.asked.count task) (windowed m.types c.args.asked.count task) c.begin_monitor_on.result
+    (ap (λ (z : State). windowed z.types c.args.asked.count task) (sym state)) (c.begin_monitor_on.ensures moment)))
 
 pub returns-in-Err : goal.returns-in-Err
 returns-in-Err g c moment =
@@ -53,10 +53,10 @@ returns-in-Err g c moment =
     let m = state_of c.make_room.new.self in
     let state = c.make_room.ensures.state in
     let new = show seat c.refuse_place.new.self in
-    let task : Task = beginning seat.seen.base.site s kinds.Monitor c.args.req c.args.sub c.args.sid (valued_view c.args.request.now) (channel_at s.channels c.args.sid) in
-    heeds_old seat s m (output_of c.args.self.now) (output_of c.make_room.new.self) new moment (windowed s.types c.args.count task) c.stopping-in-Err.result state c.make_room.ensures.output
-    (heeds_so (show seat c.make_room.new.self) new moment (windowed s.types c.args.count task) (windowed m.types c.args.count task) c.stopping-in-Err.result
-    (ap (λ (z : State). windowed z.types c.args.count task) (sym state))
-    (place_heard c.make_room.new.self c.refuse_place.new.self seat c.has_legal_history.ensures moment c.args.req c.args.sub c.args.sid c.args.count seat.seen.base.site s (valued_view c.args.request.now)
-    (channel_at s.channels c.args.sid) c.in-Some.channel (sym c.channel_at.ensures ∙ c.in-Some.is) c.in-Err.answer c.args.self.now.table c.refuse_place.result c.stopping-in-Err.result c.stopping-in-Err.ensures refl
+    let task : Task = beginning seat.seen.base.site s kinds.Monitor c.args.asked.req c.args.asked.sub c.args.asked.sid (valued_view c.args.request.now) (channel_at s.channels c.args.asked.sid) in
+    heeds_old seat s m (output_of c.args.self.now) (output_of c.make_room.new.self) new moment (windowed s.types c.args.asked.count task) c.stopping-in-Err.result state c.make_room.ensures.output
+    (heeds_so (show seat c.make_room.new.self) new moment (windowed s.types c.args.asked.count task) (windowed m.types c.args.asked.count task) c.stopping-in-Err.result
+    (ap (λ (z : State). windowed z.types c.args.asked.count task) (sym state))
+    (place_heard c.make_room.new.self c.refuse_place.new.self seat c.has_legal_history.ensures moment c.args.asked.req c.args.asked.sub c.args.asked.sid c.args.asked.count seat.seen.base.site s (valued_view c.args.request.now)
+    (channel_at s.channels c.args.asked.sid) c.in-Some.channel (sym c.channel_at.ensures ∙ c.in-Some.is) c.in-Err.answer c.args.self.now.table c.refuse_place.result c.stopping-in-Err.result c.stopping-in-Err.ensures refl
     (c.in-Err.ensures {u = tt}).refused c.refuse_place.ensures))

@@ -19,9 +19,9 @@ returns-in-Some g c moment =
     let s = state_of c.args.self.now in
     let old = show seat c.args.self.now in
     let new = show seat c.refuse.new.self in
-    let task = refuse (refused kinds.Monitor c.args.req c.args.sub c.in-Some.text.now) in
+    let task = refuse (refused kinds.Monitor c.args.asked.req c.args.asked.sub c.in-Some.text.now) in
     heeds_so old new moment _ (asks task s.types) c.stopping.result
-    (ap (λ o. windowed s.types c.args.count (beginning_on seat.seen.base.site kinds.Monitor c.args.req c.args.sub c.args.sid (valued_view c.args.request.now) c.args.channel o))
+    (ap (λ o. windowed s.types c.args.asked.count (beginning_on seat.seen.base.site kinds.Monitor c.args.asked.req c.args.asked.sub c.args.asked.sid (valued_view c.args.request.now) c.args.channel o))
     (sym c.unfit.ensures ∙ ap (option_map (λ t. t.now)) c.in-Some.is))
     (heeds_as old new moment task c.refuse.result c.stopping.result c.stopping.ensures (c.refuse.ensures seat c.has_legal_history.ensures moment))
 
@@ -30,6 +30,6 @@ returns-in-None g c moment =
     let seat = g.D.Desk.seat c.args.desk.now in
     let s = state_of c.args.self.now in
     heeds_so (show seat c.args.self.now) (show (g.D.Desk.seat c.begin_watching.new.desk) c.begin_watching.new.self) moment _ _ c.begin_watching.result
-    (ap (λ o. windowed s.types c.args.count (beginning_on seat.seen.base.site kinds.Monitor c.args.req c.args.sub c.args.sid (valued_view c.args.request.now) c.args.channel o))
+    (ap (λ o. windowed s.types c.args.asked.count (beginning_on seat.seen.base.site kinds.Monitor c.args.asked.req c.args.asked.sub c.args.asked.sid (valued_view c.args.request.now) c.args.channel o))
     (sym c.unfit.ensures ∙ ap (option_map (λ t. t.now)) c.in-None.is))
     (c.begin_watching.ensures moment)

@@ -23,7 +23,7 @@ returns-in-Ok g c moment =
     let s = state_of c.args.self.now in
     let asked = asked_as kinds.Monitor c.type_on-ty.result.now (type_of seat.seen.base.site c.args.channel) c.root_for.result c.args.request.now (option_copied c.as_ref.result) refl c.root_for.ensures c.type_on-ty.ensures c.as_ref.ensures.value in
     heeds_so (show seat c.args.self.now) (show (g.D.Desk.seat c.begin_windowed.new.desk) c.begin_windowed.new.self) moment _ _ c.begin_windowed.result
-    (ap (λ r. windowed s.types c.args.count (beginning_as kinds.Monitor c.args.req c.args.sub c.args.sid c.args.channel r)) (asked ∙ (c.in-Ok.ensures {u = tt}).exact))
+    (ap (λ r. windowed s.types c.args.asked.count (beginning_as kinds.Monitor c.args.asked.req c.args.asked.sub c.args.asked.sid c.args.channel r)) (asked ∙ (c.in-Ok.ensures {u = tt}).exact))
     (c.begin_windowed.ensures moment)
 
 pub returns-in-Err : goal.returns-in-Err
@@ -32,6 +32,6 @@ returns-in-Err g c moment =
     let s = state_of c.args.self.now in
     let asked = asked_as kinds.Monitor c.type_on-ty.result.now (type_of seat.seen.base.site c.args.channel) c.root_for.result c.args.request.now (option_copied c.as_ref.result) refl c.root_for.ensures c.type_on-ty.ensures c.as_ref.ensures.value in
     heeds_so (show seat c.args.self.now) (show seat c.refuse_fault.new.self) moment _ _ c.stopping.result
-    (ap (λ r. windowed s.types c.args.count (beginning_as kinds.Monitor c.args.req c.args.sub c.args.sid c.args.channel r)) asked)
-    (fault_heard c.args.self.now c.refuse_fault.new.self seat c.has_legal_history.ensures moment c.args.req c.args.sub c.args.sid c.args.count c.args.channel c.in-Err.fault _ c.refuse_fault.result c.stopping.result c.stopping.ensures
+    (ap (λ r. windowed s.types c.args.asked.count (beginning_as kinds.Monitor c.args.asked.req c.args.asked.sub c.args.asked.sid c.args.channel r)) asked)
+    (fault_heard c.args.self.now c.refuse_fault.new.self seat c.has_legal_history.ensures moment c.args.asked.req c.args.asked.sub c.args.asked.sid c.args.asked.count c.args.channel c.in-Err.fault _ c.refuse_fault.result c.stopping.result c.stopping.ensures
     (c.in-Err.ensures {u = tt}).exact c.refuse_fault.ensures)

@@ -10,9 +10,9 @@ returns-in-Ok g c moment =
     let seat = g.D.Desk.seat c.args.desk.now in
     let s = state_of c.args.self.now in
     let first = c.in-Ok.ensures {u = tt} in
-    let subscribes : Option ℕ → Hearing = λ (w : Option ℕ). asks (subscribe c.args.req c.args.sub c.args.sid c.args.channel c.args.wanted w) s.types in
+    let subscribes : Option ℕ → Hearing = λ (w : Option ℕ). asks (subscribe c.args.asked.req c.args.asked.sub c.args.asked.sid c.args.channel c.args.wanted w) s.types in
     heeds_so (show seat c.args.self.now) (show (g.D.Desk.seat c.subscribe.new.desk) c.subscribe.new.self) moment _ (subscribes c.in-Ok.window) c.subscribe.result
-    (ap (λ (b : Bool). cond b over_range (subscribes c.args.count)) (sym first.over) ∙ ap subscribes (sym first.ok))
+    (ap (λ (b : Bool). cond b over_range (subscribes c.args.asked.count)) (sym first.over) ∙ ap subscribes (sym first.ok))
     (c.subscribe.ensures moment)
 
 pub returns-in-Err : goal.returns-in-Err
@@ -20,6 +20,6 @@ returns-in-Err g c moment =
     let seat = g.D.Desk.seat c.args.desk.now in
     let s = state_of c.args.self.now in
     let first = c.in-Err.ensures {u = tt} in
-    let goes_on : Hearing = asks (subscribe c.args.req c.args.sub c.args.sid c.args.channel c.args.wanted c.args.count) s.types in
+    let goes_on : Hearing = asks (subscribe c.args.asked.req c.args.asked.sub c.args.asked.sid c.args.channel c.args.wanted c.args.asked.count) s.types in
     not_heard seat s s (output_of c.args.self.now) (output_of c.args.self.now) moment _ (stops.Window c.in-Err.fault) (Err (stops.Window c.in-Err.fault)) refl
     (ap (λ (b : Bool). cond b over_range goes_on) (sym first.over)) c.has_legal_history.ensures refl refl
