@@ -1,5 +1,6 @@
 -- When a connection is served to its end.
-use Rattle.std.specs.Prelude.{◌≡◌, ◌⊎◌, inl, inr, ℕ, ℤ, List, Option, Result, Ok, Err, ⊤}
+use Rattle.std.specs.Prelude.{◌≡◌, ◌⊎◌, ℕ, ℤ, List, Option, Result, Ok, Err, ⊤}
+use Rattle.std.proofs.Common.{inl, inr}
 use Rattle.clap.specs.Words.{Text}
 use Rattle.pva_outside.specs.Count.{Rose}
 use Rattle.pva_outside.specs.Makers.{MakerView}
