@@ -18,3 +18,16 @@ pub mod StreamSink
 pub mod SystemClock
 pub mod Turns
 pub mod WriterPort
+pub mod Bindings
+pub mod ClientLink
+pub mod Counted
+pub mod Dials
+pub mod Doors
+pub mod Fresh
+pub mod MemoryBindings
+pub mod MemoryCalls
+pub mod MemoryListener
+pub mod Told
+pub mod Traffic
+pub mod MemoryDatagrams
+pub mod MemoryDialer

@@ -7,12 +7,23 @@
 //! 2^64 - 1.
 #![tactic(auto)]
 
+mod binding;
+mod client_link;
 mod clock;
 mod count;
+mod counted;
+mod datagrams;
+mod dialer;
 mod file_ports;
 mod files;
 mod link;
+mod listener;
 mod memory;
+mod memory_calls;
+mod memory_datagrams;
+mod memory_dialer;
+mod memory_listener;
+mod no_memory;
 mod peer;
 mod plain;
 mod port;
@@ -26,15 +37,27 @@ mod system_files;
 mod tests;
 mod world;
 
+pub use binding::BindStep;
+pub use client_link::{ClientLink, MemoryClient};
 pub use clock::{Clock, FixedClock};
+pub use count::raise;
+pub use counted::raise_by;
+pub use datagrams::{DatagramStep, Datagrams, SendStep};
+pub use dialer::{DialStep, Dialer};
 pub use file_ports::FilePorts;
 pub use files::{FileStep, Files, MemoryFile, MemoryFiles};
 pub use link::{Link, ReadStep, WriteStep};
+pub use listener::{AcceptStep, Listener};
 pub use memory::{MemoryLink, Turn};
+pub use memory_datagrams::{Datagram, MemoryDatagrams, MemoryTraffic};
+pub use memory_dialer::{MemoryDial, MemoryDialer, MemoryServer};
+pub use memory_listener::MemoryListener;
+pub use no_memory::NoMemory;
 pub use peer::Peer;
 pub use plain::PlainLink;
 pub use port::{DriveStep, MemoryPort, Port, WriterPort};
 pub use ports::{MemoryPorts, PortMaker, PortStep};
+pub use refusal::{Refusal, refusal_of};
 pub use sink::{MemorySink, Sink, SinkStep, StreamSink};
 pub use streams::StreamLink;
 pub use system_clock::SystemClock;

@@ -60,6 +60,27 @@ impl MemoryLink {
         &self.written
     }
 
+    /// How often it failed.
+    pub fn faults(&self) -> u64
+        ensures { result ≡ (memory_wire self.now).faults }
+    {
+        self.faults
+    }
+
+    /// How often it was idle.
+    pub fn idles(&self) -> u64
+        ensures { result ≡ (memory_wire self.now).idles }
+    {
+        self.idles
+    }
+
+    /// How often its input ended.
+    pub fn ends(&self) -> u64
+        ensures { result ≡ (memory_wire self.now).ends }
+    {
+        self.ends
+    }
+
     // The turn of this call.
     fn turn(&mut self) -> Turn
         ensures wire { memory_wire self.new ≡ memory_wire self.old }

@@ -1,12 +1,15 @@
 ghost use Rattle.std.specs.Prelude.{◌≡◌, ◌≤◌, IsTrue};
 
 use crate::{
-    Clock, DriveStep, FilePorts, FileStep, Files, FixedClock, Kinds, Link, MemoryFile, MemoryFiles,
-    MemoryLink, MemoryPort, MemoryPorts, MemorySink, PlainLink, Port, PortMaker, PortStep,
-    ReadStep, Sink, SinkStep, StreamLink, StreamSink, SystemClock, SystemFiles, Turn, World,
-    WriteStep, WriterPort,
+    AcceptStep, BindStep, Clock, Datagram, DatagramStep, Datagrams, DialStep, Dialer, DriveStep,
+    FilePorts, FileStep, Files, FixedClock, Kinds, Link, Listener, MemoryClient, MemoryDatagrams,
+    MemoryDial, MemoryDialer, MemoryFile, MemoryFiles, MemoryLink, MemoryListener, MemoryPort,
+    MemoryPorts, MemoryServer, MemorySink, MemoryTraffic, Peer, PlainLink, Port, PortMaker,
+    PortStep, ReadStep, SendStep, Sink, SinkStep, StreamLink, StreamSink, SystemClock, SystemFiles,
+    Turn, World, WriteStep, WriterPort,
 };
 use std::alloc::Global;
+use std::collections::VecDeque;
 use std::io::{ErrorKind, Read, Write};
 use std::test::Fail;
 use std::time::Duration;
@@ -431,5 +434,133 @@ fn files_of_the_system_have_a_longest_length(rt: HostRuntime) -> Result<(), Fail
     assert_eq!(rt; length_of(&mut files, alloc, "pva_outside_bytes"), None);
     fs::remove_file(&rt, "pva_outside_bytes")?;
     assert_eq!(rt; length_of(&mut files, alloc, "pva_outside_bytes"), None);
+    Ok(())
+}
+
+fn peer(port: u16) -> Peer {
+    Peer {
+        address: [0, 0, 0, 0, 0, 0, 0, 0, 0, 0, 0xFF, 0xFF, 127, 0, 0, 1],
+        port,
+    }
+}
+
+// Writes to a link, and reads what it brings first.
+fn talk<L: Link>(link: &mut L) -> u8 {
+    let mut buffer = [0u8; 1];
+    let _ = link.write(b"hello");
+    let _ = link.read(&mut buffer);
+    buffer[0]
+}
+
+// What the link to the next client first brings, where one came.
+fn next_brings<A: Listener>(listener: &mut A) -> Option<u8> {
+    match listener.accept() {
+        AcceptStep::Link(mut link) => {
+            let byte = talk(&mut link);
+            listener.retire(link).is_ok().then_some(byte)
+        }
+        AcceptStep::End | AcceptStep::Idle | AcceptStep::Failed | AcceptStep::NoMemory => None,
+    }
+}
+
+#[test]
+fn a_listener_in_memory_gives_links_to_its_clients_and_keeps_those_taken_back(
+    rt: HostRuntime,
+) -> Result<(), Fail> {
+    let alloc = rt.alloc();
+    let (first, last) = (vec![in alloc; 5]?, vec![in alloc; 6]?);
+    let script = vec![in alloc; Turn::Give(2)]?;
+    let failing = vec![in alloc; 2, 4]?;
+    let mut coming = VecDeque::with_capacity(alloc, 3)?;
+    coming.push_back_reserved(Some(MemoryClient::Steady(first)));
+    coming.push_back_reserved(None);
+    coming.push_back_reserved(Some(MemoryClient::Scripted(last, script)));
+    let mut listener = MemoryListener::new(alloc, coming, failing);
+    assert_eq!(rt; listener.bind(peer(0)), BindStep::Bound(5075));
+    assert_eq!(rt; listener.bind(peer(7)), BindStep::Failed);
+    for byte in [Some(5), None, None, Some(6), None] {
+        assert_eq!(rt; next_brings(&mut listener), byte);
+    }
+    assert_eq!(rt; listener.asked(), [peer(0), peer(7)].as_slice());
+    assert_eq!(rt; listener.back().len(), 2);
+    assert_eq!(rt; listener.back()[0].written(), b"hello".as_slice());
+    assert_eq!(rt; listener.back()[1].written(), b"he".as_slice());
+    Ok(())
+}
+
+// The bytes that one receive or send was of.
+fn bytes_of(one: &MemoryTraffic) -> &[u8] {
+    match one {
+        MemoryTraffic::Got(bytes, _) => bytes,
+        MemoryTraffic::Nothing => &[],
+        MemoryTraffic::Tried(bytes, _) => bytes,
+    }
+}
+
+#[test]
+fn datagrams_in_memory_come_in_order_and_are_kept(rt: HostRuntime) -> Result<(), Fail> {
+    let alloc = rt.alloc();
+    let bytes = vec![in alloc; 1, 2, 3]?;
+    let failing = vec![in alloc; 3, 6]?;
+    let mut coming = VecDeque::with_capacity(alloc, 2)?;
+    coming.push_back_reserved(None);
+    coming.push_back_reserved(Some(Datagram {
+        bytes,
+        from: peer(9),
+    }));
+    let mut datagrams = MemoryDatagrams::new(alloc, coming, failing);
+    assert_eq!(rt; datagrams.bind(peer(5076)), BindStep::Bound(5076));
+    let mut buffer = [0u8; 2];
+    for step in [
+        DatagramStep::Idle,
+        DatagramStep::Failed,
+        DatagramStep::Got(2, peer(9)),
+        DatagramStep::Idle,
+    ] {
+        assert_eq!(rt; datagrams.receive(&mut buffer), step);
+    }
+    assert_eq!(rt; buffer, [1, 2]);
+    assert_eq!(rt; datagrams.send(b"ask", peer(8)), SendStep::Failed);
+    assert_eq!(rt; datagrams.send(b"again", peer(8)), SendStep::Sent);
+    assert_eq!(rt; datagrams.asked(), [peer(5076)].as_slice());
+    let traffic = datagrams.traffic();
+    assert_eq!(rt; traffic.len(), 6);
+    assert_eq!(rt; bytes_of(&traffic[2]), [1, 2].as_slice());
+    assert_eq!(rt; bytes_of(&traffic[4]), b"ask".as_slice());
+    Ok(())
+}
+
+// What the link of a dial first brings, where it gave one.
+fn dial_brings<D: Dialer>(dialer: &mut D, to: Peer) -> Option<u8> {
+    match dialer.dial(to) {
+        DialStep::Link(mut link) => {
+            let byte = talk(&mut link);
+            dialer.retire(link).is_ok().then_some(byte)
+        }
+        DialStep::Failed | DialStep::NoMemory => None,
+    }
+}
+
+#[test]
+fn a_dialer_in_memory_reaches_its_servers_in_order(rt: HostRuntime) -> Result<(), Fail> {
+    let alloc = rt.alloc();
+    let server = MemoryServer {
+        input: vec![in alloc; 5]?,
+        script: vec![in alloc; Turn::Idle]?,
+    };
+    let mut dialer = MemoryDialer::new(alloc, vec![in alloc; server]?, vec![in alloc; 1]?);
+    for byte in [None, Some(5), None] {
+        assert_eq!(rt; dial_brings(&mut dialer, peer(7)), byte);
+    }
+    assert_eq!(rt; dialer.dials().len(), 3);
+    let linked = MemoryDial {
+        to: peer(7),
+        linked: true,
+    };
+    assert_eq!(rt; dialer.dials()[1], linked);
+    let back = dialer.back();
+    assert_eq!(rt; back.len(), 1);
+    assert_eq!(rt; (back[0].faults(), back[0].idles()), (0, 1));
+    assert_eq!(rt; (back[0].ends(), back[0].written()), (0, b"".as_slice()));
     Ok(())
 }

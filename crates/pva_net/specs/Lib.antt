@@ -1,0 +1,5 @@
+pub mod Addresses
+pub mod TcpDialer
+pub mod TcpLink
+pub mod TcpListener
+pub mod UdpDatagrams

@@ -1,0 +1,142 @@
+// A link over a TCP connection.
+ghost use Rattle.std.specs.Prelude.{◌≡◌, ◌<◌, IfOk, IsTrue, false, true, length};
+ghost use Rattle.pva_outside.specs.Wire.{Reads, Writes, Unchanged, Steadily};
+ghost use Rattle.pva_net.specs.TcpLink.{tcp_wire, new_wire, is_closed};
+
+use crate::patience::patience;
+use pva_outside::{Link, ReadStep, Refusal, WriteStep, raise, refusal_of};
+use std::io;
+use std::io::{Read, Write};
+use std::net::{Shutdown, TcpStream};
+
+/// A link over a TCP connection, which sends small pieces at once (TCP_NODELAY).
+///
+/// Each call of the link is one call of the socket. A read waits 50 ms at most for input, and is then idle; it ends where the peer
+/// has ended its stream. A write hands over all bytes, and takes those that fit the socket's buffer within 50 ms; where that is
+/// none, it is idle. Of the errors, `WouldBlock` and `Interrupted` are `Idle`, `OutOfMemory` is `NoMemory`, and every other is a
+/// fault. `close` shuts the connection, and each later call is a fault. It tells no bytes.
+#[derive(Drop)]
+pub struct TcpLink {
+    stream: TcpStream,
+    closed: bool,
+    faults: u64,
+    idles: u64,
+    ends: u64,
+}
+
+impl TcpLink {
+    /// A link over this connection, with counts of 0.
+    pub(crate) fn over(stream: TcpStream) -> io::Result<TcpLink>
+        ensures wire { IfOk result (λ link. tcp_wire link ≡ new_wire) }
+        ensures ready { IfOk result (λ link. is_closed link ≡ false) }
+    {
+        stream.set_nonblocking(false)?;
+        stream.set_nodelay(true)?;
+        stream.set_read_timeout(Some(patience()))?;
+        stream.set_write_timeout(Some(patience()))?;
+        Ok(TcpLink {
+            stream,
+            closed: false,
+            faults: 0,
+            idles: 0,
+            ends: 0,
+        })
+    }
+
+    /// How often it failed.
+    pub(crate) fn faults(&self) -> u64
+        ensures { result ≡ (tcp_wire self.now).faults }
+    {
+        self.faults
+    }
+
+    /// How often it was idle.
+    pub(crate) fn idles(&self) -> u64
+        ensures { result ≡ (tcp_wire self.now).idles }
+    {
+        self.idles
+    }
+
+    /// How often its input ended.
+    pub(crate) fn ends(&self) -> u64
+        ensures { result ≡ (tcp_wire self.now).ends }
+    {
+        self.ends
+    }
+}
+
+impl Link for TcpLink {
+    ghost wire = { tcp_wire };
+
+    fn read(&mut self, buffer: &mut [u8]) -> ReadStep
+        requires { 0 < length buffer.old }
+        ensures step { Reads (tcp_wire self.old) (tcp_wire self.new) result buffer.new }
+        ensures steady { Steadily (tcp_wire self.old) (tcp_wire self.new) }
+        ensures closed { IsTrue (is_closed self.old) → result ≡ ReadStep.Failed }
+        ensures stays { is_closed self.new ≡ is_closed self.old }
+    {
+        if self.closed {
+            raise(&mut self.faults);
+            return ReadStep::Failed;
+        }
+        match self.stream.read(buffer) {
+            Ok(0) => {
+                raise(&mut self.ends);
+                ReadStep::End
+            }
+            Ok(count) => ReadStep::Got(count),
+            Err(error) => match refusal_of(&error) {
+                Refusal::Idle => {
+                    raise(&mut self.idles);
+                    ReadStep::Idle
+                }
+                Refusal::NoMemory => ReadStep::NoMemory,
+                Refusal::Fault => {
+                    raise(&mut self.faults);
+                    ReadStep::Failed
+                }
+            },
+        }
+    }
+
+    fn write(&mut self, bytes: &[u8]) -> WriteStep
+        requires { 0 < length bytes.now }
+        ensures step { Writes (tcp_wire self.old) (tcp_wire self.new) result bytes.now }
+        ensures steady { Steadily (tcp_wire self.old) (tcp_wire self.new) }
+        ensures closed { IsTrue (is_closed self.old) → result ≡ WriteStep.Failed }
+        ensures stays { is_closed self.new ≡ is_closed self.old }
+    {
+        if self.closed {
+            raise(&mut self.faults);
+            return WriteStep::Failed;
+        }
+        match self.stream.write(bytes) {
+            Ok(0) => {
+                raise(&mut self.faults);
+                WriteStep::Failed
+            }
+            Ok(count) => WriteStep::Took(count),
+            Err(error) => match refusal_of(&error) {
+                Refusal::Idle => {
+                    raise(&mut self.idles);
+                    WriteStep::Idle
+                }
+                Refusal::NoMemory => WriteStep::NoMemory,
+                Refusal::Fault => {
+                    raise(&mut self.faults);
+                    WriteStep::Failed
+                }
+            },
+        }
+    }
+
+    fn close(&mut self)
+        ensures same { Unchanged (tcp_wire self.old) (tcp_wire self.new) }
+        ensures steady { Steadily (tcp_wire self.old) (tcp_wire self.new) }
+        ensures closed { is_closed self.new ≡ true }
+    {
+        // A connection that the peer has reset can't be shut any more, and needn't be.
+        let _ = self.stream.shutdown(Shutdown::Both);
+        self.closed = true;
+    }
+}
