@@ -1,5 +1,5 @@
 -- A cell is taken, and given back.
-use Rattle.std.proofs.Common.{◌≡◌, ℕ, suc, ◌<◌, eqb, true, false, List, [], ◌∷◌, length, get_or, set, sym, refl, ap, ◌∙◌, subst, arith, length-set, eq-eqb, ne_eqb, Some, None}
+use Rattle.std.proofs.Common.{◌≡◌, ℕ, suc, ◌<◌, ◌≤◌, ◌≢◌, eqb, true, false, List, [], ◌∷◌, length, get_or, set, sym, refl, ap, ◌∙◌, subst, arith, length-set, eq-eqb, ne_eqb, Some, None}
 use mathlib.Core.Logic.{dite}
 use mathlib.Core.Option.{none, some}
 use native.Mathlib.Decide.{ℕ_discrete}
@@ -12,11 +12,12 @@ use Rattle.histories.specs.History.{Every, IsLegalAfter, entries_of}
 use Rattle.hall_locks.specs.declared.view.View.{View}
 use Rattle.hall_locks.specs.declared.view.Place.{Place}
 use Rattle.hall_locks.specs.declared.view.Place.TheVariants.{Away, Cell}
-use Rattle.hall_locks.specs.Hall.{with_cell, with_cells, WasShown, TakesCell, GivesCell, shown_by, InHand, Falls}
+use Rattle.hall_locks.specs.Hall.{with_cell, with_cells, WasShown, shown_by, InHand, Falls}
+use Rattle.hall_locks.specs.Steps.{MayTake, TookCell, TakesCell, GivesCell}
 use Rattle.hall_locks.proofs.Lists.{every_both, held_by, held_here, held_else}
 use Rattle.hall_locks.proofs.Floors.{floor_takes, floor_gives}
 use Rattle.hall_locks.proofs.Deeds.{every_among}
-use Rattle.hall_locks.proofs.Rules.{Rule, has_it, no_hub_of, moved, unmoved, more_in_hand, less_in_hand}
+use Rattle.hall_locks.proofs.Rules.{Rule, has_it, no_hub_of, moved, unmoved, awaited, more_in_hand, less_in_hand}
 
 module _ (C H E B M R S : Type 0) (law : Meaning C H E B M R S) (base : B) (slots id c : ℕ) (inside : suc c < slots) where
   abbrev Vw : Type 0
@@ -25,10 +26,12 @@ module _ (C H E B M R S : Type 0) (law : Meaning C H E B M R S) (base : B) (slot
   abbrev Pl : Type 0
   Pl = Place C H
 
-  takes_free : (bound : List ℕ) (s : State Pl Vw) (r : Rule C H E B M R S law base s) (v : Vw) (cs : List (ℕ × Pl)) → length s.homes ≡ slots → get_elem? s.views id ≡ some v → get_or s.words (suc c) 0 ≡ 0
-      → v.live ≡ true → Every (λ p. p.0 < c) v.cells → Every (λ p. Among p.0 bound) v.cells → Among c bound → v.hub ≡ None
-      → (x : C) × (get_elem? s.homes (suc c) ≡ some (some (Cell x))) × Rule C H E B M R S law base (stepped s (suc c) 1 id cs (with_cell v bound c (law.shows x)) (takes (suc c) (Cell x))) × WasShown law v.seen.base (c, law.shows x)
-  takes_free bound s r v cs long at zero_now live below within there no_hub =
+  abbrev Rl : State Pl Vw → Type 0
+  Rl = Rule C H E B M R S law base
+
+  takes_free : (n : ℕ) → n ≢ 0 → n ≤ 2 → (bound : List ℕ) (s : State Pl Vw) (r : Rl s) (v : Vw) (cs : List (ℕ × Pl)) → length s.homes ≡ slots → get_elem? s.views id ≡ some v → get_or s.words (suc c) 0 ≡ 0 → v.live ≡ true → MayTake v bound c
+      → (x : C) × (get_elem? s.homes (suc c) ≡ some (some (Cell x))) × Rl (stepped s (suc c) n id cs (with_cell v bound c (law.shows x)) (takes (suc c) (Cell x))) × WasShown law v.seen.base (c, law.shows x)
+  takes_free n taken two bound s r v cs long at zero_now live may =
       let in_words : suc c < length s.words = omega (arith, r.wide) in
       let h = r.home c in_words zero_now in
       let nobody : r.holder (suc c) ≡ 0 = r.free (suc c) in_words zero_now in
@@ -38,10 +41,10 @@ module _ (C H E B M R S : Type 0) (law : Meaning C H E B M R S) (base : B) (slot
       let goes_on = was.seen (was.own live).2 in (
         h.value,
         h.there,
-        moved C H E B M R S law base s r (suc c) 1 (suc id) (set s.homes (suc c) none) in_words (λ i ne. set_else s.homes (suc c) i none ne) id v w at record { live = refl; number = refl; others = refl } (λ t. t) (λ t e. e) (length-set s.homes (suc c) none)
-            (λ e. absurd (omega arith)) (λ _. (refl, omega arith)) (λ d _ e. absurd (omega arith)) (λ e _. absurd (omega arith)) (λ j _ e. let z : suc j ≡ 0 = sym e ∙ nobody in omega arith) (λ i _ a. more_in_hand C H E B M R S law base v bound c (law.shows h.value) i a) (λ _. (refl, (0, omega arith, refl)))
-            (floor_takes C H E B M R S law base (length s.words) r.journal r.holder id c in_words nobody (λ above le l holds. let a = has_it C H E B M R S law base s r id v at (suc above) l holds in let less : above < c = every_among (λ n. n < c) v.cells above a.0 a.1 a.2 below in omega arith)
-            (no_hub_of C H E B M R S law base s r id v at no_hub (omega arith)) r.floor)
+        moved C H E B M R S law base s r (suc c) n (suc id) (set s.homes (suc c) none) in_words (λ i ne. set_else s.homes (suc c) i none ne) id v w at record { live = refl; number = refl; others = refl } (λ t. t) (λ t e. e) (length-set s.homes (suc c) none)
+            (λ e. absurd (taken e)) (λ _. (two, omega arith)) (λ d _ e. absurd (taken e)) (λ e _. absurd (omega arith)) (λ j _ e. let z : suc j ≡ 0 = sym e ∙ nobody in omega arith) (λ i _ a. more_in_hand C H E B M R S law base v bound c (law.shows h.value) i a) (λ _. (refl, (0, omega arith, refl)))
+            (floor_takes C H E B M R S law base (length s.words) r.journal r.holder id c in_words nobody (λ above le l holds. let a = has_it C H E B M R S law base s r id v at (suc above) l holds in let less : above < c = every_among (λ n. n < c) v.cells above a.0 a.1 a.2 may.above in omega arith)
+            (no_hub_of C H E B M R S law base s r id v at may.no_hub (omega arith)) r.floor)
             record {
               seen = was.seen;
               old = was.old;
@@ -49,14 +52,16 @@ module _ (C H E B M R S : Type 0) (law : Meaning C H E B M R S) (base : B) (slot
               did = was.did;
               others = was.others;
               distinct = was.distinct;
+              before = was.before;
+              unborn = was.unborn;
               cells = (
-                record { held = held_here r.holder (suc c) (suc id) (suc c) refl; bounded = there; value = h.shown },
+                record { held = held_here r.holder (suc c) (suc id) (suc c) refl; bounded = may.among; value = h.shown },
                 every_both (InHand law r.journal r.holder v.bound id) (λ p. (p.0 < c) × Among p.0 bound) (InHand law r.journal holder' bound id) v.cells
                     (λ p i b. let less : p.0 < c = b.0 in record { held = held_else r.holder (suc c) (suc id) (suc p.0) (λ e. omega arith) ∙ i.held; bounded = b.1; value = i.value }) was.cells
-                    (every_both (λ p. p.0 < c) (λ p. Among p.0 bound) (λ p. (p.0 < c) × Among p.0 bound) v.cells (λ p a b. (a, b)) below within),
+                    (every_both (λ p. p.0 < c) (λ p. Among p.0 bound) (λ p. (p.0 < c) × Among p.0 bound) v.cells (λ p a b. (a, b)) may.above may.within),
               );
-              falls = (below, was.falls);
-              hub = λ x is. absurd (let e : None ≡ Some x = sym no_hub ∙ is in cc e);
+              falls = (may.above, was.falls);
+              hub = λ x is. absurd (let e : None ≡ Some x = sym may.no_hub ∙ is in cc e);
               empty = λ dead. let e : true ≡ false = sym live ∙ dead in absurd (cc e);
             },
         (
@@ -66,21 +71,40 @@ module _ (C H E B M R S : Type 0) (law : Meaning C H E B M R S) (base : B) (slot
         ),
       )
 
-  pub takes_cell : (bound : List ℕ) (me : Me Pl Vw) → me.0.live ≡ true → Every (λ p. p.0 < c) me.0.cells → Every (λ p. Among p.0 bound) me.0.cells → Among c bound → me.0.hub ≡ None
-      → Allows (Rule C H E B M R S law base) slots id me (suc c) (λ n. either (eqb n 0) 1 n) (TakesCell law bound (step slots (suc c) 0 1 none) me)
-  takes_cell bound me live below within there no_hub s r long at small = let n : ℕ = get_or s.words (suc c) 0 in dite (ℕ_discrete n 0)
-      (λ hit. let t = takes_free bound s r me.0 me.1 long at hit live below within there no_hub in (
+  takes_cell : (bound : List ℕ) (me : Me Pl Vw) → me.0.live ≡ true → MayTake me.0 bound c
+      → Allows Rl slots id me (suc c) (λ n. either (eqb n 0) 1 n) (TakesCell law bound (step slots (suc c) 0 1 none) me)
+  takes_cell bound me live may s r long at small = let n : ℕ = get_or s.words (suc c) 0 in dite (ℕ_discrete n 0)
+      (λ hit. let t = takes_free 1 (λ e. omega arith) (omega arith) bound s r me.0 me.1 long at hit live may in (
         with_cell me.0 bound c (law.shows t.0),
         takes (suc c) (Cell t.0),
         t.1,
-        subst (λ b. Rule C H E B M R S law base (stepped s (suc c) (either b 1 n) id me.1 (with_cell me.0 bound c (law.shows t.0)) (takes (suc c) (Cell t.0)))) (sym (eq-eqb n 0 hit)) t.2,
-        ((λ _. (c, t.0, refl, refl, t.3)), λ miss. absurd (miss hit)),
+        subst (λ b. Rl (stepped s (suc c) (either b 1 n) id me.1 (with_cell me.0 bound c (law.shows t.0)) (takes (suc c) (Cell t.0)))) (sym (eq-eqb n 0 hit)) t.2,
+        ((λ _. record { cell = c; value = t.0; of_word = refl; may = may; now = refl; was = t.3 }), λ miss. absurd (miss hit)),
       ))
       (λ miss. (
         me.0,
         keeps,
         tt,
-        subst (λ b. Rule C H E B M R S law base (stepped s (suc c) (either b 1 n) id me.1 me.0 keeps)) (sym (ne_eqb n 0 miss)) (unmoved C H E B M R S law base s r (suc c) id me.0 me.1 at),
+        subst (λ b. Rl (stepped s (suc c) (either b 1 n) id me.1 me.0 keeps)) (sym (ne_eqb n 0 miss)) (unmoved C H E B M R S law base s r (suc c) id me.0 me.1 at),
+        ((λ hit. absurd (miss hit)), λ _. refl),
+      ))
+
+  -- the same by a step after which the word says that somebody may wait
+  takes_waiting : (bound : List ℕ) (me : Me Pl Vw) → me.0.live ≡ true → MayTake me.0 bound c
+      → Allows Rl slots id me (suc c) (λ _. 2) (TakesCell law bound (step slots (suc c) 2 0 none) me)
+  takes_waiting bound me live may s r long at small = let n : ℕ = get_or s.words (suc c) 0 in dite (ℕ_discrete n 0)
+      (λ hit. let t = takes_free 2 (λ e. omega arith) (omega arith) bound s r me.0 me.1 long at hit live may in (
+        with_cell me.0 bound c (law.shows t.0),
+        takes (suc c) (Cell t.0),
+        t.1,
+        t.2,
+        ((λ _. record { cell = c; value = t.0; of_word = refl; may = may; now = refl; was = t.3 }), λ miss. absurd (miss hit)),
+      ))
+      (λ miss. (
+        me.0,
+        keeps,
+        tt,
+        awaited C H E B M R S law base s r (suc c) id me.0 me.1 at (omega (arith, r.wide)) miss,
         ((λ hit. absurd (miss hit)), λ _. refl),
       ))
 
@@ -110,6 +134,8 @@ module _ (C H E B M R S : Type 0) (law : Meaning C H E B M R S) (base : B) (slot
         did = was.did;
         others = was.others;
         distinct = was.distinct;
+        before = was.before;
+        unborn = was.unborn;
         cells = every_both (InHand law r.journal r.holder v.bound id) (λ p. p.0 < c) (InHand law r.journal holder' v.bound id) ps
             (λ p i b. let less : p.0 < c = b in record { held = held_else r.holder (suc c) 0 (suc p.0) (λ e. omega arith) ∙ i.held; bounded = i.bounded; value = i.value }) mine.1 order.0;
         falls = order.1;
@@ -117,22 +143,25 @@ module _ (C H E B M R S : Type 0) (law : Meaning C H E B M R S) (base : B) (slot
         empty = λ dead. let e : (c, law.shows y) ∷ ps ≡ [] = sym last ∙ (was.empty dead).0 in absurd (cc e);
       }
 
-  pub gives_cell : (me : Me Pl Vw) (y : C) → me.0.cells ≡ (c, law.shows y) ∷ rest me.0.cells → me.1 ≡ (suc c, Cell y) ∷ rest me.1 → me.0.hub ≡ None
-      → Allows (Rule C H E B M R S law base) slots id me (suc c) (λ _. 0) (λ _. GivesCell (step slots (suc c) 0 0 none) me 0)
+  gives_cell : (me : Me Pl Vw) (y : C) → me.0.cells ≡ (c, law.shows y) ∷ rest me.0.cells → me.1 ≡ (suc c, Cell y) ∷ rest me.1 → me.0.hub ≡ None
+      → Allows Rl slots id me (suc c) (λ _. 0) (GivesCell (step slots (suc c) 0 0 none) me)
   gives_cell me y last carried no_hub =
-      let w : Vw = with_cells me.0 (rest me.0.cells) in
-      subst (λ (l : List (ℕ × Pl)). Allows (Rule C H E B M R S law base) slots id (me.0, l) (suc c) (λ _. 0) (λ _. GivesCell (step slots (suc c) 0 0 none) (me.0, l) 0)) (sym carried)
-      (λ s r long at small. (w, gives, tt, gives_last s r me.0 y (rest me.0.cells) (rest me.1) long at last no_hub, ((suc c, Cell y), refl, refl)))
+      subst (λ (l : List (ℕ × Pl)). Allows Rl slots id (me.0, l) (suc c) (λ _. 0) (GivesCell (step slots (suc c) 0 0 none) (me.0, l))) (sym carried)
+      (λ s r long at small. (with_cells me.0 (rest me.0.cells), gives, tt, gives_last s r me.0 y (rest me.0.cells) (rest me.1) long at last no_hub, ((suc c, Cell y), refl, refl, no_hub)))
 
   -- the same at a word that is one more than the cell
-  pub takes_at : (k : ℕ) → k ≡ suc c → (bound : List ℕ) (me : Me Pl Vw) → me.0.live ≡ true → Every (λ p. p.0 < c) me.0.cells → Every (λ p. Among p.0 bound) me.0.cells → Among c bound → me.0.hub ≡ None
-      → Allows (Rule C H E B M R S law base) slots id me k (λ n. either (eqb n 0) 1 n) (TakesCell law bound (step slots k 0 1 none) me)
-  takes_at k is bound me live below within there no_hub = subst (λ (z : ℕ). Allows (Rule C H E B M R S law base) slots id me z (λ n. either (eqb n 0) 1 n) (TakesCell law bound (step slots z 0 1 none) me)) (sym is) (takes_cell bound me live below within there no_hub)
+  pub takes_at : (k : ℕ) → k ≡ suc c → (bound : List ℕ) (me : Me Pl Vw) → me.0.live ≡ true → MayTake me.0 bound c
+      → Allows Rl slots id me k (λ n. either (eqb n 0) 1 n) (TakesCell law bound (step slots k 0 1 none) me)
+  takes_at k is bound me live may = subst (λ (z : ℕ). Allows Rl slots id me z (λ n. either (eqb n 0) 1 n) (TakesCell law bound (step slots z 0 1 none) me)) (sym is) (takes_cell bound me live may)
+
+  pub takes_waiting_at : (k : ℕ) → k ≡ suc c → (bound : List ℕ) (me : Me Pl Vw) → me.0.live ≡ true → MayTake me.0 bound c
+      → Allows Rl slots id me k (λ _. 2) (TakesCell law bound (step slots k 2 0 none) me)
+  takes_waiting_at k is bound me live may = subst (λ (z : ℕ). Allows Rl slots id me z (λ _. 2) (TakesCell law bound (step slots z 2 0 none) me)) (sym is) (takes_waiting bound me live may)
 
   pub gives_at : (k : ℕ) → k ≡ suc c → (old me : Me Pl Vw) (y : C) → me ≡ (old.0, (k, Cell y) ∷ rest old.1) → old.0.cells ≡ (c, law.shows y) ∷ rest old.0.cells → old.0.hub ≡ None
-      → Allows (Rule C H E B M R S law base) slots id me k (λ _. 0) (λ _. GivesCell (step slots k 0 0 none) me 0)
-  gives_at k is old me y put last no_hub = subst (λ (z : Me Pl Vw). Allows (Rule C H E B M R S law base) slots id z k (λ _. 0) (λ _. GivesCell (step slots k 0 0 none) z 0)) (sym put)
-      (subst (λ (z : ℕ). Allows (Rule C H E B M R S law base) slots id (old.0, (z, Cell y) ∷ rest old.1) z (λ _. 0) (λ _. GivesCell (step slots z 0 0 none) (old.0, (z, Cell y) ∷ rest old.1) 0)) (sym is)
+      → Allows Rl slots id me k (λ _. 0) (GivesCell (step slots k 0 0 none) me)
+  gives_at k is old me y put last no_hub = subst (λ (z : Me Pl Vw). Allows Rl slots id z k (λ _. 0) (GivesCell (step slots k 0 0 none) z)) (sym put)
+      (subst (λ (z : ℕ). Allows Rl slots id (old.0, (z, Cell y) ∷ rest old.1) z (λ _. 0) (GivesCell (step slots z 0 0 none) (old.0, (z, Cell y) ∷ rest old.1))) (sym is)
       (gives_cell (old.0, (suc c, Cell y) ∷ rest old.1) y last refl no_hub))
 
 abbrev pub value_or : {C H : Type 0} → C → Place C H → C
@@ -147,21 +176,22 @@ pub first_is : {P V : Type 0} (w : Me P V) (v : V) (cs : List (ℕ × P)) (k n :
 first_is w v cs k n y is e = ap (λ z. z.1) e ∙ ((λ i. (sym is i, y) ∷ cs) ∙ (λ i. (k, y) ∷ rest (sym e i).1))
 
 module _ {C H E B M R S : Type 0} where
-  pub taken_is : (shows : C → S) (m w w' : Me (Place C H) (View H E B M R S)) (bound : List ℕ) (cell k : ℕ) (x : C) (y : Place C H) → k ≡ suc cell
-      → (c' : ℕ) × (x' : C) × (k ≡ suc c') × (w ≡ (with_cell m.0 bound c' (shows x'), (suc c', Cell x') ∷ m.1)) → w.1 ≡ (k, y) ∷ rest w.1 → y ≡ Cell x
-      → w' ≡ (w.0, (k, Away) ∷ rest w.1) → w' ≡ (with_cell m.0 bound cell (shows x), (suc cell, Away) ∷ m.1)
-  taken_is shows m w w' bound cell k x y is t first here now =
-      let p : t.0 ≡ cell = let e = t.2 in omega arith in
-      let q : t.1 ≡ x = ap (value_or x) (ap (first_or Away) (sym (ap (λ z. z.1) t.3) ∙ first) ∙ here) in
-      now ∙ ((λ i. ((t.3 i).0, (k, Away) ∷ rest (t.3 i).1)) ∙ (λ i. (with_cell m.0 bound (p i) (shows (q i)), (is i, Away) ∷ m.1)))
+  pub took_first : (law : Meaning C H E B M R S) (bound : List ℕ) (word : ℕ) (m w : Me (Place C H) (View H E B M R S)) → TookCell law bound word m w → (x : C) × (w.1 ≡ (word, Cell x) ∷ rest w.1)
+  took_first law bound word m w t = (t.value, first_is w _ _ word (suc t.cell) (Cell t.value) t.of_word t.now)
 
   -- the cell that was asked for is the one that was taken
-  pub same_taken : (m w : Me (Place C H) (View H E B M R S)) (cell k c' : ℕ) (x x' : C) (y : Place C H) (v : View H E B M R S) → k ≡ suc cell → k ≡ suc c' → w ≡ (v, (suc c', Cell x') ∷ m.1) → w.1 ≡ (k, y) ∷ rest w.1 → y ≡ Cell x → (c' ≡ cell) × (x' ≡ x)
-  same_taken m w cell k c' x x' y v is at now first here = (omega (arith, is, at), ap (value_or x) (ap (first_or Away) (sym (ap (λ z. z.1) now) ∙ first) ∙ here))
+  pub took_is : (law : Meaning C H E B M R S) (bound : List ℕ) (cell word : ℕ) (m w w' : Me (Place C H) (View H E B M R S)) (x : C) → word ≡ suc cell → TookCell law bound word m w → w.1 ≡ (word, Cell x) ∷ rest w.1 → w' ≡ (w.0, (word, Away) ∷ rest w.1)
+      → (w' ≡ (with_cell m.0 bound cell (law.shows x), (suc cell, Away) ∷ m.1)) × WasShown law m.0.seen.base (cell, law.shows x)
+  took_is law bound cell word m w w' x is t first now =
+      let p : t.cell ≡ cell = let e = t.of_word in omega (arith, e, is) in
+      let q : t.value ≡ x = ap (value_or x) (ap (first_or Away) (sym (ap (λ z. z.1) t.now) ∙ first)) in (
+        now ∙ ((λ i. ((t.now i).0, (word, Away) ∷ rest (t.now i).1)) ∙ (λ i. (with_cell m.0 bound (p i) (law.shows (q i)), (is i, Away) ∷ m.1))),
+        subst (λ (z : ℕ × C). WasShown law m.0.seen.base (z.0, law.shows z.1)) (λ i. (p i, q i)) t.was,
+      )
 
-  pub given_is : (m w w' : Me (Place C H) (View H E B M R S)) (k : ℕ) (y : Place C H) → w ≡ (m.0, (k, y) ∷ rest m.1) → (x : ℕ × Place C H) × (w.1 ≡ x ∷ w'.1) → w'.0 ≡ with_cells w.0 (rest w.0.cells)
+  pub given_is : (m w w' : Me (Place C H) (View H E B M R S)) (k : ℕ) (y : Place C H) → w ≡ (m.0, (k, y) ∷ rest m.1) → (x : ℕ × Place C H) × (w.1 ≡ x ∷ w'.1) × (w'.0 ≡ with_cells w.0 (rest w.0.cells)) × (w.0.hub ≡ None)
       → w' ≡ (with_cells m.0 (rest m.0.cells), rest m.1)
-  given_is m w w' k y is t now =
-      let p : w'.0 ≡ with_cells m.0 (rest m.0.cells) = now ∙ ap (λ (z : Me (Place C H) (View H E B M R S)). with_cells z.0 (rest z.0.cells)) is in
+  given_is m w w' k y is t =
+      let p : w'.0 ≡ with_cells m.0 (rest m.0.cells) = t.2 ∙ ap (λ (z : Me (Place C H) (View H E B M R S)). with_cells z.0 (rest z.0.cells)) is in
       let q : w'.1 ≡ rest m.1 = ap (λ (z : List (ℕ × Place C H)). rest z) (sym t.1 ∙ ap (λ z. z.1) is) in
       λ i. (p i, q i)

@@ -14,7 +14,8 @@ use Rattle.histories.specs.History.{Begins, IsLegalAfter, AllTrue, entries_of, d
 use Rattle.hall_locks.specs.declared.view.View.{View}
 use Rattle.hall_locks.specs.declared.view.Place.{Place}
 use Rattle.hall_locks.specs.declared.view.Place.TheVariants.{Hub}
-use Rattle.hall_locks.specs.Hall.{given_hub, deed_of, shown_cells, cells_after, shown_by, GivesHub, MayGive, IsDue, IsMarked, IsTrueMark, grown, with_mark, numbers_of, IsHub, InHand, HubInHand, IsFloor, Fits, InHandOf, Whose}
+use Rattle.hall_locks.specs.Hall.{given_hub, deed_of, shown_cells, cells_after, shown_by, MayGive, IsDue, IsMarked, IsTrueMark, grown, with_mark, numbers_of, IsHub, InHand, HubInHand, IsFloor, Fits, InHandOf, Whose}
+use Rattle.hall_locks.specs.Steps.{GivesHub}
 use Rattle.histories.proofs.Judged.{legal_snoc}
 use Rattle.histories.proofs.Judged.{every_weaken}
 use Rattle.hall_locks.proofs.Lists.{every_apart, held_by, held_else}
@@ -170,6 +171,8 @@ module _ (C H E B M R S : Type 0) (law : Meaning C H E B M R S) (base : B) (slot
       did = λ _. refl;
       others = others_after id v own_apart was.others;
       distinct = was.distinct;
+      before = was.before;
+      unborn = was.unborn;
       cells = cells_now law v.seen v.number r.holder holder' v.bound id deed v.cells (λ c is. held_else r.holder 0 0 (suc c) (λ e. omega arith) ∙ is) (subst (λ (h : Story B E R). Every (InHand law h r.holder v.bound id) v.cells) (sym whole) was.cells);
       falls = falls_numbers (cells_after law after deed v.cells) v.cells (numbers_after law after deed v.cells) was.falls;
       hub = λ x is. absurd (cc is);
@@ -184,6 +187,8 @@ module _ (C H E B M R S : Type 0) (law : Meaning C H E B M R S) (base : B) (slot
       did = λ l. was.did l ∙ sym (deeds_else law v.seen v.number j deed (λ same. other (sym same ∙ number_is)) ∙ ap (λ (h : Story B E R). deeds_by j h.deeds) whole);
       others = others_after j u (other_apart j u other e) was.others;
       distinct = was.distinct;
+      before = was.before;
+      unborn = was.unborn;
       cells = every_weaken (InHand law r.journal r.holder u.bound j) (InHand law after holder' u.bound j) u.cells
           (λ p i. record { held = held_else r.holder 0 0 (suc p.0) (λ e. omega arith) ∙ i.held; bounded = i.bounded; value = value_stays p.0 (λ same. other (let z : suc j ≡ suc id = sym i.held ∙ same in omega arith)) p.1 i.value }) was.cells;
       falls = was.falls;
@@ -257,7 +262,7 @@ module _ (C H E B M R S : Type 0) (law : Meaning C H E B M R S) (base : B) (slot
         }
 
   pub gives_hub : (me : Me Pl Vw) (next : H) (mark : Option M) → me.0.live ≡ true → me.1 ≡ (0, Hub next) ∷ rest me.1 → MayGive law me.0 next mark
-      → Allows (Rule C H E B M R S law base) slots id me 0 (λ _. 0) (λ _. GivesHub law mark (step slots 0 0 0 none) me 0)
+      → Allows (Rule C H E B M R S law base) slots id me 0 (λ _. 0) (GivesHub law mark (step slots 0 0 0 none) me)
   gives_hub me next mark live carried may =
-      subst (λ (l : List (ℕ × Pl)). Allows (Rule C H E B M R S law base) slots id (me.0, l) 0 (λ _. 0) (λ _. GivesHub law mark (step slots 0 0 0 none) (me.0, l) 0)) (sym carried)
+      subst (λ (l : List (ℕ × Pl)). Allows (Rule C H E B M R S law base) slots id (me.0, l) 0 (λ _. 0) (GivesHub law mark (step slots 0 0 0 none) (me.0, l))) (sym carried)
       (λ s r long at small. (given_hub law me.0 next mark, gives, tt, given s r me.0 next mark at live may (rest me.1) long, (next, refl, refl)))

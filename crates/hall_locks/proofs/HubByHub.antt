@@ -6,12 +6,13 @@ use Rattle.histories.specs.declared.story.Story.{Story}
 use Rattle.histories.specs.declared.story.Deed.{Deed}
 use Rattle.histories.specs.declared.story.Deed.TheVariants.{Entry, Item}
 use Rattle.hall_core.specs.Meanings.{Meaning, Adds, adds_nothing, adds_entry, adds_item}
-use Rattle.histories.specs.History.{Begins, IsLegalAfter, entries_of, deeds_by, Every}
+use Rattle.histories.specs.History.{entries_of}
 use Rattle.hall_locks.specs.declared.view.View.{View}
 use Rattle.hall_locks.specs.declared.view.Place.{Place}
 use Rattle.hall_locks.specs.declared.view.Place.TheVariants.{Away, Hub}
-use Rattle.hall_locks.specs.Hall.{with_hub, given_hub, grown, with_mark, last_entry, deed_by, deed_of, shown_by, shown_cells, cells_after, numbers_of, IsDone, IsDue, IsMarked, IsTrueMark, MayGive, GivesHub}
+use Rattle.hall_locks.specs.Hall.{with_hub, given_hub, grown, with_mark, last_entry, deed_by, deed_of, shown_cells, cells_after, numbers_of, IsDone, IsDue, IsMarked, IsTrueMark, MayGive}
 use Rattle.hall_locks.specs.Hands.{aways, Found, Carries, HoldsHub, MayCommit, MayLook, IsOneMore, AddsNoEntry, item_of, looked_at}
+use Rattle.hall_locks.specs.Steps.{TookHub, GivesHub}
 use Rattle.hall_locks.proofs.Gives.{gives_hub, numbers_after}
 use Rattle.hall_locks.proofs.Deeds.{entries_snoc, entries_item}
 use Rattle.hall_locks.proofs.Rules.{Rule}
@@ -31,26 +32,22 @@ module _ (C H E B M R S : Type 0) (law : Meaning C H E B M R S) where
   abbrev Mine : Type 0
   Mine = Me (Place C H) (View H E B M R S)
 
-  abbrev Took : Mine → Mine → H → Story B E R → Type 0
-  Took m w h seen = (w ≡ (with_hub m.0 seen h, (0, Hub h) ∷ m.1)) × Begins m.0.seen seen × (law.base_of h ≡ seen.base) × (law.entries h ≡ entries_of seen.deeds)
-      × law.keeps h seen m.0.number m.0.log × IsLegalAfter (law.may_follow seen.base) [] (entries_of seen.deeds) × Every (λ p. p.1 ≡ shown_by law seen p.0) m.0.cells × (deeds_by m.0.number seen.deeds ≡ deeds_by m.0.number m.0.seen.deeds)
+  pub hub_first : (m w : Mine) → TookHub law m w → (h : H) × (w.1 ≡ (0, Hub h) ∷ rest w.1)
+  hub_first m w t = (t.hub, ap (λ z. z.1) t.now ∙ (λ i. (0, Hub t.hub) ∷ rest (sym t.now i).1))
 
-  pub hub_first : (m w : Mine) (h : H) (seen : Story B E R) → w ≡ (with_hub m.0 seen h, (0, Hub h) ∷ m.1) → w.1 ≡ (0, Hub h) ∷ rest w.1
-  hub_first m w h seen e = ap (λ z. z.1) e ∙ (λ i. (0, Hub h) ∷ rest (sym e i).1)
-
-  pub hub_is : (m w w' : Mine) (h h' : H) (seen : Story B E R) (y : Place C H) → Took m w h' seen → w.1 ≡ (0, y) ∷ rest w.1 → y ≡ Hub h → w' ≡ (w.0, (0, Away) ∷ rest w.1)
+  pub hub_is : (m w w' : Mine) (h : H) → TookHub law m w → w.1 ≡ (0, Hub h) ∷ rest w.1 → w' ≡ (w.0, (0, Away) ∷ rest w.1)
       → (w' ≡ (with_hub m.0 w'.0.seen h, (0, Away) ∷ m.1)) × Found law m.0 w'.0.seen h
-  hub_is m w w' h h' seen y t first here now =
-      let q : h' ≡ h = ap (hub_or h) (ap (first_or Away) (sym (ap (λ z. z.1) t.0) ∙ first) ∙ here) in
-      let is : w' ≡ (with_hub m.0 seen h', (0, Away) ∷ m.1) = now ∙ (λ i. ((t.0 i).0, (0, Away) ∷ rest (t.0 i).1)) in
-      let s : w'.0.seen ≡ seen = ap (λ (z : Mine). z.0.seen) is in (
+  hub_is m w w' h t first now =
+      let q : t.hub ≡ h = ap (hub_or h) (ap (first_or Away) (sym (ap (λ z. z.1) t.now) ∙ first)) in
+      let is : w' ≡ (with_hub m.0 t.seen t.hub, (0, Away) ∷ m.1) = now ∙ (λ i. ((t.now i).0, (0, Away) ∷ rest (t.now i).1)) in
+      let s : w'.0.seen ≡ t.seen = ap (λ (z : Mine). z.0.seen) is in (
         is ∙ (λ i. (with_hub m.0 (sym s i) (q i), (0, Away) ∷ m.1)),
-        subst (λ (z : Story B E R × H). Found law m.0 z.0 z.1) (λ i. (sym s i, q i)) record { goes_on = t.1; base = t.2; entries = t.3; own = t.4; legal = t.5; shown = t.6; did = t.7 },
+        subst (λ (z : Story B E R × H). Found law m.0 z.0 z.1) (λ i. (sym s i, q i)) t.found,
       )
 
   pub gives_at : (base : B) (slots id : ℕ) → 0 < slots → (old me : Mine) (next : H) (mark : Option M) → old.0.live ≡ true → me ≡ (old.0, (0, Hub next) ∷ rest old.1) → MayGive law old.0 next mark
-      → Allows (Rule C H E B M R S law base) slots id me 0 (λ _. 0) (λ _. GivesHub law mark (step slots 0 0 0 none) me 0)
-  gives_at base slots id inside old me next mark live put may = subst (λ (z : Mine). Allows (Rule C H E B M R S law base) slots id z 0 (λ _. 0) (λ _. GivesHub law mark (step slots 0 0 0 none) z 0)) (sym put)
+      → Allows (Rule C H E B M R S law base) slots id me 0 (λ _. 0) (GivesHub law mark (step slots 0 0 0 none) me)
+  gives_at base slots id inside old me next mark live put may = subst (λ (z : Mine). Allows (Rule C H E B M R S law base) slots id z 0 (λ _. 0) (GivesHub law mark (step slots 0 0 0 none) z)) (sym put)
       (gives_hub C H E B M R S law base slots id inside (old.0, (0, Hub next) ∷ rest old.1) next mark live refl may)
 
   pub gave_is : (m w w' : Mine) (next : H) (mark : Option M) → w ≡ (m.0, (0, Hub next) ∷ rest m.1) → (h : H) × (w.1 ≡ (0, Hub h) ∷ w'.1) × (w'.0 ≡ given_hub law w.0 h mark)

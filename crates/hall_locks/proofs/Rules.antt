@@ -39,15 +39,17 @@ module _ (C H E B M R S : Type 0) (law : Meaning C H E B M R S) (base : B) where
   within (x ∷ xs) (suc i) a e = let h = within xs i a e in omega arith
 
   -- the holders may change where this seat holds nothing, and so may the keepers where it keeps nothing
-  pub refit : (h : Story B E R) (holder holder' keeper keeper' : ℕ → ℕ) (logs : ℕ → List M) (j : ℕ) (v : V) → ((k : ℕ) → holder k ≡ suc j → holder' k ≡ suc j) → ((k : ℕ) → keeper k ≡ suc j → keeper' k ≡ suc j)
+  pub refit : (h : Story B E R) (holder holder' keeper keeper' : ℕ → ℕ) (logs : ℕ → List M) (j : ℕ) (v : V) → ((k : ℕ) → holder k ≡ suc j → holder' k ≡ suc j) → ((k : ℕ) → keeper k ≡ suc j → keeper' k ≡ suc j) → (keeper j ≡ 0 → keeper' j ≡ 0)
       → Fits law h holder keeper logs j v → Fits law h holder' keeper' logs j v
-  refit h holder holder' keeper keeper' logs j v same keep_on f = record {
+  refit h holder holder' keeper keeper' logs j v same keep_on nobody f = record {
     seen = f.seen;
     old = f.old;
     own = λ l. let o = f.own l in (o.0, o.1, o.2, keep_on j o.3);
     did = f.did;
     others = every_weaken (λ (p : ℕ × List M). (p.1 ≡ logs p.0) × (keeper p.0 ≡ suc j)) (λ (p : ℕ × List M). (p.1 ≡ logs p.0) × (keeper' p.0 ≡ suc j)) v.others (λ p a. (a.0, keep_on p.0 a.1)) f.others;
     distinct = f.distinct;
+    before = f.before;
+    unborn = λ silent tells. nobody (f.unborn silent tells);
     cells = every_weaken (InHand law h holder v.bound j) (InHand law h holder' v.bound j) v.cells (λ p i. record { held = same (suc p.0) i.held; bounded = i.bounded; value = i.value }) f.cells;
     falls = f.falls;
     hub = λ x is. let i = f.hub x is in record { held = same 0 i.held; whole = i.whole; hub = i.hub };
@@ -128,12 +130,12 @@ module _ (C H E B M R S : Type 0) (law : Meaning C H E B M R S) (base : B) where
         (λ e. held_here r.holder k h i e ∙ good (sym (ap (λ x. get_or (set s.words k n) x 0) e ∙ get_or-set_same s.words k n 0 inside) ∙ z))
         (λ ne. held_else r.holder k h i ne ∙ r.free i (subst (λ x. i < x) (length-set s.words k n) l) (sym (get_or-set_other s.words k i n 0 ne) ∙ z))
 
-    pub taken_after : (n ≢ 0 → (n ≡ 1) × (0 < h)) → (i : ℕ) → i < length (set s.words k n) → get_or (set s.words k n) i 0 ≢ 0 → (get_or (set s.words k n) i 0 ≡ 1) × (0 < held_by r.holder k h i)
+    pub taken_after : (n ≢ 0 → (n ≤ 2) × (0 < h)) → (i : ℕ) → i < length (set s.words k n) → get_or (set s.words k n) i 0 ≢ 0 → (get_or (set s.words k n) i 0 ≤ 2) × (0 < held_by r.holder k h i)
     taken_after good i l z = dite (ℕ_discrete i k)
         (λ e. let is : get_or (set s.words k n) i 0 ≡ n = ap (λ x. get_or (set s.words k n) x 0) e ∙ get_or-set_same s.words k n 0 inside in let t = good (λ none_now. z (is ∙ none_now)) in
-        (is ∙ t.0, subst (λ x. 0 < x) (sym (held_here r.holder k h i e)) t.1))
+        (subst (λ x. x ≤ 2) (sym is) t.0, subst (λ x. 0 < x) (sym (held_here r.holder k h i e)) t.1))
         (λ ne. let same = get_or-set_other s.words k i n 0 ne in let t = r.taken i (subst (λ x. i < x) (length-set s.words k n) l) (λ e. z (same ∙ e)) in
-        (same ∙ t.0, subst (λ x. 0 < x) (sym (held_else r.holder k h i ne)) t.1))
+        (subst (λ x. x ≤ 2) (sym same) t.0, subst (λ x. 0 < x) (sym (held_else r.holder k h i ne)) t.1))
 
     pub home_after : ((d : ℕ) → suc d ≡ k → n ≡ 0 → CellHome law r.journal homes' d) → (d : ℕ) → suc d < length (set s.words k n) → get_or (set s.words k n) (suc d) 0 ≡ 0 → CellHome law r.journal homes' d
     home_after here d l z = dite (ℕ_discrete (suc d) k)
@@ -163,7 +165,7 @@ module _ (C H E B M R S : Type 0) (law : Meaning C H E B M R S) (base : B) where
         (λ other. record { seat = o.seat; view = o.view; at = set_else s.views id o.seat w other ∙ o.at; held = held; has = o.has })
 
     -- the seat id goes from v to w
-    pub moved : (id : ℕ) (v w : V) → get_elem? s.views id ≡ some v → SamePass v w → (v.tells ≡ true → w.tells ≡ true) → (v.tells ≡ true → v.seen ≡ r.journal → w.seen ≡ r.journal) → length homes' ≡ length s.homes → (n ≡ 0 → h ≡ 0) → (n ≢ 0 → (n ≡ 1) × (0 < h))
+    pub moved : (id : ℕ) (v w : V) → get_elem? s.views id ≡ some v → SamePass v w → (v.tells ≡ true → w.tells ≡ true) → (v.tells ≡ true → v.seen ≡ r.journal → w.seen ≡ r.journal) → length homes' ≡ length s.homes → (n ≡ 0 → h ≡ 0) → (n ≢ 0 → (n ≤ 2) × (0 < h))
         → ((d : ℕ) → suc d ≡ k → n ≡ 0 → CellHome law r.journal homes' d) → (0 ≡ k → n ≡ 0 → HubHome law r.journal r.logs homes')
         → ((j : ℕ) → j ≢ id → r.holder k ≢ suc j) → ((i : ℕ) → i ≢ k → InHandOf law i v → InHandOf law i w) → (n ≢ 0 → (h ≡ suc id) × InHandOf law k w)
         → IsFloor law base (length s.words) r.journal (held_by r.holder k h)
@@ -184,7 +186,7 @@ module _ (C H E B M R S : Type 0) (law : Meaning C H E B M R S) (base : B) where
       legal = r.legal;
       longest = seen_on s.views r.journal id v w at tells seen r.longest;
       each = seats (Fits law r.journal (held_by r.holder k h) r.keeper r.logs) s.views id w mine
-          (λ j u other e. refit r.journal r.holder (held_by r.holder k h) r.keeper r.keeper r.logs j u (λ i is. held_else r.holder k h i (λ same. nobody j other (ap r.holder (sym same) ∙ is)) ∙ is) (λ i is. is) (r.each j u e));
+          (λ j u other e. refit r.journal r.holder (held_by r.holder k h) r.keeper r.keeper r.logs j u (λ i is. held_else r.holder k h i (λ same. nobody j other (ap r.holder (sym same) ∙ is)) ∙ is) (λ i is. is) (λ is. is) (r.each j u e));
       kept = λ i seat e. kept_on s.views id v w at same seat i (r.kept i seat e);
       unkept = r.unkept;
       beyond = λ i l. r.beyond i (subst (λ x. x ≤ i) (length-set s.views id w) l);
@@ -197,3 +199,40 @@ module _ (C H E B M R S : Type 0) (law : Meaning C H E B M R S) (base : B) where
   -- a step that changes nothing
   pub unmoved : (s : St) (r : Rule s) (i id : ℕ) (v : V) (cs : List (ℕ × P)) → get_elem? s.views id ≡ some v → Rule (stepped s i (get_or s.words i 0) id cs v keeps)
   unmoved s r i id v cs at = subst (λ (z : List ℕ × List V). Rule record { words = z.0; homes = s.homes; views = z.1 }) (λ k. (sym (set-get_or s.words i 0) k, sym (set_again s.views id v at) k)) r
+
+  -- a taken word says that somebody may wait
+  marked : (s : St) (r : Rule s) (k : ℕ) → k < length s.words → get_or s.words k 0 ≢ 0 → Rule record { words = set s.words k 2; homes = s.homes; views = s.views }
+  marked s r k inside taken =
+      let here : (i : ℕ) → i ≡ k → get_or (set s.words k 2) i 0 ≡ 2 = λ i e. ap (λ x. get_or (set s.words k 2) x 0) e ∙ get_or-set_same s.words k 2 0 inside in
+      let else_same : (i : ℕ) → i ≢ k → get_or (set s.words k 2) i 0 ≡ get_or s.words i 0 = λ i ne. get_or-set_other s.words k i 2 0 ne in
+      let within_words : (i : ℕ) → i < length (set s.words k 2) → i < length s.words = λ i l. subst (λ x. i < x) (length-set s.words k 2) l in
+      let not_free : (i : ℕ) → get_or (set s.words k 2) i 0 ≡ 0 → i ≢ k = λ i z e. let h = here i e in omega (arith, h, z) in
+      record {
+        journal = r.journal;
+        holder = r.holder;
+        keeper = r.keeper;
+        logs = r.logs;
+        wide = length-set s.words k 2 ∙ r.wide;
+        free = λ i l z. let ne = not_free i z in r.free i (within_words i l) (sym (else_same i ne) ∙ z);
+        taken = λ i l z. dite (ℕ_discrete i k)
+            (λ e. (subst (λ x. x ≤ 2) (sym (here i e)) (omega arith), subst (λ x. 0 < r.holder x) (sym e) (r.taken k inside taken).1))
+            (λ ne. let t = r.taken i (within_words i l) (λ e. z (else_same i ne ∙ e)) in (subst (λ x. x ≤ 2) (sym (else_same i ne)) t.0, t.1));
+        whose = λ i l z. dite (ℕ_discrete i k) (λ e. subst (Whose law r.holder s.views) (sym e) (r.whose k inside taken)) (λ ne. r.whose i (within_words i l) (λ e. z (else_same i ne ∙ e)));
+        nowhere = λ i l. r.nowhere i (subst (λ x. x ≤ i) (length-set s.words k 2) l);
+        floor = subst (λ x. IsFloor law base x r.journal r.holder) (sym (length-set s.words k 2)) r.floor;
+        same_base = r.same_base;
+        legal = r.legal;
+        longest = r.longest;
+        each = r.each;
+        kept = r.kept;
+        unkept = r.unkept;
+        beyond = r.beyond;
+        pairs = r.pairs;
+        hub_home = λ l z. let ne = not_free 0 z in r.hub_home (within_words 0 l) (sym (else_same 0 ne) ∙ z);
+        home = λ d l z. let ne = not_free (suc d) z in r.home d (within_words (suc d) l) (sym (else_same (suc d) ne) ∙ z);
+        marks = r.marks;
+      }
+
+  -- a step that finds a word taken, and says that somebody may wait
+  pub awaited : (s : St) (r : Rule s) (k id : ℕ) (v : V) (cs : List (ℕ × P)) → get_elem? s.views id ≡ some v → k < length s.words → get_or s.words k 0 ≢ 0 → Rule (stepped s k 2 id cs v keeps)
+  awaited s r k id v cs at inside taken = subst (λ (vs : List V). Rule record { words = set s.words k 2; homes = s.homes; views = vs }) (sym (set_again s.views id v at)) (marked s r k inside taken)

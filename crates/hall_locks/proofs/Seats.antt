@@ -1,13 +1,14 @@
 -- Seats are cut and joined.
-use Rattle.std.proofs.Common.{◌≡◌, ◌≢◌, ◌⊎◌, inl, inr, ℕ, zero, suc, ◌+◌, ◌<◌, ◌≤◌, eqb, Bool, true, false, nat_le, List, [], ◌∷◌, ◌++◌, length, set, sym, refl, ap, ◌∙◌, subst, ⊎_elim, arith, length-set, length-append, eq-eqb, ne_eqb, Some, None}
+use Rattle.std.proofs.Common.{◌≡◌, ◌≢◌, ℕ, suc, ◌+◌, ◌<◌, ◌≤◌, eqb, Bool, true, false, nat_le, List, [], ◌∷◌, ◌++◌, length, set, sym, refl, ap, ◌∙◌, subst, ⊎_elim, arith, length-set, length-append, eq-eqb, ne_eqb, Some, None}
 use prog.Atomic.{either}
 use mathlib.Core.Logic.{dite}
 use mathlib.Core.Option.{none, some, some-injective}
-use native.Mathlib.Decide.{ℕ_discrete}
+use native.Mathlib.Decide.{ℕ_discrete, dec_lt}
 use lib.ListN.{get_elem?}
+use lib.Seq.{set-get_or}
 use Rattle.std.proofs.lemmas.Bool.Decides.{nat_tests}
 use Rattle.std.proofs.lemmas.List.{append-nil}
-use Rattle.atomic_table.specs.Table.{State, Me, step, keeps, Allows, Enters, Splits, Joins}
+use Rattle.atomic_table.specs.Table.{State, Me, step, keeps, Allows, Splits, Joins}
 use Rattle.atomic_table.proofs.Lists.{set_again, set_here, set_else, at_longer}
 use Rattle.histories.specs.declared.story.Story.{Story}
 use Rattle.histories.specs.declared.story.Deed.{Deed}
@@ -15,12 +16,15 @@ use Rattle.hall_core.specs.Meanings.{Meaning, Adds, Among, AreDistinct, Pairs}
 use Rattle.histories.specs.History.{Begins, Every, deeds_by}
 use Rattle.hall_locks.specs.declared.view.View.{View}
 use Rattle.hall_locks.specs.declared.view.Place.{Place}
-use Rattle.hall_locks.specs.Hall.{pass_view, note_view, spent_view, no_story, hearing, merging, longer, longer_if, Compares, InHand, Fits, HasLog, HasSeen, Ruled, numbers_of}
+use Rattle.hall_locks.specs.Hall.{new_view, note_view, spent_view, hearing, merging, longer, longer_if, InHand, Fits, HasLog, HasSeen, Ruled, numbers_of}
 use Rattle.hall_locks.specs.Hall as hall
+use Rattle.hall_locks.specs.Hands.{Rests}
+use Rattle.hall_locks.specs.Steps.{Knows, Compares}
+use Rattle.hall_locks.specs.Steps as steps
 use Rattle.histories.proofs.Judged.{every_weaken}
 use Rattle.histories.proofs.Prefixes.{prefix_whole}
-use Rattle.hall_locks.proofs.Lists.{every_append, at_end, at_last, held_by, held_here, held_else, not_none, numbers_append, among_left, among_right, all_among, distinct_append}
-use Rattle.hall_locks.proofs.Rules.{Rule, seats, refit, within, unmoved, same_in_hand, nothing_in_hand}
+use Rattle.hall_locks.proofs.Lists.{every_append, at_end, held_by, held_here, held_else, not_none, numbers_append, among_left, among_right, all_among, distinct_append}
+use Rattle.hall_locks.proofs.Rules.{Rule, seats, refit, within, seen_on, unmoved, same_in_hand, nothing_in_hand}
 use Rattle.histories.proofs.Stories.{begins_self, begins_shorter, deeds_by_append}
 
 no_length : {D : Type 0} (xs : List D) → length xs ≡ 0 → xs ≡ []
@@ -87,9 +91,12 @@ none_paired : {M E R : Type 0} (adds : M → Adds R) (fits : M → E → Type 0)
 none_paired adds fits [] p = refl
 none_paired adds fits (d ∷ ds) p = absurd p
 
-nobody_before : (n : ℕ) → ((seat : ℕ) → n ≡ suc seat → ⊥) → n ≡ 0
-nobody_before zero f = refl
-nobody_before (suc n) f = absurd (f n refl)
+-- who did nothing in a history did nothing in what begins it
+nothing_before : {B E R : Type 0} (n : ℕ) (h k : Story B E R) → Begins h k → deeds_by n k.deeds ≡ [] → deeds_by n h.deeds ≡ []
+nothing_before n h k x none_did =
+    let many : length (deeds_by n k.deeds) ≡ length (deeds_by n h.deeds) + length (deeds_by n x.deeds.rest) =
+    ap length (ap (deeds_by n) x.deeds.whole ∙ deeds_by_append n h.deeds x.deeds.rest) ∙ length-append (deeds_by n h.deeds) (deeds_by n x.deeds.rest) in
+    no_length (deeds_by n h.deeds) (omega (arith, many, ap length none_did))
 
 module _ (C H E B M R S : Type 0) (law : Meaning C H E B M R S) (base : B) where
   abbrev Vw : Type 0
@@ -101,14 +108,20 @@ module _ (C H E B M R S : Type 0) (law : Meaning C H E B M R S) (base : B) where
   abbrev Rl : State Pl Vw → Type 0
   Rl = Rule C H E B M R S law base
 
-  -- a new view comes, which holds nothing and has an empty log. It may be a pass, and then has the next number
-  arrived : (s : State Pl Vw) (r : Rl s) (w : Vw) (keeper' : ℕ → ℕ) → ((k seat : ℕ) → r.keeper k ≡ suc seat → keeper' k ≡ suc seat)
-      → ((k seat : ℕ) → keeper' k ≡ suc seat → (r.keeper k ≡ suc seat) ⊎ HasLog law (s.views ++ w ∷ []) seat k) → ((k : ℕ) → length s.views + 1 ≤ k → keeper' k ≡ 0)
-      → Fits law r.journal r.holder keeper' r.logs (length s.views) w → Rl record { words = s.words; homes = s.homes; views = s.views ++ w ∷ [] }
-  arrived s r w keeper' more back far mine = record {
+  -- a number that some pass has or had is below the count of views
+  seated : (s : State Pl Vw) (r : Rl s) (k seat : ℕ) → r.keeper k ≡ suc seat → k < length s.views
+  seated s r k seat e = dite (dec_lt k (length s.views)) (λ l. l) (λ far. let z : 0 ≡ suc seat = sym (r.beyond k (omega (arith, far))) ∙ e in absurd (omega arith))
+
+  keeper_of_others : (keeper : ℕ → ℕ) (logs : ℕ → List M) (ps : List (ℕ × List M)) (seat : ℕ) → Every (λ p. (p.1 ≡ logs p.0) × (keeper p.0 ≡ suc seat)) ps → Every (λ n. keeper n ≡ suc seat) (numbers_of ps)
+  keeper_of_others keeper logs [] seat a = tt
+  keeper_of_others keeper logs (p ∷ ps) seat a = (a.0.1, keeper_of_others keeper logs ps seat a.1)
+
+  -- a note comes, which holds nothing and is no pass
+  arrived : (s : State Pl Vw) (r : Rl s) (w : Vw) → Fits law r.journal r.holder r.keeper r.logs (length s.views) w → Rl record { words = s.words; homes = s.homes; views = s.views ++ w ∷ [] }
+  arrived s r w mine = record {
     journal = r.journal;
     holder = r.holder;
-    keeper = keeper';
+    keeper = r.keeper;
     logs = r.logs;
     wide = r.wide;
     free = r.free;
@@ -119,69 +132,122 @@ module _ (C H E B M R S : Type 0) (law : Meaning C H E B M R S) (base : B) where
     same_base = r.same_base;
     legal = r.legal;
     longest = let h = r.longest in record { seat = h.seat; view = h.view; at = at_longer s.views (w ∷ []) h.seat h.view h.at; tells = h.tells; whole = h.whole };
-    each = λ j v e. ⊎_elim (λ at. refit C H E B M R S law base r.journal r.holder r.holder r.keeper keeper' r.logs j v (λ k is. is) (λ k is. more k j is) (r.each j v at))
-        (λ (t : (j ≡ length s.views) × (w ≡ v)). subst (λ (z : ℕ × Vw). Fits law r.journal r.holder keeper' r.logs z.0 z.1) (λ i. (sym t.0 i, t.1 i)) mine) (at_end s.views w v j e);
-    kept = λ k seat e. ⊎_elim (λ (was : r.keeper k ≡ suc seat). let h = r.kept k seat was in record { view = h.view; at = at_longer s.views (w ∷ []) seat h.view h.at; live = h.live; has = h.has }) (λ h. h) (back k seat e);
-    unkept = λ k e. r.unkept k (nobody_before (r.keeper k) (λ seat was. let z : suc seat ≡ 0 = sym (more k seat was) ∙ e in omega arith));
-    beyond = λ k l. let n : length (s.views ++ w ∷ []) ≡ length s.views + 1 = length-append s.views (w ∷ []) in far k (omega arith);
+    each = λ j v e. ⊎_elim (λ at. r.each j v at)
+        (λ (t : (j ≡ length s.views) × (w ≡ v)). subst (λ (z : ℕ × Vw). Fits law r.journal r.holder r.keeper r.logs z.0 z.1) (λ i. (sym t.0 i, t.1 i)) mine) (at_end s.views w v j e);
+    kept = λ k seat e. let h = r.kept k seat e in record { view = h.view; at = at_longer s.views (w ∷ []) seat h.view h.at; live = h.live; has = h.has };
+    unkept = r.unkept;
+    beyond = λ k l. let n : length (s.views ++ w ∷ []) ≡ length s.views + 1 = length-append s.views (w ∷ []) in r.beyond k (omega arith);
     pairs = r.pairs;
     hub_home = r.hub_home;
     home = r.home;
     marks = r.marks;
   }
 
-  -- the keepers after a new pass
-  abbrev keepers : List Vw → (ℕ → ℕ) → ℕ → ℕ
-  keepers vs keeper = held_by keeper (length vs) (suc (length vs))
-
-  -- a new pass
-  pub enters : (slots : ℕ) (m : Me Pl Vw) → m.0 ≡ hall.first_view base → Enters Rl slots 0 (λ n w. hall.Enters (step slots 0 0 0 none) m n (w, []))
-  enters slots m is s r _ _ =
-      let n : ℕ = length s.views in
-      let w : Vw = pass_view n (no_story base) in
-      let fresh : r.keeper n ≡ 0 = r.beyond n (omega arith) in (
-        w,
-        arrived s r w (keepers s.views r.keeper)
-            (λ k seat was. held_else r.keeper n (suc n) k (λ e. let z : suc seat ≡ 0 = sym was ∙ (ap r.keeper e ∙ fresh) in omega arith) ∙ was)
-            (λ k seat now. dite (ℕ_discrete k n)
-            (λ e. let is : n ≡ seat = let z : suc n ≡ suc seat = sym (held_here r.keeper n (suc n) k e) ∙ now in omega arith in inr record {
-              view = w;
-              at = ap (get_elem? (s.views ++ w ∷ [])) (sym is) ∙ at_last s.views w;
-              live = refl;
-              has = (0, omega arith, sym e);
-            })
-            (λ ne. inl (sym (held_else r.keeper n (suc n) k ne) ∙ now)))
-            (λ k l. held_else r.keeper n (suc n) k (λ e. omega arith) ∙ r.beyond k (omega arith))
-            record {
-              seen = λ _. record { base = r.same_base; deeds = record { rest = r.journal.deeds; whole = refl } };
-              old = tt;
-              own = λ _. (refl, sym (r.unkept n fresh), refl, held_here r.keeper n (suc n) n refl);
-              did = λ _. sym (none_paired law.adds law.fits (deeds_by n r.journal.deeds) (subst (λ (l : List M). Pairs law.adds law.fits l (deeds_by n r.journal.deeds)) (r.unkept n fresh) (r.pairs n)));
-              others = tt;
-              distinct = (not_none n, tt);
-              cells = tt;
-              falls = tt;
-              hub = λ x e. absurd (cc e);
-              empty = λ _. (refl, refl);
-            },
-        (n, ap (λ (v : Vw). pass_view n v.seen) (sym is)),
-      )
+  -- what a pass knows, for a note
+  abbrev noted : Vw → Vw
+  noted v = note_view v.seen (v.number ∷ numbers_of v.others)
 
   -- a note of what was seen
-  pub tells_note : (id : ℕ) (v : Vw) → v.live ≡ true → Splits Rl id v v (note_view v.seen)
-  tells_note id v live s r at = subst (λ (vs : List Vw). Rl record { words = s.words; homes = s.homes; views = vs ++ note_view v.seen ∷ [] }) (sym (set_again s.views id v at))
-      (arrived s r (note_view v.seen) r.keeper (λ k seat is. is) (λ k seat is. inl is) (λ k l. r.beyond k (omega arith)) (let was = r.each id v at in record {
-        seen = λ _. was.seen (was.own live).2;
+  pub tells_note : (id : ℕ) (v : Vw) → v.live ≡ true → Splits Rl id v v (noted v)
+  tells_note id v live s r at =
+      let was = r.each id v at in
+      let own = was.own live in
+      subst (λ (vs : List Vw). Rl record { words = s.words; homes = s.homes; views = vs ++ noted v ∷ [] }) (sym (set_again s.views id v at))
+      (arrived s r (noted v) record {
+        seen = λ _. was.seen own.2;
         old = tt;
         own = λ e. absurd (cc e);
         did = λ e. absurd (cc e);
         others = tt;
         distinct = (not_none (length s.views), tt);
+        before = (
+          seated s r v.number id (ap r.keeper own.0 ∙ own.3),
+          every_weaken (λ n. r.keeper n ≡ suc id) (λ n. n < length s.views) (numbers_of v.others) (λ n e. seated s r n id e) (keeper_of_others r.keeper r.logs v.others id was.others),
+        );
+        unborn = λ _ _. r.beyond (length s.views) (omega arith);
         cells = tt;
         falls = tt;
         hub = λ x e. absurd (cc e);
         empty = λ _. (refl, refl);
-      }))
+      })
+
+  -- a note becomes a pass, with the number of its place
+  born : (s : State Pl Vw) (r : Rl s) (id : ℕ) (h : Story B E R) (ns : List ℕ) → get_elem? s.views id ≡ some (note_view h ns) → Rl record { words = s.words; homes = s.homes; views = set s.views id (new_view id h) }
+  born s r id h ns at =
+      let v : Vw = note_view h ns in
+      let w : Vw = new_view id h in
+      let was = r.each id v at in
+      let fresh : r.keeper id ≡ 0 = was.unborn refl refl in
+      let keeper' : ℕ → ℕ = held_by r.keeper id (suc id) in
+      let inside : id < length s.views = within C H E B M R S law base s.views id v at in
+      let none_did : deeds_by id r.journal.deeds ≡ [] = none_paired law.adds law.fits (deeds_by id r.journal.deeds) (subst (λ (l : List M). Pairs law.adds law.fits l (deeds_by id r.journal.deeds)) (r.unkept id fresh) (r.pairs id)) in
+      record {
+        journal = r.journal;
+        holder = r.holder;
+        keeper = keeper';
+        logs = r.logs;
+        wide = r.wide;
+        free = r.free;
+        taken = r.taken;
+        whose = λ k l z. let o = r.whose k l z in dite (ℕ_discrete o.seat id)
+            (λ e. let is : o.view ≡ v = some-injective o.view v (sym o.at ∙ (ap (get_elem? s.views) e ∙ at)) in
+            absurd (nothing_in_hand C H E B M R S law base v refl refl k (subst (hall.InHandOf law k) is o.has)))
+            (λ ne. record { seat = o.seat; view = o.view; at = set_else s.views id o.seat w ne ∙ o.at; held = o.held; has = o.has });
+        nowhere = r.nowhere;
+        floor = r.floor;
+        same_base = r.same_base;
+        legal = r.legal;
+        longest = seen_on C H E B M R S law base s.views r.journal id v w at (λ t. refl) (λ t e. e) r.longest;
+        each = seats C H E B M R S law base (Fits law r.journal r.holder keeper' r.logs) s.views id w
+            record {
+              seen = λ _. was.seen refl;
+              old = tt;
+              own = λ _. (refl, sym (r.unkept id fresh), refl, held_here r.keeper id (suc id) id refl);
+              did = λ _. nothing_before id h r.journal (was.seen refl) none_did ∙ sym none_did;
+              others = tt;
+              distinct = (not_none id, tt);
+              before = tt;
+              unborn = λ silent. absurd (cc silent);
+              cells = tt;
+              falls = tt;
+              hub = λ x e. absurd (cc e);
+              empty = λ _. (refl, refl);
+            }
+            (λ j u other e. refit C H E B M R S law base r.journal r.holder r.holder r.keeper keeper' r.logs j u (λ k is. is)
+            (λ k is. held_else r.keeper id (suc id) k (λ same. let z : suc j ≡ 0 = sym is ∙ (ap r.keeper same ∙ fresh) in omega arith) ∙ is)
+            (λ is. held_else r.keeper id (suc id) j other ∙ is) (r.each j u e));
+        kept = λ k seat e. dite (ℕ_discrete k id)
+            (λ is. let here : id ≡ seat = let z : suc id ≡ suc seat = sym (held_here r.keeper id (suc id) k is) ∙ e in omega arith in record {
+              view = w;
+              at = ap (get_elem? (set s.views id w)) (sym here) ∙ set_here s.views id w inside;
+              live = refl;
+              has = (0, omega arith, sym is);
+            })
+            (λ ne. let o = r.kept k seat (sym (held_else r.keeper id (suc id) k ne) ∙ e) in dite (ℕ_discrete seat id)
+            (λ same. let is : o.view ≡ v = some-injective o.view v (sym o.at ∙ (ap (get_elem? s.views) same ∙ at)) in
+            let f : false ≡ true = ap (λ (x : Vw). x.live) (sym is) ∙ o.live in absurd (cc f))
+            (λ away. record { view = o.view; at = set_else s.views id seat w away ∙ o.at; live = o.live; has = o.has }));
+        unkept = λ k e. dite (ℕ_discrete k id)
+            (λ is. let z : suc id ≡ 0 = sym (held_here r.keeper id (suc id) k is) ∙ e in absurd (omega arith))
+            (λ ne. r.unkept k (sym (held_else r.keeper id (suc id) k ne) ∙ e));
+        beyond = λ k l. let far : length s.views ≤ k = subst (λ n. n ≤ k) (length-set s.views id w) l in held_else r.keeper id (suc id) k (λ e. omega arith) ∙ r.beyond k far;
+        pairs = r.pairs;
+        hub_home = r.hub_home;
+        home = r.home;
+        marks = r.marks;
+      }
+
+  enters_as : (slots id : ℕ) (h : Story B E R) (ns : List ℕ) (l : List (ℕ × Pl)) → Allows Rl slots id (note_view h ns, l) 0 (λ n. n) (steps.Enters (step slots 0 0 0 none) (note_view h ns, l))
+  enters_as slots id h ns l s r long at small = (
+    new_view id h,
+    keeps,
+    tt,
+    subst (λ (ws : List ℕ). Rl record { words = ws; homes = s.homes; views = set s.views id (new_view id h) }) (sym (set-get_or s.words 0 0)) (born s r id h ns at),
+    (id, refl, (r.each id (note_view h ns) at).before),
+  )
+
+  pub enters : (slots id : ℕ) (m : Me Pl Vw) (h : Story B E R) (ns : List ℕ) → m ≡ (note_view h ns, []) → Allows Rl slots id m 0 (λ n. n) (steps.Enters (step slots 0 0 0 none) m)
+  enters slots id m h ns is = subst (λ (z : Me Pl Vw). Allows Rl slots id z 0 (λ n. n) (steps.Enters (step slots 0 0 0 none) z)) (sym is) (enters_as slots id h ns [])
 
   abbrev Gone : Vw
   Gone = spent_view law.some_base
@@ -238,9 +304,9 @@ module _ (C H E B M R S : Type 0) (law : Meaning C H E B M R S) (base : B) where
         legal = r.legal;
         longest = longest_after s r id v both o other at there apart tells seen a b;
         each = seats C H E B M R S law base (Fits law r.journal r.holder keeper' r.logs) vs other Gone
-            record { seen = λ e. absurd (cc e); old = tt; own = λ e. absurd (cc e); did = λ e. absurd (cc e); others = tt; distinct = (not_none other, tt); cells = tt; falls = tt; hub = λ x e. absurd (cc e); empty = λ _. (refl, refl) }
+            record { seen = λ e. absurd (cc e); old = tt; own = λ e. absurd (cc e); did = λ e. absurd (cc e); others = tt; distinct = (not_none other, tt); before = tt; unborn = λ _ e. absurd (cc e); cells = tt; falls = tt; hub = λ x e. absurd (cc e); empty = λ _. (refl, refl) }
             (λ j u apart_j at_j. seats C H E B M R S law base (λ i x. i ≢ other → Fits law r.journal r.holder keeper' r.logs i x) s.views id both (λ _. mine)
-            (λ i x _ e ne. refit C H E B M R S law base r.journal r.holder r.holder r.keeper keeper' r.logs i x (λ k is. is) (λ k is. stays k i ne is) (r.each i x e)) j u at_j apart_j);
+            (λ i x _ e ne. refit C H E B M R S law base r.journal r.holder r.holder r.keeper keeper' r.logs i x (λ k is. is) (λ k is. stays k i ne is) (λ is. never i is) (r.each i x e)) j u at_j apart_j);
         kept = has;
         unkept = λ k e. r.unkept k (nobody k e);
         beyond = λ k l. never k (r.beyond k (subst (λ n. n ≤ k) (length-set vs other Gone ∙ length-set s.views id both) l));
@@ -280,15 +346,13 @@ module _ (C H E B M R S : Type 0) (law : Meaning C H E B M R S) (base : B) where
         did = λ l. longer_did id v.seen n.seen r.journal a b (was.did l);
         others = was.others;
         distinct = was.distinct;
+        before = was.before;
+        unborn = λ silent _. let f : true ≡ false = sym live ∙ silent in absurd (cc f);
         cells = was.cells;
         falls = was.falls;
         hub = λ x is. absurd (let e : None ≡ Some x = sym none_held ∙ is in cc e);
         empty = was.empty;
       }
-
-  keeper_of_others : (keeper : ℕ → ℕ) (logs : ℕ → List M) (ps : List (ℕ × List M)) (seat : ℕ) → Every (λ p. (p.1 ≡ logs p.0) × (keeper p.0 ≡ suc seat)) ps → Every (λ n. keeper n ≡ suc seat) (numbers_of ps)
-  keeper_of_others keeper logs [] seat a = tt
-  keeper_of_others keeper logs (p ∷ ps) seat a = (a.0.1, keeper_of_others keeper logs ps seat a.1)
 
   -- the keepers after the logs of one seat went to another
   abbrev passed : (ℕ → ℕ) → ℕ → ℕ → ℕ → ℕ
@@ -357,6 +421,8 @@ module _ (C H E B M R S : Type 0) (law : Meaning C H E B M R S) (base : B) where
             let left : r.keeper k ≡ suc id = all_among (λ n. r.keeper n ≡ suc id) k (id ∷ numbers_of v.others) x (mine.3, keeper_of_others r.keeper r.logs v.others id was.others) in
             let right : r.keeper k ≡ suc other = all_among (λ n. r.keeper n ≡ suc other) k (other ∷ numbers_of o.others) y (own.3, keeper_of_others r.keeper r.logs o.others other theirs.others) in
             let z : suc id ≡ suc other = sym left ∙ right in apart (omega arith))));
+        before = was.before;
+        unborn = λ silent _. let f : true ≡ false = sym live ∙ silent in absurd (cc f);
         cells = was.cells;
         falls = was.falls;
         hub = λ x is. absurd (let e : None ≡ Some x = sym none_held ∙ is in cc e);
@@ -365,14 +431,28 @@ module _ (C H E B M R S : Type 0) (law : Meaning C H E B M R S) (base : B) where
 
   -- a load of word 0 tells that all that was seen begins one history
   pub compares : (slots id : ℕ) (m : Me Pl Vw) → m.0.live ≡ true → Allows Rl slots id m 0 (λ n. n) (Compares (step slots 0 0 0 none) m)
-  compares slots id m live s r long at small = let was = r.each id m.0 at in let own = was.own live in
-      (m.0, keeps, tt, unmoved C H E B M R S law base s r 0 id m.0 m.1 at, (refl, (r.journal, was.seen own.2, was.old), subst (λ n. AreDistinct (n ∷ numbers_of m.0.others)) (sym own.0) was.distinct))
+  compares slots id m live s r long at small = let was = r.each id m.0 at in let own = was.own live in (
+    m.0,
+    keeps,
+    tt,
+    unmoved C H E B M R S law base s r 0 id m.0 m.1 at,
+    (
+      refl,
+      record {
+        history = r.journal;
+        seen = was.seen own.2;
+        old = was.old;
+        distinct = subst (λ n. AreDistinct (n ∷ numbers_of m.0.others)) (sym own.0) was.distinct;
+      },
+    ),
+  )
 
-pub longer_none : {B E R : Type 0} (g : B) (h : Story B E R) → longer (no_story g) h ≡ h
-longer_none g h = let b : nat_le 0 (length h.deeds) ≡ true = grind (arith, nat_tests) in ap (λ z. longer_if z (no_story g) h) b
+-- a new pass has nothing in hand
+pub rests_new : {C H E B M R S : Type 0} (n : ℕ) (h : Story B E R) (m : Me (Place C H) (View H E B M R S)) → m ≡ (new_view n h, []) → Rests m
+rests_new {C} {H} {E} {B} {M} {R} {S} n h m is = subst (λ (z : Me (Place C H) (View H E B M R S)). Rests z) (sym is) record { live = refl; cells = refl; hub = refl; slots = refl }
 
 -- what a load of word 0 tells of two histories that were seen
-pub told_is : {H E B M R S : Type 0} (a b : Story B E R) (v w : View H E B M R S) → v.old ≡ a ∷ b ∷ [] → v.seen ≡ longer a b → w ≡ v → (h : Story B E R) × Begins v.seen h × Every (λ k. Begins k h) v.old → Begins a w.seen × Begins b w.seen
+pub told_is : {H E B M R S : Type 0} (a b : Story B E R) (v w : View H E B M R S) → v.old ≡ a ∷ b ∷ [] → v.seen ≡ longer a b → w ≡ v → Knows v → Begins a w.seen × Begins b w.seen
 told_is a b v w old seen same t =
-    let both : Every (λ k. Begins k t.0) (a ∷ b ∷ []) = subst (Every (λ k. Begins k t.0)) old t.2 in
-    subst (λ h. Begins a h × Begins b h) (sym (ap (λ x. x.seen) same ∙ seen)) (longer_has a b t.0 both.0 both.1.0)
+    let both : Every (λ k. Begins k t.history) (a ∷ b ∷ []) = subst (Every (λ k. Begins k t.history)) old t.old in
+    subst (λ h. Begins a h × Begins b h) (sym (ap (λ x. x.seen) same ∙ seen)) (longer_has a b t.history both.0 both.1.0)

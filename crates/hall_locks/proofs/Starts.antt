@@ -64,6 +64,8 @@ module _ (C H E B M R S : Type 0) (law : Meaning C H E B M R S) where
     did = λ _. refl;
     others = tt;
     distinct = (not_none 0, tt);
+    before = tt;
+    unborn = λ silent. absurd (cc silent);
     cells = tt;
     falls = tt;
     hub = λ x is. absurd (cc is);

@@ -1,9 +1,10 @@
--- The rule of a hall, and what each step tells.
--- Word 0 is the hub's, and word c + 1 that of cell c; a word is 1 while its cell or hub is taken, else 0.
+-- The rule of a hall. `specs/Steps.antt` has what each step of a seat must meet and tells.
+-- Word 0 is the hub's, and word c + 1 that of cell c. A word is 0 while its cell or hub is free, 1 while it is taken,
+-- and 2 while it is taken and somebody may wait for it.
 use Rattle.std.specs.Prelude.{◌≡◌, ◌≢◌, nat_le, ℕ, suc, ◌+◌, ◌<◌, ◌≤◌, Bool, true, false, List, [], ◌∷◌, ◌++◌, length, slice_index, slice_get, Option, None, Some, zero}
 use mathlib.Core.Option.{some}
 use lib.ListN.{get_elem?}
-use Rattle.atomic_table.specs.Table.{State, Me, Step, rest}
+use Rattle.atomic_table.specs.Table.{State}
 use Rattle.histories.specs.declared.story.Story.{Story}
 use Rattle.histories.specs.declared.story.Deed.{Deed}
 use Rattle.histories.specs.declared.story.Deed.TheVariants.{Entry, Item}
@@ -71,8 +72,8 @@ abbrev pub longer : {B E R : Type 0} → Story B E R → Story B E R → Story B
 longer h k = longer_if (nat_le (length h.deeds) (length k.deeds)) h k
 
 -- the view of a new pass
-abbrev pub pass_view : {H E B M R S : Type 0} → ℕ → Story B E R → View H E B M R S
-pass_view n h = record {
+abbrev pub new_view : {H E B M R S : Type 0} → ℕ → Story B E R → View H E B M R S
+new_view n h = record {
   live = true;
   tells = true;
   number = n;
@@ -80,17 +81,18 @@ pass_view n h = record {
   old = [];
   log = [];
   others = [];
+  before = [];
   bound = [];
   cells = [];
   hub = None;
 }
 
 abbrev pub first_view : {H E B M R S : Type 0} → B → View H E B M R S
-first_view g = pass_view 0 (no_story g)
+first_view g = new_view 0 (no_story g)
 
--- a note of what was seen
-abbrev pub note_view : {H E B M R S : Type 0} → Story B E R → View H E B M R S
-note_view h = record {
+-- a note of what was seen, and of seats that were before it
+abbrev pub note_view : {H E B M R S : Type 0} → Story B E R → List ℕ → View H E B M R S
+note_view h numbers = record {
   live = false;
   tells = true;
   number = 0;
@@ -98,6 +100,7 @@ note_view h = record {
   old = [];
   log = [];
   others = [];
+  before = numbers;
   bound = [];
   cells = [];
   hub = None;
@@ -113,6 +116,7 @@ spent_view g = record {
   old = [];
   log = [];
   others = [];
+  before = [];
   bound = [];
   cells = [];
   hub = None;
@@ -145,23 +149,6 @@ module _ {H E B M R S : Type 0} where
     old = v.seen ∷ o.seen ∷ [];
     others = v.others ++ (o.number, o.log) ∷ o.others;
   }
-
-module _ {C H E B M R S : Type 0} where
-  abbrev pub GivesCell : Step (Place C H) → Me (Place C H) (View H E B M R S) → ℕ
-      → Me (Place C H) (View H E B M R S) → Type 0
-  GivesCell st m found w = (x : ℕ × Place C H) × (m.1 ≡ x ∷ w.1) × (w.0 ≡ with_cells m.0 (rest m.0.cells))
-
-  -- a new pass, with the number of seats so far
-  abbrev pub Enters : Step (Place C H) → Me (Place C H) (View H E B M R S) → ℕ → Me (Place C H) (View H E B M R S)
-      → Type 0
-  Enters st m found w = (n : ℕ) × (w.0 ≡ pass_view n m.0.seen)
-
-  -- nothing changes, all that was seen begins one history, and each log in the view is of another seat
-  abbrev pub Compares : Step (Place C H) → Me (Place C H) (View H E B M R S) → ℕ → Me (Place C H) (View H E B M R S)
-      → Type 0
-  Compares st m found w =
-      (w ≡ m) × ((h : Story B E R) × Begins m.0.seen h × Every (λ k. Begins k h) m.0.old)
-      × AreDistinct (m.0.number ∷ numbers_of m.0.others)
 
 module _ {C H E B M R S : Type 0} (law : Meaning C H E B M R S) where
   -- what the cell shows after the history
@@ -213,28 +200,6 @@ module _ {C H E B M R S : Type 0} (law : Meaning C H E B M R S) where
   abbrev pub WasShown : B → ℕ × S → Type 0
   WasShown base p = (es : List E) × IsLegalAfter (law.may_follow base) [] es × (p.1 ≡ law.shown_after base es p.0)
 
-  abbrev pub TakesCell : List ℕ → Step (Place C H) → Me (Place C H) (View H E B M R S) → ℕ
-      → Me (Place C H) (View H E B M R S) → Type 0
-  TakesCell bound st m found w =
-      (found ≡ 0 → (c : ℕ) × (x : C) × (st.word ≡ suc c)
-      × (w ≡ (with_cell m.0 bound c (law.shows x), (suc c, Cell x) ∷ m.1))
-      × WasShown m.0.seen.base (c, law.shows x))
-      × (found ≢ 0 → w ≡ m)
-
-  abbrev pub TakesHub : Step (Place C H) → Me (Place C H) (View H E B M R S) → ℕ → Me (Place C H) (View H E B M R S)
-      → Type 0
-  TakesHub st m found w =
-      (found ≡ 0 → (h : H) × (seen : Story B E R) × (w ≡ (with_hub m.0 seen h, (0, Hub h) ∷ m.1))
-      × Begins m.0.seen seen × (law.base_of h ≡ seen.base) × (law.entries h ≡ entries_of seen.deeds)
-      × law.keeps h seen m.0.number m.0.log × IsLegalAfter (law.may_follow seen.base) [] (entries_of seen.deeds)
-      × Every (λ p. p.1 ≡ shown_by seen p.0) m.0.cells
-      × (deeds_by m.0.number seen.deeds ≡ deeds_by m.0.number m.0.seen.deeds))
-      × (found ≢ 0 → w ≡ m)
-
-  abbrev pub GivesHub : Option M → Step (Place C H) → Me (Place C H) (View H E B M R S) → ℕ
-      → Me (Place C H) (View H E B M R S) → Type 0
-  GivesHub mark st m found w = (next : H) × (m.1 ≡ (0, Hub next) ∷ w.1) × (w.0 ≡ given_hub m.0 next mark)
-
   -- an entry is legal after the history, and the cells of its footprint are in hand
   abbrev pub IsDue : Story B E R → List ℕ → Option (Deed E R) → Type 0
   IsDue h hand None = Unit {0}
@@ -274,6 +239,9 @@ module _ {C H E B M R S : Type 0} (law : Meaning C H E B M R S) where
     pub did : v.live ≡ true → deeds_by seat v.seen.deeds ≡ deeds_by seat journal.deeds
     pub others : Every (λ p. (p.1 ≡ logs p.0) × (keeper p.0 ≡ suc seat)) v.others
     pub distinct : AreDistinct (seat ∷ numbers_of v.others)
+    -- a note names seats that were before it, and is no seat yet
+    pub before : Every (λ n. n < seat) v.before
+    pub unborn : v.live ≡ false → v.tells ≡ true → keeper seat ≡ 0
     pub cells : Every (InHand journal holder v.bound seat) v.cells
     pub falls : Falls v.cells
     pub hub : (h : H) → v.hub ≡ Some h → HubInHand journal holder logs seat v.seen h
@@ -376,10 +344,10 @@ module _ {C H E B M R S : Type 0} (law : Meaning C H E B M R S) where
     pub keeper : ℕ → ℕ
     -- of each number, the log of the seat that has or had it
     pub logs : ℕ → List M
-    -- a word is 1 exactly where one seat has its cell or the hub in hand
+    -- a word is not 0 exactly where one seat has its cell or the hub in hand
     pub wide : length s.words ≡ length s.homes
     pub free : (k : ℕ) → k < length s.words → slice_index s.words k ≡ 0 → holder k ≡ 0
-    pub taken : (k : ℕ) → k < length s.words → slice_index s.words k ≢ 0 → (slice_index s.words k ≡ 1) × (0 < holder k)
+    pub taken : (k : ℕ) → k < length s.words → slice_index s.words k ≢ 0 → (slice_index s.words k ≤ 2) × (0 < holder k)
     pub whose : (k : ℕ) → k < length s.words → slice_index s.words k ≢ 0 → Whose holder s.views k
     pub nowhere : (k : ℕ) → length s.words ≤ k → holder k ≡ 0
     -- words and views show a floor, which the steps move by their events

@@ -4,7 +4,7 @@ use Rattle.atomic_table.specs.Table.{Me}
 use Rattle.histories.specs.declared.story.Story.{Story}
 use Rattle.histories.specs.declared.story.Deed.{Deed}
 use Rattle.histories.specs.declared.story.Deed.TheVariants.{Entry, Item}
-use Rattle.hall_core.specs.Meanings.{Among, Meaning, Adds, adds_nothing, adds_entry, adds_item}
+use Rattle.hall_core.specs.Meanings.{Among, Meaning, Adds, adds_nothing, adds_entry, adds_item, Pairs}
 use Rattle.histories.specs.History.{Begins, IsLegalAfter, entries_of, deeds_by, Every}
 use Rattle.hall_locks.specs.declared.view.View.{View}
 use Rattle.hall_locks.specs.declared.view.Place.{Place}
@@ -80,10 +80,12 @@ module _ {C H E B M R S : Type 0} (law : Meaning C H E B M R S) where
     pub goes_on : Begins before.seen seen
     pub base : law.base_of hub ≡ seen.base
     pub entries : law.entries hub ≡ entries_of seen.deeds
+    -- the hub keeps of the seat what the law says of its log, and its log is that of what it did
     pub own : law.keeps hub seen before.number before.log
+    pub logged : Pairs law.adds law.fits before.log (deeds_by before.number seen.deeds)
     pub legal : IsLegalAfter (law.may_follow seen.base) [] (entries_of seen.deeds)
     pub shown : Every (λ p. p.1 ≡ shown_by law seen p.0) before.cells
-    -- what was seen has all that the seat did
+    -- nobody else did anything in the seat's name
     pub did : deeds_by before.number seen.deeds ≡ deeds_by before.number before.seen.deeds
 
   -- each cell in hand shows what it showed when it was taken. The view has the last one first

@@ -1,14 +1,15 @@
 //! One cell is taken or given back.
 ghost use Rattle.std.specs.Prelude.{◌≡◌, ℕ, suc, ◌+◌, ◌<◌, ◌∷◌, None, true};
-ghost use Rattle.hall_core.specs.Meanings.{Among};
-ghost use Rattle.histories.specs.History.{Every};
 ghost use Rattle.atomic_table.specs.Table.{rest};
+ghost use Rattle.histories.specs.History.{Every};
 ghost use Rattle.hall_locks.specs.Hall.{with_cell, with_cells, WasShown};
-ghost use Rattle.hall_locks.specs.declared.view.Place.TheVariants.{Away};
+ghost use Rattle.hall_locks.specs.Steps.{MayTake, TookCell};
+ghost use Rattle.hall_locks.specs.declared.view.Place.TheVariants.{Away, Cell};
 
 use crate::hall::{Hall, Token};
 use crate::plays::{Footprint, GivesCell, TakesCell};
 use crate::view::Place;
+use crate::words::{AWAITED, FREE, TAKEN};
 use hall_core::Law;
 use std::sync::Wait;
 
@@ -21,33 +22,53 @@ impl<T: Law> Hall<T> {
         cell: usize,
     ) -> T::Cell
         requires own { seat.old.table_id ≡ self.now.table.shared.table_id }
-        requires inside { cell < self.now.count }
-        requires above { Every (λ p. p.0 < cell) seat.old.me.0.cells }
-        requires within { Every (λ p. Among p.0 B.bound) seat.old.me.0.cells }
-        requires among { Among cell B.bound }
+        requires inside { Every (λ c. c < self.now.count) B.bound }
         requires live { seat.old.me.0.live ≡ true }
-        requires no_hub { seat.old.me.0.hub ≡ None }
+        requires may { MayTake seat.old.me.0 B.bound cell }
         ensures own { (seat.new.table_id ≡ seat.old.table_id) × (seat.new.id ≡ seat.old.id) }
         ensures taken { seat.new.me
             ≡ (with_cell seat.old.me.0 B.bound cell (T.meaning.shows result), (suc cell, Away) ∷ seat.old.me.1) }
         ensures was { WasShown T.meaning seat.old.me.0.seen.base (cell, T.meaning.shows result) }
     {
+        self.take_word::<B, R>(rt, seat, cell);
+        self.take_out(seat, cell + 1)
+    }
+
+    // The cell's word, once it is free.
+    fn take_word<B: Footprint, R: Wait>(&self, rt: &R, seat: &mut Token<T>, cell: usize)
+        requires own { seat.old.table_id ≡ self.now.table.shared.table_id }
+        requires inside { Every (λ c. c < self.now.count) B.bound }
+        requires live { seat.old.me.0.live ≡ true }
+        requires may { MayTake seat.old.me.0 B.bound cell }
+        ensures own { (seat.new.table_id ≡ seat.old.table_id) × (seat.new.id ≡ seat.old.id) }
+        ensures took { TookCell T.meaning B.bound (cell + 1) seat.old.me seat.new.me }
+    {
         let word = cell + 1;
+        let table = &self.table.shared;
+        if table.compare_exchange::<TakesCell<T, B>>(seat, word, FREE, TAKEN) == FREE {
+            return;
+        }
         for _ in rt.forever() {
-            if self
-                .table
-                .shared
-                .compare_exchange::<TakesCell<T, B>>(seat, word, 0, 1)
-                == 0
-            {
-                let Place::Cell(x) = self.table.shared.exchange(seat, word, Place::Away) else {
-                    unreachable!()
-                };
-                return x;
+            if table.swap::<TakesCell<T, B>>(seat, word, AWAITED) == FREE {
+                return;
             }
-            self.table.shared.park(rt, word, 1);
+            table.park(rt, word, AWAITED as u32);
         }
         unreachable!()
+    }
+
+    // The cell out of its slot, whose word is taken.
+    fn take_out(&self, seat: &mut Token<T>, word: usize) -> T::Cell
+        requires own { seat.old.table_id ≡ self.now.table.shared.table_id }
+        requires there { (x : T.Cell) × (seat.old.me.1 ≡ (word, Cell x) ∷ rest seat.old.me.1) }
+        ensures own { (seat.new.table_id ≡ seat.old.table_id) × (seat.new.id ≡ seat.old.id) }
+        ensures value { seat.old.me.1 ≡ (word, Cell result) ∷ rest seat.old.me.1 }
+        ensures away { seat.new.me ≡ (seat.old.me.0, (word, Away) ∷ rest seat.old.me.1) }
+    {
+        let Place::Cell(cell) = self.table.shared.exchange(seat, word, Place::Away) else {
+            unreachable!()
+        };
+        cell
     }
 
     // Gives back the cell that was taken last.
@@ -63,7 +84,7 @@ impl<T: Law> Hall<T> {
     {
         let word = cell + 1;
         self.table.shared.exchange(seat, word, Place::Cell(value));
-        self.table.shared.store::<GivesCell>(seat, word, 0);
-        self.table.shared.wake_one(word);
+        let found = self.table.shared.swap::<GivesCell>(seat, word, FREE);
+        self.wake(word, found);
     }
 }

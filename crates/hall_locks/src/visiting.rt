@@ -2,6 +2,7 @@
 ghost use Rattle.std.specs.Prelude.{◌≡◌, ◌<◌, ◌≤◌, [], length, IfOk, IfErr, IsOk, vec_capacity};
 ghost use Rattle.histories.specs.History.{Every};
 ghost use Rattle.hall_locks.specs.Hall.{WasShown};
+ghost use Rattle.hall_locks.specs.Passes.{hall_id, pass_hall, pass_view, pass_seen, visit_hall, visit_view};
 ghost use Rattle.hall_locks.specs.Hands.{Carries, Rises, in_visit, Rests, AsTaken};
 
 use crate::hall::{Hall, Token};
@@ -86,15 +87,15 @@ impl<T: Law> Hall<T> {
         pass: Pass<T>,
         footprint: Vec<u32>,
     ) -> Result<Visit<T>, (Pass<T>, NoMemory)>
-        requires own { pass.seat.table_id ≡ self.now.table.shared.table_id }
+        requires own { pass_hall pass ≡ hall_id self.now }
         requires rises { Rises footprint.items }
         requires inside { Every (λ c. c < self.now.count) footprint.items }
-        ensures own { IfOk result (λ v. v.seat.table_id ≡ pass.seat.table_id) }
+        ensures own { IfOk result (λ v. visit_hall v ≡ pass_hall pass) }
         ensures footprint { IfOk result (λ v. v.footprint.items ≡ footprint.items) }
-        ensures taken { IfOk result (λ v. AsTaken T.meaning v.seat.me.0 v.cells.items) }
-        ensures same { IfOk result (λ v. v.seat.me.0
-            ≡ in_visit pass.seat.me.0 v.seat.me.0.bound v.seat.me.0.cells) }
-        ensures was { IfOk result (λ v. Every (WasShown T.meaning pass.seat.me.0.seen.base) v.seat.me.0.cells) }
+        ensures taken { IfOk result (λ v. AsTaken T.meaning (visit_view v) v.cells.items) }
+        ensures same { IfOk result (λ v. visit_view v
+            ≡ in_visit (pass_view pass) (visit_view v).bound (visit_view v).cells) }
+        ensures was { IfOk result (λ v. Every (WasShown T.meaning (pass_seen pass).base) (visit_view v).cells) }
         ensures back { IfErr result (λ e. e.0 ≡ pass) }
         ensures empty { footprint.items ≡ [] → IsOk result }
     {
@@ -113,10 +114,10 @@ impl<T: Law> Hall<T> {
 
     /// Gives the cells back, which show what they showed when they were taken. It takes no memory.
     pub fn leave(&self, visit: Visit<T>) -> Pass<T>
-        requires own { visit.seat.table_id ≡ self.now.table.shared.table_id }
-        requires taken { AsTaken T.meaning visit.seat.me.0 visit.cells.items }
-        ensures own { result.seat.table_id ≡ visit.seat.table_id }
-        ensures same { result.seat.me.0 ≡ in_visit visit.seat.me.0 visit.seat.me.0.bound [] }
+        requires own { visit_hall visit ≡ hall_id self.now }
+        requires taken { AsTaken T.meaning (visit_view visit) visit.cells.items }
+        ensures own { pass_hall result ≡ visit_hall visit }
+        ensures same { pass_view result ≡ in_visit (visit_view visit) (visit_view visit).bound [] }
     {
         let Visit {
             mut seat,

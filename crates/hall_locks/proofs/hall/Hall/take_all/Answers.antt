@@ -1,29 +1,17 @@
-use Rattle.std.proofs.Common.{rules, ◌≡◌, ◌+◌, refl, sym, ap, ◌∙◌, subst, arith, get_or, length, [], ◌∷◌, length-append, map}
+use Rattle.std.proofs.Common.{rules, ◌≡◌, ◌+◌, ◌<◌, refl, sym, ap, ◌∙◌, subst, arith, get_or, length, [], ◌∷◌, length-append, map}
 use mathlib.Core.List.{map-append}
 use Rattle.hall_core.specs.Meanings.{Among}
 use Rattle.histories.specs.History.{Every}
 use Rattle.hall_locks.specs.Hall.{WasShown}
 use Rattle.hall_locks.specs.Hands.{Taking}
-use Rattle.hall_locks.proofs.CellByCell.{takes_one, all_below, carries_all}
+use Rattle.hall_locks.proofs.CellByCell.{takes_one, may_take, carries_all}
 use Rattle.hall_locks.proofs.hall.Hall.take_all.Goals as goal
 
-pub take-x-requires-clause-own : goal.take-x-requires-clause-own
-take-x-requires-clause-own g c = c.loop-i.invariant.0 ∙ c.requires.own
-
 pub take-x-requires-clause-inside : goal.take-x-requires-clause-inside
-take-x-requires-clause-inside g c = (all_below _ _ _ _ _ _ _ _ c.loop-i-test.true refl c.loop-i.invariant.2).1
+take-x-requires-clause-inside g c = subst (Every (λ n. n < c.args.self.now.count)) c.requires.bound c.requires.inside
 
-pub take-x-requires-clause-above : goal.take-x-requires-clause-above
-take-x-requires-clause-above g c = (all_below _ _ _ _ _ _ _ _ c.loop-i-test.true refl c.loop-i.invariant.2).0
-
-pub take-x-requires-clause-within : goal.take-x-requires-clause-within
-take-x-requires-clause-within g c = c.loop-i.invariant.2.bounded
-
-pub take-x-requires-clause-among : goal.take-x-requires-clause-among
-take-x-requires-clause-among g c = subst (λ l. Among (get_or c.args.footprint.now c.loop-i.i 0) l) c.requires.bound (c.loop-i.i, c.loop-i-test.true, refl)
-
-pub take-x-requires-clause-no_hub : goal.take-x-requires-clause-no_hub
-take-x-requires-clause-no_hub g c = ap (λ v. v.hub) c.loop-i.invariant.2.same ∙ c.requires.rests.hub
+pub take-x-requires-clause-may : goal.take-x-requires-clause-may
+take-x-requires-clause-may g c = let may = may_take c.args.seat.now.me c.loop-i.seat.me g.B.Footprint.bound c.args.footprint.now c.args.self.now.count c.loop-i.i (map g.T.Law.meaning.shows c.loop-i.cells.items) c.loop-i-test.true c.requires.bound c.requires.rests.hub c.loop-i.invariant.2 in search (rules, may)
 
 pub loop-i-preserved : goal.loop-i-preserved
 loop-i-preserved g c = (
@@ -52,9 +40,6 @@ returns-clause-many g c = let e : c.loop-i.i ≡ length c.args.footprint.now = s
 
 pub returns-clause-same : goal.returns-clause-same
 returns-clause-same g c = c.loop-i.invariant.2.same
-
-pub take-x-requires-clause-live : goal.take-x-requires-clause-live
-take-x-requires-clause-live g c = ap (λ v. v.live) c.loop-i.invariant.2.same ∙ c.requires.rests.live
 
 pub returns-clause-was : goal.returns-clause-was
 returns-clause-was g c = c.loop-i.invariant.5
