@@ -8,20 +8,6 @@ cd "$(dirname "$0")/.."
 thousands=$((${1:-100000} / 1000))
 others=1000
 
-# A number in four bytes of little endian.
-word() {
-    local hex
-    printf -v hex '\\x%02X\\x%02X\\x%02X\\x%02X' $(($1 & 255)) $(($1 >> 8 & 255)) $(($1 >> 16 & 255)) $(($1 >> 24 & 255))
-    printf "$hex"
-}
-
-# A frame of a command, given as two digits, whose payload is read from a file.
-frame() {
-    printf "\\xCA\\x02\\x00\\x$1"
-    word "$(stat -c %s "$2")"
-    cat "$2"
-}
-
 {
     echo 'record(longout, "X") {}'
     for number in $(seq "$others"); do printf 'record(longout, "R%04d") {}\n' "$number"; done

@@ -11,6 +11,20 @@ validation() {
     printf '\xCA\x02\x00\x01\x13\x00\x00\x00\x00\x00\x01\x00\x00\x00\x00\x00\x09anonymous\xFF'
 }
 
+# A number in four bytes of little endian.
+word() {
+    local hex
+    printf -v hex '\\x%02X\\x%02X\\x%02X\\x%02X' $(($1 & 255)) $(($1 >> 8 & 255)) $(($1 >> 16 & 255)) $(($1 >> 24 & 255))
+    printf "$hex"
+}
+
+# A frame of a command, given as two digits, whose payload is read from a file.
+frame() {
+    printf "\\xCA\\x02\\x00\\x$1"
+    word "$(stat -c %s "$2")"
+    cat "$2"
+}
+
 # What a client sends first: a validation, a channel of X or of another name of one byte, and request 1, which begins by the
 # command whose byte is given.
 opening() {

@@ -14,7 +14,7 @@ use Rattle.pvaserve.specs.Completeness.{Completes, IsDoneSmoothly, IsServedSmoot
 use Rattle.pvaserve.specs.declared.loading.SourceStop.{SourceStop}
 use Rattle.pvaserve.specs.declared.loading.SourceStop.TheVariants as stops
 use Rattle.pvaserve.specs.declared.words.Task.{Task}
-use Rattle.pvaserve.specs.declared.words.Task.TheVariants.{Inetd, Check}
+use Rattle.pvaserve.specs.declared.words.Task.TheVariants.{Inetd, Check, Drill}
 
 by_end : (ended : Ended) (status : ℕ) → status ≡ status_of ended → (ended ≡ ends.Closed) ⊎ (ended ≡ ends.NoMemory) → (status ≡ 0) ⊎ (status ≡ 7)
 by_end ended status same (inl closed) = inl (same ∙ ap status_of closed)
@@ -32,16 +32,17 @@ site_done asked site told old new status none (inl s) smooth = by_end s.ended st
 site_done asked site told old new status none (inr (inl u)) smooth = absurd (none u.unmade.faults)
 site_done asked site told old new status none (inr (inr u)) smooth = inr u.status_is
 
-task_done : (task : Task) (asked : Asked) (found : Result SiteData SourceStop) (told : Option (ℤ × ℕ)) (old new : Outside) (status : ℕ)
+task_done : (task : Task) (asked : Asked) (source : Source) (found : Result SiteData SourceStop) (told : Option (ℤ × ℕ)) (old new : Outside) (status : ℕ)
     → ((fault : SiteFault) → ¬ (found ≡ Err (stops.Fault fault))) → ¬ (Rose old.files.faults new.files.faults) → ¬ (Rose old.ports.faults new.ports.faults)
-    → Opens asked.macros asked.source old.files new.files found
+    → Opens asked.macros source old.files new.files found
     → (does : Does task asked found told old new status) → IsDoneSmoothly task asked found told old new status does → (status ≡ 0) ⊎ (status ≡ 7)
-task_done Check asked found told old new status text files ports opens does smooth = absurd smooth
-task_done Inetd asked (Ok site) told old new status text files ports opens does smooth = site_done asked site told old new status ports does.0 smooth
-task_done Inetd asked (Err stops.Unread) told old new status text files ports opens does smooth = absurd (no_fault_read asked.macros asked.source old.files new.files files opens)
-task_done Inetd asked (Err (stops.Fault fault)) told old new status text files ports opens does smooth = absurd (text fault refl)
-task_done Inetd asked (Err stops.NoMemory) told old new status text files ports opens does smooth = inr does.0.status_is
+task_done Check asked source found told old new status text files ports opens does smooth = absurd smooth
+task_done (Drill n) asked source found told old new status text files ports opens does smooth = absurd smooth
+task_done Inetd asked source (Ok site) told old new status text files ports opens does smooth = site_done asked site told old new status ports does.0 smooth
+task_done Inetd asked source (Err stops.Unread) told old new status text files ports opens does smooth = absurd (no_fault_read asked.macros source old.files new.files files opens)
+task_done Inetd asked source (Err (stops.Fault fault)) told old new status text files ports opens does smooth = absurd (text fault refl)
+task_done Inetd asked source (Err stops.NoMemory) told old new status text files ports opens does smooth = inr does.0.status_is
 
 pub completes : Completes
 completes words told old new status run none =
-    task_done run.asked.task run.asked run.found told old new status none.text none.files none.ports run.opens run.does none.smooth
+    task_done run.asked.task run.asked run.source run.found told old new status none.text none.files none.ports run.opens run.does none.smooth

@@ -1,9 +1,15 @@
 mod Numbers
 mod Sources
 mod Making
+mod Outcomes
 mod Command
 mod Pairs
 mod Rows
 mod Opened
 mod Told
 mod Completing
+mod Pumping
+mod Uncounted
+mod Drawing
+mod Totalling
+mod Summing

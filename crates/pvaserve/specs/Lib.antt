@@ -1,5 +1,7 @@
 pub mod Words
 pub mod Opening
 pub mod Telling
+pub mod Drilling
+pub mod Drives
 pub mod Running
 pub mod Completeness

@@ -1,5 +1,5 @@
 -- What a run of the program does.
-use Rattle.std.specs.Prelude.{◌≡◌, ◌⊎◌, ℕ, ℤ, List, length, Option, Result, Ok, Err}
+use Rattle.std.specs.Prelude.{◌≡◌, ◌⊎◌, ℕ, ℤ, List, length, Option, Some, Result, Ok, Err}
 use Rattle.pva_outside.specs.Files.{FilesView}
 use Rattle.pva_outside.specs.Makers.{MakerView}
 use Rattle.pva_outside.specs.Wire.{Wire}
@@ -14,10 +14,11 @@ use Rattle.srv_stream.specs.Served.{Served}
 use Rattle.srv_stream.specs.Streams.{moment_told}
 use Rattle.srv_stream.specs.declared.ended.Ended.{Ended}
 use Rattle.srv_stream.specs.declared.ended.Ended.TheVariants as ends
+use Rattle.pvaserve.specs.Drilling.{DrillRun, drill_lines}
 use Rattle.pvaserve.specs.Opening.{Opens, AllMade, OneUnmade, SomeMade}
 use Rattle.pvaserve.specs.Telling.{IsPrinted, counts_line, fault_line}
 use Rattle.clap.specs.Words.{Text}
-use Rattle.pvaserve.specs.Words.{Asked, AreTaken}
+use Rattle.pvaserve.specs.Words.{Asked, AreTaken, Source}
 use Rattle.pvaserve.specs.declared.loading.SourceStop.{SourceStop}
 use Rattle.pvaserve.specs.declared.loading.SourceStop.TheVariants.{Unread, Fault, NoMemory}
 use Rattle.pvaserve.specs.declared.ports.PortsStop.{PortsStop}
@@ -25,7 +26,7 @@ use Rattle.pvaserve.specs.declared.ports.PortsStop.TheVariants as unmade
 use Rattle.pvaserve.specs.declared.telling.Printed.{Printed}
 use Rattle.pvaserve.specs.declared.telling.Printed.TheVariants as printing
 use Rattle.pvaserve.specs.declared.words.Task.{Task}
-use Rattle.pvaserve.specs.declared.words.Task.TheVariants.{Inetd, Check}
+use Rattle.pvaserve.specs.declared.words.Task.TheVariants.{Inetd, Check, Drill}
 
 -- what stands outside of the program: its link, its files, what makes its ports, what was printed (None: not told), and
 -- how often printing failed
@@ -134,7 +135,7 @@ Checking (Err Unread) old new faults faults' status = IsSilent old new faults fa
 Checking (Err (Fault fault)) old new faults faults' status = Tells (fault_line fault) 4 old new faults faults' status
 Checking (Err NoMemory) old new faults faults' status = IsSilent old new faults faults' status 7
 
--- `--check` uses neither ports nor the link, and `--inetd` prints nothing.
+-- `--check` uses neither ports nor the link, and `--inetd` prints nothing. The drill has no source.
 abbrev pub Does : Task → Asked → Result SiteData SourceStop → Option (ℤ × ℕ) → Outside → Outside → ℕ → Type 0
 Does Check asked found told old new status =
     Checking found old.printed new.printed old.print_faults new.print_faults status
@@ -142,13 +143,32 @@ Does Check asked found told old new status =
 Does Inetd asked found told old new status =
     Serving asked found told old.ports new.ports old.wire new.wire status
     × IsSilent old.printed new.printed old.print_faults new.print_faults status status
+Does (Drill n) asked found told old new status = ⊥
 
--- The words ask for a task: it was done.
+-- What the drill of this number prints: the five lines of a run of it. Memory may run out, and then nothing is printed.
+abbrev pub Drilling : ℕ → Option (List ℕ) → Option (List ℕ) → ℕ → ℕ → ℕ → Type 0
+Drilling n old new faults faults' status =
+    ((run : DrillRun n) × IsTold (drill_lines n run) 0 old new faults faults' status)
+    ⊎ IsSilent old new faults faults' status 7
+
+-- The words ask for a drill: it was run. Files, ports and the link weren't used.
+pub record IsDrilled (words : List Text) (old new : Outside) (status : ℕ) : Type 0 where
+  pub asked : Asked
+  pub taken : AreTaken words asked
+  pub number : ℕ
+  pub task_is : asked.task ≡ Drill number
+  pub drills : Drilling number old.printed new.printed old.print_faults new.print_faults status
+  pub files : new.files ≡ old.files
+  pub unasked : IsUnasked old.ports new.ports old.wire new.wire status status
+
+-- The words ask for a source to be served or checked: it was done.
 pub record IsDone (words : List Text) (told : Option (ℤ × ℕ)) (old new : Outside) (status : ℕ) : Type 0 where
   pub asked : Asked
   pub taken : AreTaken words asked
+  pub source : Source
+  pub source_is : asked.source ≡ Some source
   pub found : Result SiteData SourceStop
-  pub opens : Opens asked.macros asked.source old.files new.files found
+  pub opens : Opens asked.macros source old.files new.files found
   pub does : Does asked.task asked found told old new status
 
 -- The words aren't taken: nothing was done.
@@ -165,4 +185,5 @@ pub record IsUnread (old new : Outside) (status : ℕ) : Type 0 where
 -- one run of the program with these words, at the moment that the clock tells
 abbrev pub Runs : List Text → Option (ℤ × ℕ) → Outside → Outside → ℕ → Type 0
 Runs words told old new status =
-    IsDone words told old new status ⊎ (IsRefused words old new status ⊎ IsUnread old new status)
+    IsDone words told old new status
+    ⊎ (IsDrilled words old new status ⊎ (IsRefused words old new status ⊎ IsUnread old new status))

@@ -1,6 +1,6 @@
 -- What the words of the command line mean.
 use Rattle.std.specs.Prelude.{◌≡◌, ℕ, ℤ, ◌-◌, ◌≤◌, ◌^◌, Bool, true, false, not, ◌&&◌, ◌||◌, ◌==◌, nat_le, List, [], ◌∷◌, ◌++◌, length, get_or}
-use Rattle.std.specs.Prelude.{Option, None, Some, Result, Ok, Err, Contains, FitsSigned, codes, if◌then◌else◌, ⊤, bytes_eq}
+use Rattle.std.specs.Prelude.{Option, None, Some, is_some, Result, Ok, Err, Contains, FitsSigned, codes, if◌then◌else◌, ⊤, bytes_eq, option_map}
 use Rattle.std.specs.Int.{w32}
 use Rattle.std.specs.Fmt.{decimal, signed_decimal}
 use Rattle.std.specs.List.{list_all, slice_split}
@@ -15,11 +15,11 @@ use Rattle.pvaserve.specs.declared.source.Source.{Source as SourceRead}
 use Rattle.pvaserve.specs.declared.source.Source.TheVariants as sources
 use Rattle.pvaserve.specs.declared.words.Asked.{Asked as AskedRead}
 use Rattle.pvaserve.specs.declared.words.Task.{Task}
-use Rattle.pvaserve.specs.declared.words.Task.TheVariants.{Inetd, Check}
+use Rattle.pvaserve.specs.declared.words.Task.TheVariants.{Inetd, Check, Drill}
 use Rattle.pvaserve.specs.declared.words.WordsStop.{WordsStop}
 use Rattle.pvaserve.specs.declared.words.WordsStop.TheVariants.{Refused, NoMemory}
 
--- The command, as `clap` takes it: three flags, three options, and one argument.
+-- The command, as `clap` takes it: three flags, four options, and one argument.
 
 abbrev pub option_rule : Text → Rule
 option_rule name = record (new_rule name) { long = Some name }
@@ -38,11 +38,12 @@ abbrev pub server_app : App
 server_app =
     let a = with_rule bare_app (flag_rule (codes "inetd")) in
     let b = with_rule a (flag_rule (codes "check")) in
-    let c = with_rule b (option_rule (codes "macros")) in
-    let d = with_rule c (flag_rule (codes "big")) in
-    let e = with_rule d (option_rule (codes "journal")) in
-    let f = with_rule e (option_rule (codes "turns")) in
-    with_rule f (new_rule (codes "source"))
+    let c = with_rule b (option_rule (codes "drill")) in
+    let d = with_rule c (option_rule (codes "macros")) in
+    let e = with_rule d (flag_rule (codes "big")) in
+    let f = with_rule e (option_rule (codes "journal")) in
+    let g = with_rule f (option_rule (codes "turns")) in
+    with_rule g (new_rule (codes "source"))
 
 -- what the command finds wrong with the words
 unfoldable pub word_faults : List Text → Kinds
@@ -153,13 +154,31 @@ task_by true false = Some Inetd
 task_by false true = Some Check
 task_by _ _ = None
 
-abbrev pub task_in : List Row → Option Task
-task_in rows = task_by (is_set rows (codes "inetd")) (is_set rows (codes "check"))
+-- the drill of the number that the option for it says
+abbrev pub IsDrill : List ℕ → Task → Type 0
+IsDrill text Inetd = ⊥
+IsDrill text Check = ⊥
+IsDrill text (Drill n) = IsCount text 0 (2 ^ 64 - 1) n
+
+-- the one task that the flags and the option for the drill name
+abbrev pub IsTask : Option Text → Bool → Bool → Task → Type 0
+IsTask None inetd check task = task_by inetd check ≡ Some task
+IsTask (Some text) inetd check task = ((inetd || check) ≡ false) × IsDrill text task
+
+abbrev pub IsTaskIn : List Row → Task → Type 0
+IsTaskIn rows task =
+    IsTask (given rows (codes "drill")) (is_set rows (codes "inetd")) (is_set rows (codes "check")) task
+
+-- all tasks but the drill need a source
+abbrev pub needs_source : Task → Bool
+needs_source Inetd = true
+needs_source Check = true
+needs_source (Drill n) = false
 
 -- what the words ask for
 pub record Asked : Type 0 where
   pub task : Task
-  pub source : Source
+  pub source : Option Source
   pub macros : Macros
   pub order : Order
   pub journal : ℕ
@@ -169,18 +188,27 @@ pub record Asked : Type 0 where
 abbrev pub asked_of : AskedRead → Asked
 asked_of a = record {
   task = a.task;
-  source = source_of a.source;
+  source = option_map source_of a.source;
   macros = a.macros.items;
   order = a.order;
   journal = a.journal;
   turns = a.turns;
 }
 
--- The argument names this source.
-pub record IsSourceIn (rows : List Row) (source : Source) : Type 0 where
-  pub text : List ℕ
-  pub text_is : given rows (codes "source") ≡ Some text
-  pub source_is : IsSource text source
+-- the source that the argument names, if it is given
+abbrev pub IsSourceOr : Option Text → Option Source → Type 0
+IsSourceOr None None = ⊤
+IsSourceOr None (Some source) = ⊥
+IsSourceOr (Some text) None = ⊥
+IsSourceOr (Some text) (Some source) = IsSource text source
+
+-- The text names this source, and there is one where it is needed.
+pub record IsSourceNeeded (given : Option Text) (needed : Bool) (source : Option Source) : Type 0 where
+  pub source_is : IsSourceOr given source
+  pub there : needed ≡ true → is_some source ≡ true
+
+abbrev pub IsSourceIn : List Row → Bool → Option Source → Type 0
+IsSourceIn rows needed source = IsSourceNeeded (given rows (codes "source")) needed source
 
 -- the macros of the option for them; without it there are none
 abbrev pub AreMacrosOr : Option Text → Macros → Type 0
@@ -192,8 +220,8 @@ AreMacrosIn rows macros = AreMacrosOr (given rows (codes "macros")) macros
 
 -- What is given asks for this.
 pub record Asks (rows : List Row) (asked : Asked) : Type 0 where
-  pub task_is : task_in rows ≡ Some asked.task
-  pub source_is : IsSourceIn rows asked.source
+  pub task_is : IsTaskIn rows asked.task
+  pub source_is : IsSourceIn rows (needs_source asked.task) asked.source
   pub macros_are : AreMacrosIn rows asked.macros
   pub order_is : asked.order ≡ order_by (is_set rows (codes "big"))
   pub journal_is : IsCountOr (given rows (codes "journal")) 0 (2 ^ 64 - 1) 268_435_456 asked.journal

@@ -1,6 +1,9 @@
-//! A pvAccess server. It serves the records of a database text over standard input and output, or checks the text.
+//! A pvAccess server. It serves the records of a database text over standard input and output, checks the text, or drills itself.
 #![tactic(auto)]
 
+mod counting;
+mod drill_client;
+mod drilling;
 mod loading;
 mod macros;
 mod ports;
@@ -26,9 +29,11 @@ Serves the records of an EPICS database to pvAccess clients (EPICS 7), or checks
 
 Usage: pvaserve --inetd SOURCE [OPTIONS]
        pvaserve --check SOURCE [--macros A=1,B=2]
+       pvaserve --drill N
 
 --inetd         serves one connection over standard input and output, from its greeting to its end
 --check         prints how many records and groups SOURCE has, or the line where it is wrong (0 where that has none), and why
+--drill N       serves a client in memory that puts 10000 numbers drawn from N and monitors four groups, and prints what it came to
 SOURCE          the file of a database text, or NAME=VALUE: one longout and the decimal value that it opens with
 --macros LIST   what $(A) and $(B) stand for in the text, as A=1,B=2; of two values of one name the last counts
 --big           answers in big endian
@@ -52,6 +57,10 @@ Check it, then serve it to a client that inetd or systemd connects:
 The channels are then BL:M1:Pos, which is BL:M1:Pos.VAL too, and BL:M1:Pos.DESC. A put of 6000 gives BL:M1:Pos
 the alarm HIHI. A record with field(DTYP, \"File\") and field(OUT, \"@file PATH\") appends each value to PATH. Records
 are members of a group, which is a channel too, by info(Q:group, {..}), as the QSRV manual has it.
+
+See how fast the machine is, and that it serves aright: for each N the five lines are always the same.
+
+    time pvaserve --drill 7       (prints: messages 10026, commits 10000, sum 7642, updates 912, closed)
 
 Status: 0 done; 2 words that aren't taken; 3 a file can't be read, or a port's can't be opened; 4 the text is wrong;
 5 the client's stream is wrong; 6 the connection or a print failed; 7 no memory;

@@ -9,6 +9,7 @@ ghost use Rattle.pvaserve.specs.Telling.{counts_line, fault_line};
 ghost use Rattle.pvaserve.specs.Words as words;
 ghost use Rattle.srv_stream.specs.Faults.{EndsAtFirstFault, FirstFault};
 
+use crate::drilling::drill;
 use crate::loading::{SourceStop, read_site};
 use crate::ports::{PortsStop, make_ports};
 use crate::telling::{Printed, line_of_fault, line_of_site, print};
@@ -22,8 +23,8 @@ use std::alloc::Global;
 /// What the exit status tells.
 #[derive(Clone, Copy, Debug, PartialEq, Eq)]
 pub enum Status {
-    /// All is done: the client ended its stream at the boundary of a message, and all was answered; or the source that was
-    /// checked has no fault.
+    /// All is done: the client ended its stream at the boundary of a message, and all was answered; the source that was
+    /// checked has no fault; or the drill is over.
     Done = 0,
     /// The words aren't taken.
     Words = 2,
@@ -104,7 +105,7 @@ fn serve_site<M: PortMaker, L: Link, C: Clock>(
 }
 
 /// The status that tells what became of a line, where this one tells that it was printed whole.
-fn status_by(whole: u8, printed: Printed) -> u8
+pub(crate) fn status_by(whole: u8, printed: Printed) -> u8
     ensures { result ≡ running.status_by whole printed }
 {
     match printed {
@@ -179,9 +180,10 @@ fn status_of_stop(stop: &SourceStop) -> u8
 ///
 /// `--inetd SOURCE` serves one connection over the world's link, from a desk of the records of SOURCE with their ports, and
 /// prints nothing. `--check SOURCE` prints what SOURCE has, or where it is wrong, and makes no port. SOURCE is `NAME=VALUE`,
-/// one longout, or the name of a file with a database text. The first fault is told by the status alone: of the words, of
+/// one longout, or the name of a file with a database text. `--drill N` runs a session of ten thousand puts in memory, which
+/// depends on N alone, and prints what it comes to in five lines. The first fault is told by the status alone: of the words, of
 /// SOURCE's file, of its text, of the ports in the order of the records, of the serving.
-#[tactic(auto, using(crate::proofs::Making::named_by, crate::proofs::Making::runs_check, crate::proofs::Making::runs_inetd, crate::proofs::Making::checking_rose))]
+#[tactic(auto, using(crate::proofs::Outcomes::named_by, crate::proofs::Outcomes::runs_check, crate::proofs::Outcomes::runs_inetd, crate::proofs::Outcomes::checking_rose, crate::proofs::Outcomes::runs_drill, crate::proofs::Outcomes::no_source_to_check, crate::proofs::Outcomes::no_source_to_serve, crate::proofs::Outcomes::drilling_rose))]
 pub fn run<W: Kinds>(alloc: Global, words: &[&str], world: &mut World<W>) -> u8
     ensures runs { Runs (map (λ w. w.now) words.now) (W.Clock.moment world.old.clock)
         (record { wire = W.Link.wire world.old.link; files = W.Files.files world.old.files; ports = W.Ports.maker world.old.ports; printed = W.Sink.written world.old.sink; print_faults = W.Sink.faults world.old.sink })
@@ -194,17 +196,29 @@ pub fn run<W: Kinds>(alloc: Global, words: &[&str], world: &mut World<W>) -> u8
         Err(WordsStop::Refused) => return Status::Words as u8,
         Err(WordsStop::NoMemory) => return Status::NoMemory as u8,
     };
-    let found = read_site(alloc, asked.source, &asked.macros, &mut world.files);
     match asked.task {
-        Task::Check => check(alloc, &found, &mut world.sink),
-        Task::Inetd => serve(
-            alloc,
-            &asked,
-            found,
-            &mut world.ports,
-            &mut world.link,
-            &world.clock,
-        ),
+        Task::Drill(number) => drill(alloc, number, &world.clock, &mut world.sink),
+        Task::Check => {
+            let Some(source) = asked.source else {
+                return Status::Words as u8;
+            };
+            let found = read_site(alloc, source, &asked.macros, &mut world.files);
+            check(alloc, &found, &mut world.sink)
+        }
+        Task::Inetd => {
+            let Some(source) = asked.source else {
+                return Status::Words as u8;
+            };
+            let found = read_site(alloc, source, &asked.macros, &mut world.files);
+            serve(
+                alloc,
+                &asked,
+                found,
+                &mut world.ports,
+                &mut world.link,
+                &world.clock,
+            )
+        }
     }
 }
 

@@ -291,6 +291,15 @@ fn words_that_are_not_taken(rt: HostRuntime) {
         &["--inetd", "X=42", "--macros", "A-B=1"],
         &["--inetd", "X=42", "--macros", "A=\n"],
         &["--inetd", "X=42", "--big", "--big"],
+        &["--drill"],
+        &["--drill", "-7"],
+        &["--drill", "07"],
+        &["--drill", "18446744073709551616"],
+        &["--drill", "7", "--drill", "7"],
+        &["--drill", "7", "--check", "X=42"],
+        &["--inetd", "--drill", "7", "X=42"],
+        &["--drill", "7", "X="],
+        &["--drill", "7", "--turns", "0"],
     ] {
         let mut world = ready_world(alloc, Vec::new(alloc));
         assert_eq!(rt; run(alloc, words, &mut world), 2, "{words:?}");
@@ -660,5 +669,34 @@ fn alarms_of_values_and_of_ports(rt: HostRuntime) -> Result<(), Fail> {
         assert_eq!(rt; outcome.status, 0);
         assert!(rt; outcome.written.as_slice().ends_with(shown));
     }
+    Ok(())
+}
+
+/// What the drill of 7 prints. The sum and the number of updates were worked out by another program.
+const DRILLED: &[u8] = b"messages 10026\ncommits 10000\nsum 7642\nupdates 912\nclosed\n";
+
+#[test]
+fn each_drill_of_one_number_comes_to_the_same(rt: HostRuntime) -> Result<(), Fail> {
+    let alloc = rt.alloc();
+    for words in [
+        &["--drill", "7"][..],
+        &["--drill", "7"],
+        &["--big", "X=42", "--journal", "0", "--drill", "7"],
+    ] {
+        let outcome = outcome_of(alloc, words, &[], &[], &[], &[], &[])?;
+        assert_eq!(rt; outcome.status, 0);
+        assert_eq!(rt; outcome.printed.as_slice(), DRILLED);
+        assert!(rt; outcome.written.is_empty());
+        assert_eq!(rt; outcome.ports, 0);
+    }
+    Ok(())
+}
+
+#[test]
+fn a_drill_whose_print_fails(rt: HostRuntime) -> Result<(), Fail> {
+    let alloc = rt.alloc();
+    let outcome = outcome_of(alloc, &["--drill", "7"], &[], &[], &[], &[], &[1])?;
+    assert_eq!(rt; outcome.status, 6);
+    assert!(rt; outcome.printed.is_empty());
     Ok(())
 }

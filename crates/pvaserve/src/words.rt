@@ -1,8 +1,8 @@
 // The words of the command line.
-ghost use Rattle.std.specs.Prelude.{◌≡◌, ◌≢◌, ◌<◌, ◌^◌, ℕ, List, false, IfOk, MatchOption, codes, map, option_map};
+ghost use Rattle.std.specs.Prelude.{◌≡◌, ◌≢◌, ◌<◌, ◌^◌, ℕ, List, Option, false, IfOk, MatchOption, codes, is_some, map, option_map, ◌||◌};
 ghost use Rattle.std.specs.Fmt.{decimal};
 ghost use Rattle.clap.specs.Words.{FailsBy, app_of, found_of, is_broken, kind_of, rows_of, with_rule};
-ghost use Rattle.pvaserve.specs.Words.{AreRead, AreMacrosIn, IsSourceIn, source_of, IsCount, IsCountOr, RowsAreRead, bare_app, flag_rule, given, is_plain_count, is_set, option_rule, order_by, server_app, task_by, task_in, word_faults, word_rows};
+ghost use Rattle.pvaserve.specs.Words.{AreRead, AreMacrosIn, IsDrill, IsSourceIn, IsSourceNeeded, IsTask, IsTaskIn, needs_source, source_of, IsCount, IsCountOr, RowsAreRead, bare_app, flag_rule, given, is_plain_count, is_set, option_rule, order_by, server_app, task_by, word_faults, word_rows};
 ghost use Rattle.db_text.specs.Macros.{Macros};
 ghost use Rattle.pvaserve.specs.Words as specs;
 
@@ -15,7 +15,7 @@ use pvd_type::{Name, NoMemory};
 use std::alloc::{AllocError, Global};
 
 /// What the entries of the history may weigh together, unless the words say otherwise.
-const JOURNAL: u64 = 268_435_456;
+pub(crate) const JOURNAL: u64 = 268_435_456;
 
 /// How many calls of the link one connection may take, at the most.
 const TURNS: u64 = 1 << 62;
@@ -27,13 +27,16 @@ pub enum Task {
     Inetd,
     /// Say what a source has, or where it is wrong.
     Check,
+    /// Run the drill of this number.
+    Drill(u64),
 }
 
 /// What the words ask for.
 #[derive(Debug, Drop)]
 pub struct Asked<'a> {
     pub task: Task,
-    pub source: Source<'a>,
+    /// There where the task isn't the drill.
+    pub source: Option<Source<'a>>,
     pub macros: Vec<(Name, Name)>,
     pub order: Order,
     pub journal: u64,
@@ -97,6 +100,7 @@ fn server_command<'a>(alloc: Global) -> Result<Command<'a>, AllocError>
 {
     let command = with_flag(bare_command(alloc), alloc, "inetd")?;
     let command = with_flag(command, alloc, "check")?;
+    let command = with_option(command, alloc, "drill")?;
     let command = with_option(command, alloc, "macros")?;
     let command = with_flag(command, alloc, "big")?;
     let command = with_option(command, alloc, "journal")?;
@@ -139,13 +143,6 @@ fn task_by(inetd: bool, check: bool) -> Option<Task>
         (false, true) => Some(Task::Check),
         _ => None,
     }
-}
-
-/// The task that the flags name, where they name exactly one.
-fn task_in(matches: &ArgMatches<'_>) -> Option<Task>
-    ensures { result ≡ task_in (rows_of (found_of matches.now)) }
-{
-    task_by(is_set(matches, "inetd"), is_set(matches, "check"))
 }
 
 /// Whether bytes begin as a number does that has no sign: not with a zero before another digit.
@@ -196,6 +193,56 @@ fn count_of(
     }
 }
 
+/// The drill of the number that a text says.
+#[tactic(auto, using(crate::proofs::Rows::no_drill))]
+fn drill_by(text: &str) -> Option<Task>
+    ensures { MatchOption result ((task : Task) → ¬ (IsDrill text.now task)) (IsDrill text.now) }
+{
+    match count_within(text, 0, u64::MAX) {
+        Some(number) => Some(Task::Drill(number)),
+        None => None,
+    }
+}
+
+/// The task that the flags and the option for the drill name, where they name exactly one.
+#[tactic(auto, using(crate::proofs::Rows::named_task, crate::proofs::Rows::inetd_too, crate::proofs::Rows::check_too, crate::proofs::Rows::drill_alone))]
+fn task_of(drill: Option<&str>, inetd: bool, check: bool) -> Option<Task>
+    ensures { MatchOption result ((task : Task) → ¬ (IsTask (option_map (λ s. s.now) drill.entry) inetd check task)) (IsTask (option_map (λ s. s.now) drill.entry) inetd check) }
+{
+    let Some(text) = drill else {
+        return task_by(inetd, check);
+    };
+    if inetd {
+        return None;
+    }
+    if check {
+        return None;
+    }
+    drill_by(text)
+}
+
+/// The same of what the words give.
+fn task_in(matches: &ArgMatches<'_>) -> Option<Task>
+    ensures { MatchOption result ((task : Task) → ¬ (IsTaskIn (rows_of (found_of matches.now)) task)) (IsTaskIn (rows_of (found_of matches.now))) }
+{
+    task_of(
+        given(matches, "drill"),
+        is_set(matches, "inetd"),
+        is_set(matches, "check"),
+    )
+}
+
+/// Whether a task needs a source.
+fn needs_source(task: Task) -> bool
+    ensures { result ≡ needs_source task }
+{
+    match task {
+        Task::Inetd => true,
+        Task::Check => true,
+        Task::Drill(_) => false,
+    }
+}
+
 /// The byte order of the replies.
 fn order_of(matches: &ArgMatches<'_>) -> Order
     ensures { result ≡ order_by (is_set (rows_of (found_of matches.now)) (codes "big")) }
@@ -207,11 +254,25 @@ fn order_of(matches: &ArgMatches<'_>) -> Order
     }
 }
 
-/// The source that the argument names.
-fn source_in<'a>(matches: &ArgMatches<'a>) -> Option<Source<'a>>
-    ensures { MatchOption result ((s : specs.Source) → ¬ (IsSourceIn (rows_of (found_of matches.now)) s)) (λ s. IsSourceIn (rows_of (found_of matches.now)) (source_of s)) }
+/// The source that the argument names, if it is given. An outer None where it isn't of its form, or is needed and not given.
+#[tactic(auto, using(crate::proofs::Rows::no_source_by, crate::proofs::Rows::source_there, crate::proofs::Rows::no_source_needed, crate::proofs::Rows::source_needed))]
+fn source_by<'a>(text: Option<&'a str>, needed: bool) -> Option<Option<Source<'a>>>
+    ensures { MatchOption result ((s : Option specs.Source) → ¬ (IsSourceNeeded (option_map (λ s. s.now) text.entry) needed s)) (λ s. IsSourceNeeded (option_map (λ s. s.now) text.entry) needed (option_map source_of s)) }
 {
-    read_source(given(matches, "source")?)
+    let Some(text) = text else {
+        return if needed { None } else { Some(None) };
+    };
+    match read_source(text) {
+        Some(source) => Some(Some(source)),
+        None => None,
+    }
+}
+
+/// The same of what the words give.
+fn source_in<'a>(matches: &ArgMatches<'a>, needed: bool) -> Option<Option<Source<'a>>>
+    ensures { MatchOption result ((s : Option specs.Source) → ¬ (IsSourceIn (rows_of (found_of matches.now)) needed s)) (λ s. IsSourceIn (rows_of (found_of matches.now)) needed (option_map source_of s)) }
+{
+    source_by(given(matches, "source"), needed)
 }
 
 /// The macros that the option for them gives; none where it isn't given.
@@ -232,7 +293,7 @@ fn asked_of<'a>(alloc: Global, matches: &ArgMatches<'a>) -> Result<Asked<'a>, Wo
     let Some(task) = task_in(matches) else {
         return Err(WordsStop::Refused);
     };
-    let Some(source) = source_in(matches) else {
+    let Some(source) = source_in(matches, needs_source(task)) else {
         return Err(WordsStop::Refused);
     };
     let Some(journal) = count_of(matches, "journal", 0, u64::MAX, JOURNAL) else {

@@ -8,11 +8,12 @@ pub returns-clause-app : goal.returns-clause-app
 returns-clause-app c =
     let a1 = c.in_ok-command.ensures.app ∙ ap (λ (a : App). with_rule a (flag_rule (codes "inetd"))) c.bare_command.ensures.app in
     let a2 = c.in_ok-command-2.ensures.app ∙ ap (λ (a : App). with_rule a (flag_rule (codes "check"))) a1 in
-    let a3 = c.in_ok-command-3.ensures.app ∙ ap (λ (a : App). with_rule a (option_rule (codes "macros"))) a2 in
-    let a4 = c.in_ok-command-4.ensures.app ∙ ap (λ (a : App). with_rule a (flag_rule (codes "big"))) a3 in
-    let a5 = c.in_ok-command-5.ensures.app ∙ ap (λ (a : App). with_rule a (option_rule (codes "journal"))) a4 in
-    let a6 = c.in_ok-command-6.ensures.app ∙ ap (λ (a : App). with_rule a (option_rule (codes "turns"))) a5 in
-    IfOk-weaker c.arg.result _ _ (λ r h. h.shape c.new.ensures.optional.1 ∙ ap₂ with_rule a6 c.new.ensures.rule) c.arg.ensures
+    let a3 = c.in_ok-command-3.ensures.app ∙ ap (λ (a : App). with_rule a (option_rule (codes "drill"))) a2 in
+    let a4 = c.in_ok-command-4.ensures.app ∙ ap (λ (a : App). with_rule a (option_rule (codes "macros"))) a3 in
+    let a5 = c.in_ok-command-5.ensures.app ∙ ap (λ (a : App). with_rule a (flag_rule (codes "big"))) a4 in
+    let a6 = c.in_ok-command-6.ensures.app ∙ ap (λ (a : App). with_rule a (option_rule (codes "journal"))) a5 in
+    let a7 = c.in_ok-command-7.ensures.app ∙ ap (λ (a : App). with_rule a (option_rule (codes "turns"))) a6 in
+    IfOk-weaker c.arg.result _ _ (λ r h. h.shape c.new.ensures.optional.1 ∙ ap₂ with_rule a7 c.new.ensures.rule) c.arg.ensures
 
 pub returns-clause-whole : goal.returns-clause-whole
 returns-clause-whole c =
@@ -22,4 +23,5 @@ returns-clause-whole c =
     let w4 = c.in_ok-command-4.ensures.whole ∙ w3 in
     let w5 = c.in_ok-command-5.ensures.whole ∙ w4 in
     let w6 = c.in_ok-command-6.ensures.whole ∙ w5 in
-    IfOk-weaker c.arg.result _ _ (λ r h. h.broken ∙ w6) c.arg.ensures
+    let w7 = c.in_ok-command-7.ensures.whole ∙ w6 in
+    IfOk-weaker c.arg.result _ _ (λ r h. h.broken ∙ w7) c.arg.ensures
