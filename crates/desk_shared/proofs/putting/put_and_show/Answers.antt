@@ -1,0 +1,315 @@
+use Rattle.std.proofs.Common.{◌≡◌, ◌∙◌, ◌<◌, ℕ, List, [], true, Some, Ok, Err, Result, length, refl, sym, ap, subst}
+use Rattle.rec_kinds.specs.declared.state.RecState.{RecState}
+use Rattle.std.specs.List.{AllByRecursion}
+use Rattle.std.specs.List.Sorted.{IsStrictlyIncreasing}
+use Rattle.desk_api.specs.Calls.{Calls}
+use Rattle.desk_api.specs.Puts.{footprint_with}
+use Rattle.desk_api.specs.Sites.{footprint_of}
+use Rattle.desk_api.specs.Views.{found_in}
+use Rattle.desk_api.specs.declared.put.PutAnswer.{PutAnswer}
+use Rattle.desk_api.proofs.Strict.{put_gets_rise}
+use Rattle.desk_core.proofs.Doing.{stay_driven}
+use Rattle.desk_core.proofs.Listing.{valid_count}
+use Rattle.desk_core.proofs.Ported.{as_many_ports, ported}
+use Rattle.desk_core.proofs.Reading.{below, found_all, shows_at_once, whole_wanted}
+use Rattle.desk_core.specs.Ports.{ports_there, ports_wanted}
+use Rattle.desk_shared.specs.Entries.{AreEntered}
+use Rattle.desk_shared.specs.Exchanges.{AreExchanged}
+use Rattle.desk_shared.specs.Hands.{IsDrafted, states_of}
+use Rattle.desk_shared.specs.Records.{seat_of}
+use Rattle.desk_shared.proofs.Behind.{behind, stands_on}
+use Rattle.desk_shared.proofs.Entered.{drafted, entry_calls, none_entered}
+use Rattle.desk_shared.proofs.Footprints.{footprint_within}
+use Rattle.desk_shared.proofs.Handed.{as_taken, left_alone}
+use Rattle.desk_shared.proofs.Listed.{written_count}
+use Rattle.desk_shared.proofs.Returned.{hand_again, ports_and_states, states_again, valid_with}
+use Rattle.desk_shared.proofs.Together.{shown_not, shown_put}
+use Rattle.desk_shared.proofs.Watched.{hub_behind, same_exchange, site_there}
+use Rattle.desk_shared.proofs.putting.put_and_show.Goals as goal
+
+pub footprint_with-requires-clause-below : goal.footprint_with-requires-clause-below
+footprint_with-requires-clause-below g c =
+    let s = c.args.site.now in
+    let looks = footprint_of s c.args.channel in
+    let inside : AllByRecursion (λ (rec : ℕ). rec < length s.configs) looks = below s c.args.channel (length s.configs) c.groups_over_records.ensures c.names_and_configs.ensures.same refl c.requires.channel in
+    subst (AllByRecursion (λ (rec : ℕ). rec < length s.configs)) (sym c.footprint_of-looked.ensures) inside
+
+pub visit_these-requires-clause-inside : goal.visit_these-requires-clause-inside
+visit_these-requires-clause-inside g c =
+    let s = c.args.site.now in
+    let st = c.requires.stands in
+    let looks = footprint_of s c.args.channel in
+    let inside : AllByRecursion (λ (rec : ℕ). rec < length s.configs) looks = below s c.args.channel (length s.configs) c.groups_over_records.ensures c.names_and_configs.ensures.same refl c.requires.channel in
+    let recs_are : c.as_slice-recs.result.now ≡ footprint_with s c.args.actions.items looks = c.as_slice-recs.ensures.value ∙ c.in-Ok.ensures ∙ (λ i. footprint_with s (c.as_slice.ensures.value i) (c.footprint_of-looked.ensures i)) in
+    subst (AllByRecursion (λ (rec : ℕ). rec < c.args.hall.now.count)) (sym recs_are)
+    (subst (λ (n : ℕ). AllByRecursion (λ (rec : ℕ). rec < n) (footprint_with s c.args.actions.items looks)) (sym (st.furnished.count_is ∙ c.names_and_configs.ensures.same))
+    (footprint_within c.args.site.now c.args.actions.items looks c.groups_over_records.ensures c.requires.within inside))
+
+pub exchange-requires-clause-rises : goal.exchange-requires-clause-rises
+exchange-requires-clause-rises g c =
+    let s = c.args.site.now in
+    let looks = footprint_of s c.args.channel in
+    let inside : AllByRecursion (λ (rec : ℕ). rec < length s.configs) looks = below s c.args.channel (length s.configs) c.groups_over_records.ensures c.names_and_configs.ensures.same refl c.requires.channel in
+    let recs_are : c.as_slice-recs.result.now ≡ footprint_with s c.args.actions.items looks = c.as_slice-recs.ensures.value ∙ c.in-Ok.ensures ∙ (λ i. footprint_with s (c.as_slice.ensures.value i) (c.footprint_of-looked.ensures i)) in
+    subst IsStrictlyIncreasing (sym recs_are) (put_gets_rise s c.args.actions.items looks)
+
+pub exchange-requires-clause-states : goal.exchange-requires-clause-states
+exchange-requires-clause-states g c =
+    let s = c.args.site.now in
+    let st = c.requires.stands in
+    let looks = footprint_of s c.args.channel in
+    let inside : AllByRecursion (λ (rec : ℕ). rec < length s.configs) looks = below s c.args.channel (length s.configs) c.groups_over_records.ensures c.names_and_configs.ensures.same refl c.requires.channel in
+    let recs_are : c.as_slice-recs.result.now ≡ footprint_with s c.args.actions.items looks = c.as_slice-recs.ensures.value ∙ c.in-Ok.ensures ∙ (λ i. footprint_with s (c.as_slice.ensures.value i) (c.footprint_of-looked.ensures i)) in
+    subst (AllByRecursion (λ (rec : ℕ). rec < length c.args.cells.now.states.items)) (sym recs_are)
+    (subst (λ (n : ℕ). AllByRecursion (λ (rec : ℕ). rec < n) (footprint_with s c.args.actions.items looks)) (valid_count s.configs s.opening c.opening_is_valid.ensures ∙ ap length (sym st.furnished.states_are))
+    (footprint_within c.args.site.now c.args.actions.items looks c.groups_over_records.ensures c.requires.within inside))
+
+pub exchange-requires-clause-ports : goal.exchange-requires-clause-ports
+exchange-requires-clause-ports g c =
+    let s = c.args.site.now in
+    let st = c.requires.stands in
+    ports_and_states s c.args.cells.now.ports.items c.args.cells.now.states.items c.opening_is_valid.ensures st.furnished.states_are st.furnished.ports_are
+
+pub draft_shown-requires-clause-valid : goal.draft_shown-requires-clause-valid
+draft_shown-requires-clause-valid g c =
+    let s = c.args.site.now in
+    let st = c.requires.stands in
+    let v = c.in-Ok-visit_these.visit in
+    let made = c.in-Ok-visit_these.ensures {u = tt} in
+    let recs = c.as_slice-recs.result.now in
+    valid_with c.args.pass.seat.me.0 v.seat.me.0 recs (states_of v.cells.items) (states_of c.exchange.new.hand.items) c.exchange.new.cells.states.items s made.visits st.site_is c.opening_is_valid.ensures
+    (same_exchange recs recs (states_of v.cells.items) (states_of c.exchange.new.hand.items) c.args.cells.now.states.items s.opening c.exchange.new.cells.states.items refl st.furnished.states_are c.exchange.ensures.exchanged)
+
+pub exchange-requires-in_default-draft_shown-clause-rises : goal.exchange-requires-in_default-draft_shown-clause-rises
+exchange-requires-in_default-draft_shown-clause-rises g c =
+    let s = c.args.site.now in
+    let looks = footprint_of s c.args.channel in
+    let inside : AllByRecursion (λ (rec : ℕ). rec < length s.configs) looks = below s c.args.channel (length s.configs) c.groups_over_records.ensures c.names_and_configs.ensures.same refl c.requires.channel in
+    let recs_are : c.as_slice-recs.result.now ≡ footprint_with s c.args.actions.items looks = c.as_slice-recs.ensures.value ∙ c.in-Ok.ensures ∙ (λ i. footprint_with s (c.as_slice.ensures.value i) (c.footprint_of-looked.ensures i)) in
+    subst IsStrictlyIncreasing (sym recs_are) (put_gets_rise s c.args.actions.items looks)
+
+pub exchange-requires-in_default-draft_shown-clause-states : goal.exchange-requires-in_default-draft_shown-clause-states
+exchange-requires-in_default-draft_shown-clause-states g c =
+    let s = c.args.site.now in
+    let st = c.requires.stands in
+    let looks = footprint_of s c.args.channel in
+    let inside : AllByRecursion (λ (rec : ℕ). rec < length s.configs) looks = below s c.args.channel (length s.configs) c.groups_over_records.ensures c.names_and_configs.ensures.same refl c.requires.channel in
+    let recs_are : c.as_slice-recs.result.now ≡ footprint_with s c.args.actions.items looks = c.as_slice-recs.ensures.value ∙ c.in-Ok.ensures ∙ (λ i. footprint_with s (c.as_slice.ensures.value i) (c.footprint_of-looked.ensures i)) in
+    let recs = c.as_slice-recs.result.now in
+    let v = c.in-Ok-visit_these.visit in
+    let made = c.in-Ok-visit_these.ensures {u = tt} in
+    let d = c.draft_shown.new.self in
+    let e = c.exchange.new.cells in
+    let many : length s.configs ≡ length s.opening = valid_count s.configs s.opening c.opening_is_valid.ensures in
+    let x = same_exchange recs recs (states_of v.cells.items) (states_of c.exchange.new.hand.items) c.args.cells.now.states.items s.opening e.states.items refl st.furnished.states_are c.exchange.ensures.exchanged in
+    let broken = c.in_default-draft_shown.ensures.broken in
+    let same = c.in_default-draft_shown.ensures.states in
+    let stay : ports_there d.ports.items ≡ ports_wanted s.configs = ported _ s.configs e.ports.items (c.exchange.ensures.ports ∙ st.furnished.ports_are) d.ports.items (stay_driven _ _ broken.drives broken.writes broken.driven) in
+    let long : length d.states.items ≡ length s.opening = ap length same ∙ x.long in
+    subst (AllByRecursion (λ (rec : ℕ). rec < length d.states.items)) (sym recs_are)
+    (subst (λ (n : ℕ). AllByRecursion (λ (rec : ℕ). rec < n) (footprint_with s c.args.actions.items looks)) (many ∙ sym long)
+    (footprint_within c.args.site.now c.args.actions.items looks c.groups_over_records.ensures c.requires.within inside))
+
+pub exchange-requires-in_default-draft_shown-clause-ports : goal.exchange-requires-in_default-draft_shown-clause-ports
+exchange-requires-in_default-draft_shown-clause-ports g c =
+    let s = c.args.site.now in
+    let st = c.requires.stands in
+    let recs = c.as_slice-recs.result.now in
+    let v = c.in-Ok-visit_these.visit in
+    let made = c.in-Ok-visit_these.ensures {u = tt} in
+    let d = c.draft_shown.new.self in
+    let e = c.exchange.new.cells in
+    let many : length s.configs ≡ length s.opening = valid_count s.configs s.opening c.opening_is_valid.ensures in
+    let x = same_exchange recs recs (states_of v.cells.items) (states_of c.exchange.new.hand.items) c.args.cells.now.states.items s.opening e.states.items refl st.furnished.states_are c.exchange.ensures.exchanged in
+    let broken = c.in_default-draft_shown.ensures.broken in
+    let same = c.in_default-draft_shown.ensures.states in
+    let stay : ports_there d.ports.items ≡ ports_wanted s.configs = ported _ s.configs e.ports.items (c.exchange.ensures.ports ∙ st.furnished.ports_are) d.ports.items (stay_driven _ _ broken.drives broken.writes broken.driven) in
+    let long : length d.states.items ≡ length s.opening = ap length same ∙ x.long in
+    as_many_ports s.configs d.ports.items stay ∙ many ∙ sym long
+
+pub leave-requires-clause-taken : goal.leave-requires-clause-taken
+leave-requires-clause-taken g c =
+    let s = c.args.site.now in
+    let st = c.requires.stands in
+    let recs = c.as_slice-recs.result.now in
+    let v = c.in-Ok-visit_these.visit in
+    let made = c.in-Ok-visit_these.ensures {u = tt} in
+    let d = c.draft_shown.new.self in
+    let e = c.exchange.new.cells in
+    let many : length s.configs ≡ length s.opening = valid_count s.configs s.opening c.opening_is_valid.ensures in
+    let x = same_exchange recs recs (states_of v.cells.items) (states_of c.exchange.new.hand.items) c.args.cells.now.states.items s.opening e.states.items refl st.furnished.states_are c.exchange.ensures.exchanged in
+    let same = c.in_default-draft_shown.ensures.states in
+    let y = same_exchange recs recs (states_of c.exchange.new.hand.items) (states_of c.exchange-in_default-draft_shown.new.hand.items) d.states.items e.states.items c.exchange-in_default-draft_shown.new.cells.states.items refl same c.exchange-in_default-draft_shown.ensures.exchanged in
+    as_taken v.seat.me.0 c.exchange-in_default-draft_shown.new.hand.items (states_of v.cells.items) made.visits.values
+    (hand_again recs (states_of v.cells.items) (states_of c.exchange.new.hand.items) (states_of c.exchange-in_default-draft_shown.new.hand.items) s.opening e.states.items c.exchange-in_default-draft_shown.new.cells.states.items x y)
+
+pub returns-in_default-draft_shown-clause-stands : goal.returns-in_default-draft_shown-clause-stands
+returns-in_default-draft_shown-clause-stands g c =
+    let s = c.args.site.now in
+    let st = c.requires.stands in
+    let recs = c.as_slice-recs.result.now in
+    let v = c.in-Ok-visit_these.visit in
+    let made = c.in-Ok-visit_these.ensures {u = tt} in
+    let d = c.draft_shown.new.self in
+    let e = c.exchange.new.cells in
+    let many : length s.configs ≡ length s.opening = valid_count s.configs s.opening c.opening_is_valid.ensures in
+    let x = same_exchange recs recs (states_of v.cells.items) (states_of c.exchange.new.hand.items) c.args.cells.now.states.items s.opening e.states.items refl st.furnished.states_are c.exchange.ensures.exchanged in
+    let broken = c.in_default-draft_shown.ensures.broken in
+    let same = c.in_default-draft_shown.ensures.states in
+    let stay : ports_there d.ports.items ≡ ports_wanted s.configs = ported _ s.configs e.ports.items (c.exchange.ensures.ports ∙ st.furnished.ports_are) d.ports.items (stay_driven _ _ broken.drives broken.writes broken.driven) in
+    let long : length d.states.items ≡ length s.opening = ap length same ∙ x.long in
+    let y = same_exchange recs recs (states_of c.exchange.new.hand.items) (states_of c.exchange-in_default-draft_shown.new.hand.items) d.states.items e.states.items c.exchange-in_default-draft_shown.new.cells.states.items refl same c.exchange-in_default-draft_shown.ensures.exchanged in
+    let w = c.leave.result.seat.me.0 in
+    let left = left_alone c.args.pass.seat.me.0 v.seat.me.0 w _ _ made.visits c.leave.ensures.same in
+    let call = none_entered s c.args.moment c.args.actions.items [] [] 0 (seat_of c.args.pass.seat.me.0) (seat_of w) st.legal left in
+    stands_on _ _ s _ _ _ _ _ _ c.args.pass.seat.me.0 w st
+    (states_again recs (states_of v.cells.items) (states_of c.exchange.new.hand.items) (states_of c.exchange-in_default-draft_shown.new.hand.items) s.opening e.states.items c.exchange-in_default-draft_shown.new.cells.states.items x y ∙ sym st.furnished.states_are)
+    (c.exchange-in_default-draft_shown.ensures.ports ∙ stay ∙ sym st.furnished.ports_are) (c.leave.ensures.own ∙ made.own) _ call
+
+pub enter-pass-requires-clause-drafted : goal.enter-pass-requires-clause-drafted
+enter-pass-requires-clause-drafted g c =
+    let s = c.args.site.now in
+    let st = c.requires.stands in
+    let looks = footprint_of s c.args.channel in
+    let inside : AllByRecursion (λ (rec : ℕ). rec < length s.configs) looks = below s c.args.channel (length s.configs) c.groups_over_records.ensures c.names_and_configs.ensures.same refl c.requires.channel in
+    let recs_are : c.as_slice-recs.result.now ≡ footprint_with s c.args.actions.items looks = c.as_slice-recs.ensures.value ∙ c.in-Ok.ensures ∙ (λ i. footprint_with s (c.as_slice.ensures.value i) (c.footprint_of-looked.ensures i)) in
+    let recs = c.as_slice-recs.result.now in
+    let v = c.in-Ok-visit_these.visit in
+    let made = c.in-Ok-visit_these.ensures {u = tt} in
+    let d = c.draft_shown.new.self in
+    let e = c.exchange.new.cells in
+    let many : length s.configs ≡ length s.opening = valid_count s.configs s.opening c.opening_is_valid.ensures in
+    let x = same_exchange recs recs (states_of v.cells.items) (states_of c.exchange.new.hand.items) c.args.cells.now.states.items s.opening e.states.items refl st.furnished.states_are c.exchange.ensures.exchanged in
+    let entry = c.in-Ok-draft_shown.drafted.0 in
+    let done = c.in-Ok-draft_shown.ensures.drafted in
+    let stay : ports_there d.ports.items ≡ ports_wanted s.configs = ported _ s.configs e.ports.items (c.exchange.ensures.ports ∙ st.furnished.ports_are) d.ports.items (stay_driven _ _ entry.drove entry.writes done.done.driven) in
+    let long : length d.states.items ≡ length s.opening = ap length done.done.cells_are ∙ written_count e.states.items entry.writes ∙ x.long in
+    let h = c.hub-held.result in
+    let b = hub_behind c.args.pass.seat.me.0 v.seat.me.0 h.seat.me.0 h.hub recs (states_of v.cells.items) made.visits c.hub-held.ensures.taken c.hub-held.ensures.found in
+    let there = site_there c.args.pass.seat.me.0 h.seat.me.0 h.seat.me.0 h.hub _ _ b s st.site_is in
+    let x_there = subst (λ (l : List RecState). AreExchanged recs (states_of v.cells.items) l s.opening e.states.items) (sym (ap states_of c.hub-held.ensures.cells)) x in
+    let valid = valid_with c.args.pass.seat.me.0 v.seat.me.0 recs (states_of v.cells.items) (states_of c.exchange.new.hand.items) e.states.items s made.visits st.site_is c.opening_is_valid.ensures x in
+    subst (IsDrafted h.seat.me.0 h.hub recs (states_of h.cells.items) s d.states.items d.before.items entry) (sym c.footprint_of-looked.ensures)
+    (drafted c.entries_write_inside.ensures.put_gets s c.groups_over_records.ensures h.seat.me.0 h.hub recs (states_of v.cells.items) (states_of h.cells.items) e.states.items d.states.items b.has there x_there valid c.opening_is_valid.ensures many _ _
+    c.args.actions.items looks c.args.moment entry d.before.items done recs_are c.requires.within inside)
+
+pub enter-pass-requires-clause-ports : goal.enter-pass-requires-clause-ports
+enter-pass-requires-clause-ports g c =
+    let s = c.args.site.now in
+    let st = c.requires.stands in
+    let recs = c.as_slice-recs.result.now in
+    let v = c.in-Ok-visit_these.visit in
+    let made = c.in-Ok-visit_these.ensures {u = tt} in
+    let d = c.draft_shown.new.self in
+    let e = c.exchange.new.cells in
+    let many : length s.configs ≡ length s.opening = valid_count s.configs s.opening c.opening_is_valid.ensures in
+    let x = same_exchange recs recs (states_of v.cells.items) (states_of c.exchange.new.hand.items) c.args.cells.now.states.items s.opening e.states.items refl st.furnished.states_are c.exchange.ensures.exchanged in
+    let entry = c.in-Ok-draft_shown.drafted.0 in
+    let done = c.in-Ok-draft_shown.ensures.drafted in
+    let stay : ports_there d.ports.items ≡ ports_wanted s.configs = ported _ s.configs e.ports.items (c.exchange.ensures.ports ∙ st.furnished.ports_are) d.ports.items (stay_driven _ _ entry.drove entry.writes done.done.driven) in
+    let long : length d.states.items ≡ length s.opening = ap length done.done.cells_are ∙ written_count e.states.items entry.writes ∙ x.long in
+    as_many_ports s.configs d.ports.items stay ∙ many ∙ sym long
+
+pub returns-in-Ok-entered-clause-stands : goal.returns-in-Ok-entered-clause-stands
+returns-in-Ok-entered-clause-stands g c =
+    let s = c.args.site.now in
+    let st = c.requires.stands in
+    let looks = footprint_of s c.args.channel in
+    let recs = c.as_slice-recs.result.now in
+    let v = c.in-Ok-visit_these.visit in
+    let made = c.in-Ok-visit_these.ensures {u = tt} in
+    let d = c.draft_shown.new.self in
+    let e = c.exchange.new.cells in
+    let many : length s.configs ≡ length s.opening = valid_count s.configs s.opening c.opening_is_valid.ensures in
+    let x = same_exchange recs recs (states_of v.cells.items) (states_of c.exchange.new.hand.items) c.args.cells.now.states.items s.opening e.states.items refl st.furnished.states_are c.exchange.ensures.exchanged in
+    let entry = c.in-Ok-draft_shown.drafted.0 in
+    let done = c.in-Ok-draft_shown.ensures.drafted in
+    let stay : ports_there d.ports.items ≡ ports_wanted s.configs = ported _ s.configs e.ports.items (c.exchange.ensures.ports ∙ st.furnished.ports_are) d.ports.items (stay_driven _ _ entry.drove entry.writes done.done.driven) in
+    let long : length d.states.items ≡ length s.opening = ap length done.done.cells_are ∙ written_count e.states.items entry.writes ∙ x.long in
+    let h = c.hub-held.result in
+    let b = hub_behind c.args.pass.seat.me.0 v.seat.me.0 h.seat.me.0 h.hub recs (states_of v.cells.items) made.visits c.hub-held.ensures.taken c.hub-held.ensures.found in
+    let t = c.enter-pass.result.0.seat.me.0 in
+    let found = found_in d.states.items looks in
+    let entered = subst (λ (l : List ℕ). Calls (seat_of h.seat.me.0) (seat_of t) (AreEntered entry l (found_in d.states.items l) 0 c.enter-pass.result.1)) c.footprint_of-looked.ensures c.enter-pass.ensures.calls in
+    let call = behind (seat_of c.args.pass.seat.me.0) (seat_of h.seat.me.0) (seat_of t) b.others _
+    (entry_calls s e.states.items d.states.items _ _ c.args.actions.items looks c.args.moment entry d.before.items done found (seat_of h.seat.me.0) (seat_of t) 0 (Ok c.in-Ok-entered.first) (subst (λ (z : Result ℕ PutAnswer). Calls (seat_of h.seat.me.0) (seat_of t) (AreEntered entry looks found 0 z)) c.in-Ok-entered.is entered)) in
+    stands_on _ _ s _ _ _ _ _ _ c.args.pass.seat.me.0 t st (c.enter-pass.ensures.states ∙ sym st.furnished.states_are) (c.enter-pass.ensures.ports ∙ stay ∙ sym st.furnished.ports_are)
+    (c.enter-pass.ensures.own ∙ c.hub-held.ensures.own ∙ made.own) _ call
+
+pub returns-in-Ok-entered-clause-calls : goal.returns-in-Ok-entered-clause-calls
+returns-in-Ok-entered-clause-calls g c =
+    let s = c.args.site.now in
+    let st = c.requires.stands in
+    let looks = footprint_of s c.args.channel in
+    let recs = c.as_slice-recs.result.now in
+    let v = c.in-Ok-visit_these.visit in
+    let made = c.in-Ok-visit_these.ensures {u = tt} in
+    let d = c.draft_shown.new.self in
+    let e = c.exchange.new.cells in
+    let many : length s.configs ≡ length s.opening = valid_count s.configs s.opening c.opening_is_valid.ensures in
+    let x = same_exchange recs recs (states_of v.cells.items) (states_of c.exchange.new.hand.items) c.args.cells.now.states.items s.opening e.states.items refl st.furnished.states_are c.exchange.ensures.exchanged in
+    let entry = c.in-Ok-draft_shown.drafted.0 in
+    let done = c.in-Ok-draft_shown.ensures.drafted in
+    let stay : ports_there d.ports.items ≡ ports_wanted s.configs = ported _ s.configs e.ports.items (c.exchange.ensures.ports ∙ st.furnished.ports_are) d.ports.items (stay_driven _ _ entry.drove entry.writes done.done.driven) in
+    let long : length d.states.items ≡ length s.opening = ap length done.done.cells_are ∙ written_count e.states.items entry.writes ∙ x.long in
+    let h = c.hub-held.result in
+    let b = hub_behind c.args.pass.seat.me.0 v.seat.me.0 h.seat.me.0 h.hub recs (states_of v.cells.items) made.visits c.hub-held.ensures.taken c.hub-held.ensures.found in
+    let t = c.enter-pass.result.0.seat.me.0 in
+    let found = found_in d.states.items looks in
+    let entered = subst (λ (l : List ℕ). Calls (seat_of h.seat.me.0) (seat_of t) (AreEntered entry l (found_in d.states.items l) 0 c.enter-pass.result.1)) c.footprint_of-looked.ensures c.enter-pass.ensures.calls in
+    let call = behind (seat_of c.args.pass.seat.me.0) (seat_of h.seat.me.0) (seat_of t) b.others _
+    (entry_calls s e.states.items d.states.items _ _ c.args.actions.items looks c.args.moment entry d.before.items done found (seat_of h.seat.me.0) (seat_of t) 0 (Ok c.in-Ok-entered.first) (subst (λ (z : Result ℕ PutAnswer). Calls (seat_of h.seat.me.0) (seat_of t) (AreEntered entry looks found 0 z)) c.in-Ok-entered.is entered)) in
+    let finds = found_all d.states.items looks (below s c.args.channel (length d.states.items) c.groups_over_records.ensures c.names_and_configs.ensures.same (many ∙ sym long) c.requires.channel) in
+    shown_put s c.args.channel c.args.moment c.args.actions.items found (seat_of c.args.pass.seat.me.0) (seat_of t) c.in-Ok-entered.first _ c.in-Ok-draft_shown.drafted.1 refl
+    (c.in-Ok-draft_shown.ensures.shown ∙ sym (shows_at_once c.looks_show_states.ensures s c.args.channel (Some true) d.states.items found (whole_wanted s c.args.channel) (sym long) finds)) call
+
+pub returns-clause-stands : goal.returns-clause-stands
+returns-clause-stands g c =
+    let s = c.args.site.now in
+    let st = c.requires.stands in
+    let looks = footprint_of s c.args.channel in
+    let recs = c.as_slice-recs.result.now in
+    let v = c.in-Ok-visit_these.visit in
+    let made = c.in-Ok-visit_these.ensures {u = tt} in
+    let d = c.draft_shown.new.self in
+    let e = c.exchange.new.cells in
+    let many : length s.configs ≡ length s.opening = valid_count s.configs s.opening c.opening_is_valid.ensures in
+    let x = same_exchange recs recs (states_of v.cells.items) (states_of c.exchange.new.hand.items) c.args.cells.now.states.items s.opening e.states.items refl st.furnished.states_are c.exchange.ensures.exchanged in
+    let entry = c.in-Ok-draft_shown.drafted.0 in
+    let done = c.in-Ok-draft_shown.ensures.drafted in
+    let stay : ports_there d.ports.items ≡ ports_wanted s.configs = ported _ s.configs e.ports.items (c.exchange.ensures.ports ∙ st.furnished.ports_are) d.ports.items (stay_driven _ _ entry.drove entry.writes done.done.driven) in
+    let long : length d.states.items ≡ length s.opening = ap length done.done.cells_are ∙ written_count e.states.items entry.writes ∙ x.long in
+    let h = c.hub-held.result in
+    let b = hub_behind c.args.pass.seat.me.0 v.seat.me.0 h.seat.me.0 h.hub recs (states_of v.cells.items) made.visits c.hub-held.ensures.taken c.hub-held.ensures.found in
+    let t = c.enter-pass.result.0.seat.me.0 in
+    let found = found_in d.states.items looks in
+    let entered = subst (λ (l : List ℕ). Calls (seat_of h.seat.me.0) (seat_of t) (AreEntered entry l (found_in d.states.items l) 0 c.enter-pass.result.1)) c.footprint_of-looked.ensures c.enter-pass.ensures.calls in
+    let call = behind (seat_of c.args.pass.seat.me.0) (seat_of h.seat.me.0) (seat_of t) b.others _
+    (entry_calls s e.states.items d.states.items _ _ c.args.actions.items looks c.args.moment entry d.before.items done found (seat_of h.seat.me.0) (seat_of t) 0 (Err c.in-Err-entered.answer) (subst (λ (z : Result ℕ PutAnswer). Calls (seat_of h.seat.me.0) (seat_of t) (AreEntered entry looks found 0 z)) c.in-Err-entered.is entered)) in
+    stands_on _ _ s _ _ _ _ _ _ c.args.pass.seat.me.0 t st (c.enter-pass.ensures.states ∙ sym st.furnished.states_are) (c.enter-pass.ensures.ports ∙ stay ∙ sym st.furnished.ports_are)
+    (c.enter-pass.ensures.own ∙ c.hub-held.ensures.own ∙ made.own) _ call
+
+pub returns-clause-calls : goal.returns-clause-calls
+returns-clause-calls g c =
+    let s = c.args.site.now in
+    let st = c.requires.stands in
+    let looks = footprint_of s c.args.channel in
+    let recs = c.as_slice-recs.result.now in
+    let v = c.in-Ok-visit_these.visit in
+    let made = c.in-Ok-visit_these.ensures {u = tt} in
+    let d = c.draft_shown.new.self in
+    let e = c.exchange.new.cells in
+    let many : length s.configs ≡ length s.opening = valid_count s.configs s.opening c.opening_is_valid.ensures in
+    let x = same_exchange recs recs (states_of v.cells.items) (states_of c.exchange.new.hand.items) c.args.cells.now.states.items s.opening e.states.items refl st.furnished.states_are c.exchange.ensures.exchanged in
+    let entry = c.in-Ok-draft_shown.drafted.0 in
+    let done = c.in-Ok-draft_shown.ensures.drafted in
+    let stay : ports_there d.ports.items ≡ ports_wanted s.configs = ported _ s.configs e.ports.items (c.exchange.ensures.ports ∙ st.furnished.ports_are) d.ports.items (stay_driven _ _ entry.drove entry.writes done.done.driven) in
+    let long : length d.states.items ≡ length s.opening = ap length done.done.cells_are ∙ written_count e.states.items entry.writes ∙ x.long in
+    let h = c.hub-held.result in
+    let b = hub_behind c.args.pass.seat.me.0 v.seat.me.0 h.seat.me.0 h.hub recs (states_of v.cells.items) made.visits c.hub-held.ensures.taken c.hub-held.ensures.found in
+    let t = c.enter-pass.result.0.seat.me.0 in
+    let found = found_in d.states.items looks in
+    let entered = subst (λ (l : List ℕ). Calls (seat_of h.seat.me.0) (seat_of t) (AreEntered entry l (found_in d.states.items l) 0 c.enter-pass.result.1)) c.footprint_of-looked.ensures c.enter-pass.ensures.calls in
+    let call = behind (seat_of c.args.pass.seat.me.0) (seat_of h.seat.me.0) (seat_of t) b.others _
+    (entry_calls s e.states.items d.states.items _ _ c.args.actions.items looks c.args.moment entry d.before.items done found (seat_of h.seat.me.0) (seat_of t) 0 (Err c.in-Err-entered.answer) (subst (λ (z : Result ℕ PutAnswer). Calls (seat_of h.seat.me.0) (seat_of t) (AreEntered entry looks found 0 z)) c.in-Err-entered.is entered)) in
+    shown_not s c.args.channel c.args.moment c.args.actions.items found (seat_of c.args.pass.seat.me.0) (seat_of t) c.in-Err-entered.answer call

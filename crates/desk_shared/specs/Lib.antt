@@ -1,0 +1,9 @@
+pub mod Lent
+pub mod RecordLaws
+pub mod Records
+pub mod Homes
+pub mod Exchanges
+pub mod Hands
+pub mod Looks
+pub mod Entries
+pub mod Desks
