@@ -1,10 +1,11 @@
 // The states and the ports of the records in hand, at their places among all.
-ghost use Rattle.std.specs.Prelude.{◌≡◌, ◌<◌, length};
+ghost use Rattle.std.specs.Prelude.{◌≡◌, ◌<◌, Some, length, set, slice_get};
 ghost use Rattle.std.specs.List.{AllByRecursion};
 ghost use Rattle.std.specs.List.Sorted.{IsStrictlyIncreasing};
 ghost use Rattle.desk_core.specs.Ports.{ports_there};
 ghost use Rattle.desk_shared.specs.Exchanges.{AreExchanged, IsExchanged};
 ghost use Rattle.desk_shared.specs.Hands.{states_of};
+ghost use Rattle.desk_shared.specs.declared.lent.LentPort.{LentPort};
 
 use crate::lent::LentPort;
 use crate::records::RecCell;
@@ -22,7 +23,9 @@ fn exchange_states(mine: &mut RecState, theirs: &mut RecState)
 /// Exchanges a port in hand with that of a record, where it has one.
 fn exchange_ports<P>(mine: &mut LentPort<P>, ports: &mut Vec<Option<LentPort<P>>>, rec: usize)
     requires { rec < length ports.old.items }
-    ensures { ports_there ports.new.items ≡ ports_there ports.old.items }
+    ensures there { ports_there ports.new.items ≡ ports_there ports.old.items }
+    ensures mine { (place : LentPort P) → slice_get ports.old.items rec ≡ Some (Some place) → mine.new ≡ place }
+    ensures theirs { (place : LentPort P) → slice_get ports.old.items rec ≡ Some (Some place) → ports.new.items ≡ set ports.old.items rec (Some mine.old) }
 {
     if let Some(theirs) = &mut ports[rec] {
         std::mem::swap(mine, theirs);
