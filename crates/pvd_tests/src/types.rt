@@ -281,7 +281,8 @@ fn bytes_and_words_are_sets_of_numbers(rt: HostRuntime) -> Result<(), Fail> {
     let alloc = rt.alloc();
     let mut bits = BitSet::new(alloc);
     bits.insert_byte(3, 0)?;
-    assert!(rt; bits.words().is_empty());
+    assert!(rt; bits.is_empty());
+    assert_eq!(rt; bits.words(), [0].as_slice());
     bits.insert_byte(1, 0x81)?;
     bits.insert_byte(8191, 0x80)?;
     assert_eq!(rt;

@@ -9,3 +9,4 @@ pub mod Leaves
 pub mod Paths
 pub mod Kept
 pub mod Bytes
+pub mod Crossing

@@ -3,16 +3,16 @@ use Rattle.std.proofs.Common.{max, min, ◌≡◌, ℕ, zero, suc, ◌+◌, ◌*
 use Rattle.std.proofs.lemmas.Bool.{cases_lt, lt-ltb, le-ltb, eq-eqb, true≢false}
 use Rattle.std.proofs.lemmas.Bool.Decides.{eqb_tells}
 use Rattle.std.proofs.lemmas.List.{get_or_past, get_or-set_same, get_or-set_other}
-use Rattle.std.proofs.lemmas.Nat.Bits.{bit_at-zero, bit_at-lt, bit_at_or, bit_at_and, bit_at_set_same, bit_at_set_other, same_from_bits_below, bit_at_cat_low, bit_at_cat_high, bit_at_above}
-use Rattle.std.proofs.lemmas.Nat.{shr-shr}
-use Rattle.std.specs.Prelude.{set, bit_or, bit_and}
-use Rattle.std.specs.Int.{bit_at}
+use Rattle.std.proofs.lemmas.Nat.Bits.{bit_at-zero, bit_at-lt, bit_at-trailing_zeros, bit_at_or, bit_at_and, bit_at_set_same, bit_at_set_other, bit_at_cat_low, bit_at_cat_high, bit_at_above}
+use Rattle.std.proofs.lemmas.Nat.{shr-shr, shr_le}
+use Rattle.std.specs.Prelude.{set, bit_or, bit_and, None, Some, IsTrue, ◌↔◌}
+use Rattle.std.specs.Int.{bit_at, trailing_zeros}
 use Rattle.std.specs.List.{filter, list_any}
 use Rattle.std.specs.Ordering.{eq_by_cmp}
 use Rattle.std.specs.Cmp.{nat_cmp_total}
 use Rattle.std.specs.FinSet as fin
 use Rattle.std.specs.FinSet.{FinSet, contains-from_list, contains-insert, contains-union, contains-intersection, same_set, nat_cmp-IsAntisymmetric, contains-empty}
-use Rattle.pvd_type.specs.Sets.{bit, downward, set_of, word_bit, held}
+use Rattle.pvd_type.specs.Sets.{bit, downward, set_of, word_bit, held, IsFirstFrom}
 
 pub differs : (a b : ℕ) → (a ≡ b → ⊥) → eqb a b ≡ false
 differs a b h = elim (eqb_tells a b) [ inl p ↦ absurd (h p.1) | inr q ↦ q.0 ]
@@ -156,17 +156,6 @@ byte_of_words ws place k h =
 pub past_all : (ws : List ℕ) (q : ℕ) → 64 * length ws ≤ q → fin.contains (held ws) q ≡ false
 past_all ws q h = in_held ws q ∙ past_words ws q (omega arith)
 
--- a set with no words but zeros is empty
-pub none_held : (ws : List ℕ) → ((j : ℕ) → j < length ws → get_or ws j 0 ≡ 0) → held ws ≡ fin.empty
-none_held ws zeros = same _ _ (λ q. in_held ws q ∙ at q ∙ sym (contains-empty nat_cmp q))
-  where
-    at : (q : ℕ) → word_bit ws q ≡ false
-    at q =
-        elim (cases_lt (q / 64) (length ws)) [
-          | inl lt ↦ ap (λ n. bit n (q % 64)) (zeros (q / 64) lt) ∙ bit_of_none (q % 64)
-          | inr le ↦ past_words ws q le
-        ]
-
 pub no_bit : (n i : ℕ) → bit n i ≡ false → bit_at n i ≡ 0
 no_bit n i e = low (bit_at n i) (bit_at-lt n i) e
   where
@@ -175,24 +164,25 @@ no_bit n i e = low (bit_at n i) (bit_at-lt n i) e
     low (suc zero) h e = absurd (true≢false e)
     low (suc (suc b)) h e = absurd (omega arith)
 
-pub zero_words : (ws : List ℕ) (j : ℕ) → get_or ws j 0 < 2 ^ 64 → held ws ≡ fin.empty → get_or ws j 0 ≡ 0
-zero_words ws j small none =
-    same_from_bits_below 64 (get_or ws j 0) 0 small (omega arith) (λ i h.
-    let a : (64 * j + i) / 64 ≡ j = omega arith in
-    let b : (64 * j + i) % 64 ≡ i = omega arith in
-    no_bit (get_or ws j 0) i (sym (in_held ws (64 * j + i) ∙ rw (a, b) refl) ∙ ap (λ s. fin.contains s (64 * j + i)) none ∙ contains-empty nat_cmp (64 * j + i))
-    ∙ sym (bit_at-zero i))
-
--- what an index read
-pub item_at : (ws : List ℕ) (i x : ℕ) → i < length ws → get_or ws i x ≡ x → x ≡ get_or ws i 0
-item_at [] i x h e = absurd (omega arith)
-item_at (w ∷ ws) zero x h e = sym e
-item_at (w ∷ ws) (suc i) x h e = item_at ws i x (omega arith) e
-
 pub held_alike : (new old : List ℕ) → ((j : ℕ) → get_or new j 0 ≡ get_or old j 0) → held new ≡ held old
 held_alike new old each = same _ _ (λ q. in_held new q ∙ ap (λ n. bit n (q % 64)) (each (q / 64)) ∙ sym (in_held old q))
 
 -- a word keeps the low bits of a number that is moved up
+-- a word without a bit
+abbrev zero_word : List ℕ
+zero_word = 0 ∷ []
+
+abbrev no_word : List ℕ
+no_word = []
+
+alike_zero : (j : ℕ) → get_or zero_word j 0 ≡ get_or no_word j 0
+alike_zero zero = refl
+alike_zero (suc j) = refl
+
+-- It holds nothing.
+pub held_zero : held (0 ∷ []) ≡ fin.empty
+held_zero = held_alike (0 ∷ []) [] alike_zero ∙ held_none
+
 kept : (x r : ℕ) → r < 64 → bit_at (x % 2 ^ 64) r ≡ bit_at x r
 kept x r h =
     let e : x ≡ x / 2 ^ 64 * 2 ^ 64 + x % 2 ^ 64 = omega arith in
@@ -250,6 +240,57 @@ byte_set old new place b alike within small q =
               ap (λ n. bit n (q % 64)) (get_or-set_other new (place / 8) (q / 64) w 0 e.1 ∙ alike (q / 64)) ∙ rw other (sym (or_same (word_bit old q)))
         ]
 
--- the numbers of a word that is zero
-pub zero_word : (ws : List ℕ) (q : ℕ) → get_or ws (q / 64) 0 ≡ 0 → fin.contains (held ws) q ≡ false
-zero_word ws q e = in_held ws q ∙ ap (λ n. bit n (q % 64)) e ∙ bit_of_none (q % 64)
+positive : (n : ℕ) → (n ≡ 0 → ⊥) → 0 < n
+positive zero some = absurd (some refl)
+positive (suc n) some = omega arith
+
+-- the numbers of a word x from b on
+module _ (ws : List ℕ) (b x : ℕ) (is : x ≡ get_or ws (b / 64) 0) where
+  held_from : (k : ℕ) → b % 64 + k < 64 → fin.contains (held ws) (b + k) ≡ bit (x / 2 ^ (b % 64)) k
+  held_from k h =
+      let a : (b + k) / 64 ≡ b / 64 = omega (arith, h) in
+      let r : (b + k) % 64 ≡ b % 64 + k = omega (arith, h) in
+      let word : word_bit ws (b + k) ≡ bit x (b % 64 + k) = rw (a, r, is) refl in
+      in_held ws (b + k) ∙ word ∙ ap (λ n. eqb (n % 2) 1) (sym (shr-shr x (b % 64) k))
+
+  held_past : (q : ℕ) → b ≤ q → q < b / 64 * 64 + 64 → fin.contains (held ws) q ≡ bit (x / 2 ^ (b % 64)) (q - b)
+  held_past q from to =
+      let e : q ≡ b + (q - b) = omega (arith, from) in
+      ap (fin.contains (held ws)) e ∙ held_from (q - b) (omega (arith, from, to))
+
+  -- where none of its bits is left
+  pub none_left : x / 2 ^ (b % 64) ≡ 0 → (q : ℕ) → b ≤ q → q < b / 64 * 64 + 64 → fin.contains (held ws) q ≡ false
+  none_left zeros q from to = held_past q from to ∙ ap (λ n. bit n (q - b)) zeros ∙ bit_of_none (q - b)
+
+  -- the least bit that is left
+  pub least_left : x < 2 ^ 64 → (x / 2 ^ (b % 64) ≡ 0 → ⊥)
+      → (fin.contains (held ws) (b + trailing_zeros w64 (x / 2 ^ (b % 64))) ≡ true)
+      × ((q : ℕ) → b ≤ q → q < b + trailing_zeros w64 (x / 2 ^ (b % 64)) → fin.contains (held ws) q ≡ false)
+  least_left small some = (
+    held_from t within ∙ ap (λ n. eqb n 1) lowest.1,
+    λ q from to. held_past q from (omega (arith, within, to)) ∙ ap (λ n. eqb n 1) (lowest.2 (q - b) (omega (arith, from, to))),
+  )
+    where
+      t : ℕ
+      t = trailing_zeros w64 (x / 2 ^ (b % 64))
+
+      lowest : (t < 64) × (bit_at (x / 2 ^ (b % 64)) t ≡ 1) × ((i : ℕ) → i < t → bit_at (x / 2 ^ (b % 64)) i ≡ 0)
+      lowest = bit_at-trailing_zeros w64 (x / 2 ^ (b % 64)) (positive (x / 2 ^ (b % 64)) some) (omega (arith, small, shr_le x (b % 64)))
+
+      within : b % 64 + t < 64
+      within =
+          elim (cases_lt (b % 64 + t) 64) [
+            | inl lt ↦ lt
+            | inr le ↦
+                let none : bit_at x (b % 64 + t) ≡ 0 = bit_at_above x 64 (b % 64 + t) small le in
+                let some : bit_at x (b % 64 + t) ≡ 1 = ap (λ n. n % 2) (sym (shr-shr x (b % 64) t)) ∙ lowest.1 in
+                absurd (omega (arith, sym none ∙ some))
+          ]
+
+-- whether a set is empty, by its first number
+module _ (s : FinSet nat_cmp) where
+  pub nothing_held : IsFirstFrom s 0 None → IsTrue true ↔ (s ≡ fin.empty)
+  nothing_held none = (λ _. same s fin.empty (λ q. none q (omega arith) ∙ sym (contains-empty nat_cmp q)), λ _. refl)
+
+  pub some_held : {n : ℕ} → IsFirstFrom s 0 (Some n) → IsTrue false ↔ (s ≡ fin.empty)
+  some_held {n} first = (λ t. absurd cc, λ e. absurd (true≢false (sym first.1 ∙ ap (λ x. fin.contains x n) e ∙ contains-empty nat_cmp n)))

@@ -1,8 +1,10 @@
-ghost use Rattle.std.specs.Prelude.{◌≡◌, ◌<◌, ◌≤◌, ◌*◌, ◌+◌, ◌/◌, ◌%◌, ◌==◌, ◌&&◌, ◌||◌, ℕ, length, get_or, false, IfOk, OnOk, OnErr, IsTrue, ◌↔◌, bit_and, bit_or};
+ghost use Rattle.std.specs.Prelude.{◌≡◌, ◌∷◌, [], ◌<◌, ◌≤◌, ◌*◌, ◌+◌, ◌/◌, ◌%◌, ◌==◌, ◌&&◌, ◌||◌, ℕ, length, get_or, slice_set, false, IfOk, OnOk, OnErr, IsTrue, ◌↔◌, bit_and, bit_or};
 ghost use Rattle.std.specs.FinSet as set;
 ghost use Rattle.pvd_type.specs.Sets.{bit, held, IsFirstFrom};
+ghost use Rattle.smallvec.specs.SmallVec.{small_vec_len};
 
 use crate::memory::NoMemory;
+use smallvec::SmallVec;
 use std::alloc::{AllocError, Global};
 use std::marker::Model;
 
@@ -11,11 +13,12 @@ const WORD: u32 = 64;
 
 /// A set of numbers below 65,536, such as the field numbers that an update changed.
 ///
-/// The bits lie packed in words of 64, the lowest number first. A contract sees the set alone.
+/// The bits lie packed in words of 64, the lowest number first. The first word stands in the value itself, so that the set of a
+/// type's few nodes takes no memory. A contract sees the set alone.
 /// pvAccess Protocol Specification, "BitSet".
 #[derive(Drop)]
 pub struct BitSet {
-    words: Vec<u64>,
+    words: SmallVec<u64, 1>,
 }
 
 impl Model for BitSet {
@@ -35,12 +38,12 @@ impl Model for BitSet {
 }
 
 impl BitSet {
-    /// The empty set, which takes no memory yet.
+    /// The empty set, which takes no memory yet. Its first word stands ready.
     pub fn new(alloc: Global) -> BitSet
         ensures { result ≡ set.empty }
     {
         BitSet {
-            words: Vec::new(alloc),
+            words: SmallVec::from_buf(alloc, [0]),
         }
     }
 
@@ -50,7 +53,9 @@ impl BitSet {
         requires { length words.items ≤ 1024 }
         ensures { result ≡ held words.items }
     {
-        BitSet { words }
+        BitSet {
+            words: SmallVec::from_vec(words),
+        }
     }
 
     /// The words in which the set's bits stand, as [`BitSet::from_words`] takes them. There may be zeros past the greatest number.
@@ -65,20 +70,17 @@ impl BitSet {
     pub fn contains(&self, bit: u32) -> bool
         ensures { result ≡ set.contains self.now bit }
     {
-        let word = (bit / WORD) as usize;
-        word < self.words.len() && (self.words[word] >> (bit % WORD)) & 1 == 1
+        (word_at(&self.words, bit / WORD) >> (bit % WORD)) & 1 == 1
     }
 
     /// Whether the set has no number.
     pub fn is_empty(&self) -> bool
         ensures { IsTrue result ↔ (self.now ≡ set.empty) }
     {
-        for word in &self.words {
-            if *word != 0 {
-                return false;
-            }
+        match self.first_from(0) {
+            Some(_) => false,
+            None => true,
         }
-        true
     }
 
     /// Adds a number. Without memory the set stays as it was.
@@ -87,9 +89,9 @@ impl BitSet {
         ensures ok { OnOk result (self.new ≡ set.insert self.old bit) }
         ensures err { OnErr result (self.new ≡ self.old) }
     {
-        let word = (bit / WORD) as usize;
-        widen(&mut self.words, word + 1)?;
-        self.words[word] |= 1 << (bit % WORD);
+        let place = (bit / WORD) as usize;
+        widen(&mut self.words, place + 1)?;
+        add_bits(&mut self.words, place, 1 << (bit % WORD));
         Ok(())
     }
 
@@ -105,7 +107,7 @@ impl BitSet {
         }
         let word = (place / 8) as usize;
         widen(&mut self.words, word + 1)?;
-        self.words[word] |= (byte as u64) << (place % 8 * 8);
+        add_bits(&mut self.words, word, (byte as u64) << (place % 8 * 8));
         Ok(())
     }
 
@@ -130,8 +132,13 @@ impl BitSet {
     pub fn clone_in(&self, alloc: Global) -> Result<BitSet, NoMemory>
         ensures { IfOk result (λ s. s ≡ self.now) }
     {
+        if self.words.len() == 1 {
+            return Ok(BitSet {
+                words: SmallVec::from_buf(alloc, [first_of(&self.words)]),
+            });
+        }
         Ok(BitSet {
-            words: Vec::from_slice(alloc, &self.words)?,
+            words: SmallVec::from_slice(alloc, &self.words)?,
         })
     }
 
@@ -139,12 +146,7 @@ impl BitSet {
     pub fn byte(&self, place: u32) -> u8
         ensures { (k : ℕ) → k < 8 → bit result k ≡ set.contains self.now (8 * place + k) }
     {
-        let word = (place / 8) as usize;
-        if word < self.words.len() {
-            ((self.words[word] >> (place % 8 * 8)) % 256) as u8
-        } else {
-            0
-        }
+        ((word_at(&self.words, place / 8) >> (place % 8 * 8)) % 256) as u8
     }
 
     /// The least number of the set at or above `start`.
@@ -154,13 +156,11 @@ impl BitSet {
         let end = self.words.len() as u32 * WORD;
         let mut bit = start;
         while bit < end {
-            if self.words[(bit / WORD) as usize] == 0 {
-                bit = bit / WORD * WORD + WORD;
-            } else if self.contains(bit) {
-                return Some(bit);
-            } else {
-                bit += 1;
+            let left = word_at(&self.words, bit / WORD) >> (bit % WORD);
+            if left != 0 {
+                return Some(bit + left.trailing_zeros());
             }
+            bit = bit / WORD * WORD + WORD;
         }
         None
     }
@@ -174,8 +174,26 @@ impl BitSet {
     }
 }
 
+/// The first word.
+fn first_of(words: &SmallVec<u64, 1>) -> u64
+    requires { small_vec_len words.now ≡ 1 }
+    ensures { words.now.items ≡ result ∷ [] }
+{
+    words[0]
+}
+
+/// The word of a place, which is zero past the last one.
+fn word_at(words: &SmallVec<u64, 1>, place: u32) -> u64
+    ensures { result ≡ get_or words.now.items place 0 }
+{
+    match words.get(place as usize) {
+        Some(word) => *word,
+        None => 0,
+    }
+}
+
 /// Makes room for `size` words, with zeros past those that were there.
-fn widen(words: &mut Vec<u64>, size: usize) -> Result<(), AllocError>
+fn widen(words: &mut SmallVec<u64, 1>, size: usize) -> Result<(), AllocError>
     requires { size ≤ 1024 }
     ensures same { OnOk result ((j : ℕ) → get_or words.new.items j 0 ≡ get_or words.old.items j 0) }
     ensures enough { OnOk result (size ≤ length words.new.items) }
@@ -186,6 +204,14 @@ fn widen(words: &mut Vec<u64>, size: usize) -> Result<(), AllocError>
         words.resize(size, 0)?;
     }
     Ok(())
+}
+
+/// Adds bits to the word of a place.
+fn add_bits(words: &mut [u64], place: usize, bits: u64)
+    requires { place < length words.old }
+    ensures { words.new ≡ slice_set words.old place (bit_or (get_or words.old place 0) bits) }
+{
+    words[place] |= bits;
 }
 
 /// Adds the bits of the other words, of which there are no more.

@@ -1,23 +1,33 @@
-use Rattle.std.proofs.Common.{◌≡◌, ◌<◌, ◌/◌, ◌∙◌, ap, rules, arith, sym, length, inl, inr, get_or}
+use Rattle.std.proofs.Common.{◌<◌, ◌^◌, rules, arith, inl, inr}
 use Rattle.std.proofs.lemmas.Bool.{cases_lt}
-use Rattle.pvd_type.proofs.Sets.{item_at, zero_word, past_all}
+use Rattle.pvd_type.proofs.Sets.{none_left, least_left, past_all}
 use Rattle.pvd_type.proofs.set.BitSet.first_from.Goals as goal
 
-pub loop-bit-preserved-then-index-eq0 : goal.loop-bit-preserved-then-index-eq0
-loop-bit-preserved-then-index-eq0 c =
+pub returns-then-left-ne0 : goal.returns-then-left-ne0
+returns-then-left-ne0 c =
     let ws = c.self.inside.words.items in
-    let word = c.loop-bit.bit / 64 in
-    let within : word < length ws = omega (arith, c.loop-bit-test.true, c.len.ensures, c.self.inside.words.ok) in
-    let here = item_at ws word c.index.result.now within (search rules) in
-    let zero : get_or ws word 0 ≡ 0 = sym here ∙ c.if-index-eq0.true in
+    let bit = c.loop-bit.bit in
+    let small : c.word_at.result < 2 ^ 64 = search rules in
+    let least = least_left ws bit c.word_at.result c.word_at.ensures small c.if-left-ne0.true in (
+      omega (arith, c.loop-bit.invariant.start),
+      rw (← c.self.view_is) least.0,
+      λ q from to.
+          elim (cases_lt q bit) [
+            | inl lt ↦ c.loop-bit.invariant.none q from lt
+            | inr le ↦ rw (← c.self.view_is) (least.1 q le to)
+          ],
+    )
+
+pub loop-bit-preserved : goal.loop-bit-preserved
+loop-bit-preserved c =
+    let ws = c.self.inside.words.items in
+    let bit = c.loop-bit.bit in
     record {
       start = omega (arith, c.loop-bit.invariant.start);
       none = λ q from to.
-          elim (cases_lt q c.loop-bit.bit) [
+          elim (cases_lt q bit) [
             | inl lt ↦ c.loop-bit.invariant.none q from lt
-            | inr le ↦
-                let same : q / 64 ≡ word = omega (arith, le, to) in
-                rw (← c.self.view_is) (zero_word ws q (ap (λ j. get_or ws j 0) same ∙ zero))
+            | inr le ↦ rw (← c.self.view_is) (none_left ws bit c.word_at.result c.word_at.ensures c.if-left-ne0.false q le to)
           ];
     }
 
@@ -27,5 +37,5 @@ returns c =
     λ q from.
     elim (cases_lt q c.loop-bit.bit) [
       | inl lt ↦ c.loop-bit.invariant.none q from lt
-      | inr le ↦ rw (← c.self.view_is) (past_all ws q (omega (arith, le, c.loop-bit-test.false, c.len.ensures, c.self.inside.words.ok)))
+      | inr le ↦ rw (← c.self.view_is) (past_all ws q (omega (arith, le, c.loop-bit-test.false, c.len.ensures.value, c.self.invariant)))
     ]
