@@ -6,3 +6,4 @@ pub mod SetItems
 pub mod Unmarked
 pub mod Differences
 pub mod Placing
+pub mod Crossing

@@ -26,31 +26,22 @@ pub fn blank(alloc: Global, ty: &PvType) -> Result<PvValue, NoMemory>
 pub fn blank_shape(alloc: Global, shape: &Shape) -> Result<PvValue, NoMemory>
     ensures { IfOk result (λ v. view v ≡ blank_of (shape_view shape.now)) }
 {
-    if room_after(shape, ROOM).is_none() {
-        return Err(NoMemory);
-    }
-    blank_at(shape, alloc)
+    let mut room = ROOM;
+    blank_at(shape, alloc, &mut room)
 }
 
-/// How many of so many bytes the fixed lists of a blank value leave; none where they take more.
-#[cycle(room)]
-fn room_after(shape: &Shape, room: u64) -> Option<u64> {
-    match shape {
-        Shape::List(scalar, Extent::Fixed(size)) => {
-            room.checked_sub(u64::from(*size) * element_bytes(*scalar))
+/// Takes the bytes of a list of a fixed length from those that are left for all of a blank value.
+fn spend(room: &mut u64, scalar: Scalar, extent: Extent) -> Result<(), NoMemory> {
+    let Extent::Fixed(size) = extent else {
+        return Ok(());
+    };
+    match room.checked_sub(u64::from(size) * element_bytes(scalar)) {
+        Some(left) => {
+            *room = left;
+            Ok(())
         }
-        Shape::Struct(node) => room_after_members(&node.members, room),
-        _ => Some(room),
+        None => Err(NoMemory),
     }
-}
-
-#[cycle(room)]
-fn room_after_members(members: &[Member], room: u64) -> Option<u64> {
-    let mut left = room;
-    for member in members {
-        left = room_after(&member.shape, left)?;
-    }
-    Some(left)
 }
 
 /// How many bytes an element of a list takes in memory.
@@ -67,17 +58,19 @@ fn element_bytes(scalar: Scalar) -> u64
 }
 
 #[cycle(blank)]
-fn blank_at(shape: &Shape, alloc: Global) -> Result<PvValue, NoMemory>
+#[inline(always)]
+fn blank_at(shape: &Shape, alloc: Global, room: &mut u64) -> Result<PvValue, NoMemory>
     ensures { IfOk result (λ v. view v ≡ blank_of (shape_view shape.now)) }
 {
     match shape {
         Shape::Plain(scalar) => blank_scalar(*scalar, alloc),
         Shape::BoundText(_) => Ok(PvValue::Text(Name::of(alloc, "")?)),
         Shape::List(scalar, extent) => {
+            spend(room, *scalar, *extent)?;
             let items = blank_items(*scalar, blank_count(*extent), alloc)?;
             Ok(PvValue::List(items))
         }
-        Shape::Struct(node) => Ok(PvValue::Struct(blank_members(&node.members, alloc)?)),
+        Shape::Struct(node) => Ok(PvValue::Struct(blank_members(&node.members, alloc, room)?)),
         Shape::Union(_) => Ok(PvValue::Union(None)),
         Shape::Variant => Ok(PvValue::Variant(None)),
         Shape::StructList(_) => Ok(PvValue::StructList(Vec::new(alloc))),
@@ -87,12 +80,17 @@ fn blank_at(shape: &Shape, alloc: Global) -> Result<PvValue, NoMemory>
 }
 
 #[cycle(blank)]
-fn blank_members(members: &[Member], alloc: Global) -> Result<Vec<PvValue>, NoMemory>
+#[inline(never)]
+fn blank_members(
+    members: &[Member],
+    alloc: Global,
+    room: &mut u64,
+) -> Result<Vec<PvValue>, NoMemory>
     ensures { IfOk result (λ v. row_view v.items ≡ blank_row (members_view members.now)) }
 {
     let mut values = Vec::with_capacity(alloc, members.len())?;
     for member in members {
-        values.push(blank_at(&member.shape, alloc)?)?;
+        values.push(blank_at(&member.shape, alloc, room)?)?;
     }
     Ok(values)
 }

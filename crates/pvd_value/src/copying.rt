@@ -1,5 +1,5 @@
 ghost use Rattle.std.specs.Prelude.{◌≡◌, IfOk};
-ghost use Rattle.pvd_value.specs.Data.{selected, carried};
+ghost use Rattle.pvd_value.specs.Data.{single, text, many, members, structs, unions, variants, selected, carried};
 ghost use Rattle.pvd_value.specs.View.{view, row_view, optional_view, carried_view, items_view};
 
 use crate::value::{Items, PvValue};
@@ -17,6 +17,7 @@ impl PvValue {
 
 #[cycle(copy)]
 #[tactic(auto, using(crate::proofs::Rows::view_structs, crate::proofs::Rows::view_unions, crate::proofs::Rows::view_variants))]
+#[inline(always)]
 fn copy(value: &PvValue, alloc: Global) -> Result<PvValue, NoMemory>
     ensures { IfOk result (λ v. view v ≡ view value.now) }
 {
@@ -32,21 +33,76 @@ fn copy(value: &PvValue, alloc: Global) -> Result<PvValue, NoMemory>
         PvValue::U64(x) => Ok(PvValue::U64(*x)),
         PvValue::F32(x) => Ok(PvValue::F32(*x)),
         PvValue::F64(x) => Ok(PvValue::F64(*x)),
-        PvValue::Text(text) => Ok(PvValue::Text(text.clone_in(alloc)?)),
-        PvValue::List(items) => Ok(PvValue::List(items.clone_in(alloc)?)),
-        PvValue::Struct(values) => Ok(PvValue::Struct(copy_row(values, alloc)?)),
+        PvValue::Text(name) => copy_text(name, alloc),
+        PvValue::List(items) => copy_list(items, alloc),
+        PvValue::Struct(values) => copy_members(values, alloc),
         PvValue::Union(None) => Ok(PvValue::Union(None)),
         PvValue::Union(Some((place, inner))) => copy_selected(*place, inner, alloc),
         PvValue::Variant(None) => Ok(PvValue::Variant(None)),
         PvValue::Variant(Some((ty, inner))) => copy_carried(ty, inner, alloc),
-        PvValue::StructList(values) => Ok(PvValue::StructList(copy_optional(values, alloc)?)),
-        PvValue::UnionList(values) => Ok(PvValue::UnionList(copy_optional(values, alloc)?)),
-        PvValue::VariantList(values) => Ok(PvValue::VariantList(copy_variants(values, alloc)?)),
+        PvValue::StructList(values) => copy_structs(values, alloc),
+        PvValue::UnionList(values) => copy_unions(values, alloc),
+        PvValue::VariantList(values) => copy_list_of_variants(values, alloc),
     }
+}
+
+// What takes memory is copied in functions of its own, so that a scalar costs little more than its move.
+
+#[inline(never)]
+fn copy_text(name: &Name, alloc: Global) -> Result<PvValue, NoMemory>
+    ensures { IfOk result (λ v. view v ≡ single (text name.now)) }
+{
+    Ok(PvValue::Text(name.clone_in(alloc)?))
+}
+
+#[inline(never)]
+fn copy_list(items: &Items, alloc: Global) -> Result<PvValue, NoMemory>
+    ensures { IfOk result (λ v. view v ≡ many (items_view items.now)) }
+{
+    Ok(PvValue::List(items.clone_in(alloc)?))
+}
+
+#[cycle(copy)]
+#[inline(never)]
+fn copy_members(values: &[PvValue], alloc: Global) -> Result<PvValue, NoMemory>
+    ensures { IfOk result (λ v. view v ≡ members (row_view values.now)) }
+{
+    Ok(PvValue::Struct(copy_row(values, alloc)?))
+}
+
+#[cycle(copy)]
+#[tactic(auto, using(crate::proofs::Rows::view_structs))]
+#[inline(never)]
+fn copy_structs(values: &[Option<Box<PvValue>>], alloc: Global) -> Result<PvValue, NoMemory>
+    ensures { IfOk result (λ v. view v ≡ structs (optional_view values.now)) }
+{
+    Ok(PvValue::StructList(copy_optional(values, alloc)?))
+}
+
+#[cycle(copy)]
+#[tactic(auto, using(crate::proofs::Rows::view_unions))]
+#[inline(never)]
+fn copy_unions(values: &[Option<Box<PvValue>>], alloc: Global) -> Result<PvValue, NoMemory>
+    ensures { IfOk result (λ v. view v ≡ unions (optional_view values.now)) }
+{
+    Ok(PvValue::UnionList(copy_optional(values, alloc)?))
+}
+
+#[cycle(copy)]
+#[tactic(auto, using(crate::proofs::Rows::view_variants))]
+#[inline(never)]
+fn copy_list_of_variants(
+    values: &[Option<Box<(PvType, PvValue)>>],
+    alloc: Global,
+) -> Result<PvValue, NoMemory>
+    ensures { IfOk result (λ v. view v ≡ variants (carried_view values.now)) }
+{
+    Ok(PvValue::VariantList(copy_variants(values, alloc)?))
 }
 
 #[cycle(copy)]
 #[tactic(auto, using(crate::proofs::Rows::view_selected))]
+#[inline(never)]
 fn copy_selected(place: u32, inner: &PvValue, alloc: Global) -> Result<PvValue, NoMemory>
     ensures { IfOk result (λ v. view v ≡ selected place (view inner.now)) }
 {
@@ -56,6 +112,7 @@ fn copy_selected(place: u32, inner: &PvValue, alloc: Global) -> Result<PvValue, 
 
 #[cycle(copy)]
 #[tactic(auto, using(crate::proofs::Rows::view_carried))]
+#[inline(never)]
 fn copy_carried(ty: &PvType, inner: &PvValue, alloc: Global) -> Result<PvValue, NoMemory>
     ensures { IfOk result (λ v. view v ≡ carried ty.now (view inner.now)) }
 {

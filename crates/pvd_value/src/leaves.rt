@@ -8,6 +8,7 @@ ghost use Rattle.pvd_value.specs.View.{view, row_view};
 ghost use Rattle.pvd_value.specs.Fits.{fits_of, row_fits};
 ghost use Rattle.pvd_value.specs.Leaves.{known, slots, row_slots, leaf_at, leaves_under, leaves_among, marked_leaves, IsOutside};
 
+use crate::marked::misses;
 use crate::value::PvValue;
 use pvd_type::{BitSet, Member, NoMemory, PvType, Shape, split_size};
 use std::alloc::Global;
@@ -95,57 +96,70 @@ pub fn leaves_of(alloc: Global, ty: &PvType, bits: &BitSet) -> Result<BitSet, Va
         return Err(ValueBits::Outside(number));
     }
     let mut found = BitSet::new(alloc);
-    mark(ty.shape(), 0, false, bits, &mut found)?;
+    mark(ty.shape(), ty.sizes(), 0, false, bits, &mut found)?;
     Ok(found)
 }
 
-/// Adds the marked leaves of a node with this number, and says which number follows it. `inside` says that a structure above is marked.
+/// Adds the marked leaves of a node with this number. `inside` says that a structure above is marked. The sizes are those from this
+/// node on.
 #[cycle(mark)]
+#[inline(always)]
 fn mark(
     shape: &Shape,
+    sizes: &[u32],
     number: u32,
     inside: bool,
     bits: &BitSet,
     found: &mut BitSet,
-) -> Result<u32, NoMemory>
-    requires { number + length (numbered (shape_view shape.now)) ≤ 65536 }
-    ensures leaves { OnOk result (found.new ≡ fold set.insert found.old (leaves_under (set.contains bits.now) inside number (shape_view shape.now))) }
-    ensures next { IfOk result (λ n. n ≡ number + length (numbered (shape_view shape.now))) }
+) -> Result<(), NoMemory>
+    requires sizes { IsMeasured sizes.now (numbered (shape_view shape.now)) }
+    requires few { number + length (numbered (shape_view shape.now)) ≤ 4096 }
+    ensures { OnOk result (found.new ≡ fold set.insert found.old (leaves_under (set.contains bits.now) inside number (shape_view shape.now))) }
 {
     let marked = inside | bits.contains(number);
     match shape {
-        Shape::Struct(node) => mark_members(&node.members, number + 1, marked, bits, found),
+        Shape::Struct(node) => {
+            if !marked && misses(bits, number, sizes[0]) {
+                return Ok(());
+            }
+            mark_members(&node.members, &sizes[1..], number + 1, marked, bits, found)
+        }
         _ => mark_leaf(number, marked, found),
     }
 }
 
-/// Adds the number of a leaf where it is marked, and says which number follows it.
-fn mark_leaf(number: u32, marked: bool, found: &mut BitSet) -> Result<u32, NoMemory>
+/// Adds the number of a leaf where it is marked.
+fn mark_leaf(number: u32, marked: bool, found: &mut BitSet) -> Result<(), NoMemory>
     requires { number < 65536 }
-    ensures leaves { OnOk result (found.new ≡ fold set.insert found.old (if marked then number ∷ [] else [])) }
-    ensures next { IfOk result (λ n. n ≡ number + 1) }
+    ensures { OnOk result (found.new ≡ fold set.insert found.old (if marked then number ∷ [] else [])) }
 {
     if marked {
         found.insert(number)?;
     }
-    Ok(number + 1)
+    Ok(())
 }
 
 #[cycle(mark)]
+#[inline(never)]
 fn mark_members(
     members: &[Member],
+    sizes: &[u32],
     number: u32,
     inside: bool,
     bits: &BitSet,
     found: &mut BitSet,
-) -> Result<u32, NoMemory>
-    requires { number + length (numbered_fields (members_view members.now)) ≤ 65536 }
-    ensures leaves { OnOk result (found.new ≡ fold set.insert found.old (leaves_among (set.contains bits.now) inside number (members_view members.now))) }
-    ensures next { IfOk result (λ n. n ≡ number + length (numbered_fields (members_view members.now))) }
+) -> Result<(), NoMemory>
+    requires sizes { IsMeasured sizes.now (numbered_fields (members_view members.now)) }
+    requires few { number + length (numbered_fields (members_view members.now)) ≤ 4096 }
+    ensures { OnOk result (found.new ≡ fold set.insert found.old (leaves_among (set.contains bits.now) inside number (members_view members.now))) }
 {
+    let mut sizes = sizes;
     let mut next = number;
     for member in members {
-        next = mark(&member.shape, next, inside, bits, found)?;
+        let (size, after) = split_size(sizes);
+        mark(&member.shape, sizes, next, inside, bits, found)?;
+        next += size;
+        sizes = after;
     }
-    Ok(next)
+    Ok(())
 }

@@ -16,7 +16,7 @@ pub use blanking::{blank, blank_shape};
 pub use differing::differs;
 pub use fitting::{fits, member_shape};
 pub use leaves::{ValueBits, leaf, leaves_of};
-pub use marked::differs_in;
+pub use marked::{differs_in, misses};
 pub use merging::merge;
 pub use moving::take_leaves;
 pub use pvd_type::NoMemory;

@@ -14,7 +14,7 @@ use crate::value::PvValue;
 use pvd_type::{BitSet, Member, NoMemory, PvType, Shape, split_size};
 use std::alloc::Global;
 
-/// The numbers of the mask under which two values of one type have different leaves. Structures without a marked leaf are passed
+/// The numbers of the mask under which two values of one type have different leaves. Members without a marked leaf are passed
 /// over.
 pub fn differs_in(
     alloc: Global,
@@ -34,6 +34,7 @@ pub fn differs_in(
 
 /// Adds the marked numbers of the leaves that differ, of values of a node with this number. The sizes are those from this node on.
 #[cycle(compare)]
+#[inline(always)]
 fn compare(
     shape: &Shape,
     sizes: &[u32],
@@ -51,9 +52,6 @@ fn compare(
 {
     match shape {
         Shape::Struct(node) => {
-            if misses(mask, number, sizes[0]) {
-                return Ok(());
-            }
             let (old, new) = (a.members(), b.members());
             compare_rows(
                 &node.members,
@@ -89,7 +87,34 @@ fn compare_leaf(
     found.insert(number)
 }
 
+/// The same of a member with so many numbers, if one of them is marked.
 #[cycle(compare)]
+#[inline(always)]
+fn compare_member(
+    shape: &Shape,
+    sizes: &[u32],
+    number: u32,
+    count: u32,
+    a: &PvValue,
+    b: &PvValue,
+    mask: &BitSet,
+    found: &mut BitSet,
+) -> Result<(), NoMemory>
+    requires a { fits_of 16 (view a.now) (shape_view shape.now) ≡ true }
+    requires b { fits_of 16 (view b.now) (shape_view shape.now) ≡ true }
+    requires sizes { IsMeasured sizes.now (numbered (shape_view shape.now)) }
+    requires count { count ≡ length (numbered (shape_view shape.now)) }
+    requires few { number + length (numbered (shape_view shape.now)) ≤ 4096 }
+    ensures { OnOk result (found.new ≡ fold set.insert found.old (filter (set.contains mask.now) (differing number (slots (shape_view shape.now) (view a.now)) (slots (shape_view shape.now) (view b.now))))) }
+{
+    if count > 1 && misses(mask, number, count) {
+        return Ok(());
+    }
+    compare(shape, sizes, number, a, b, mask, found)
+}
+
+#[cycle(compare)]
+#[inline(never)]
 fn compare_rows(
     members: &[Member],
     sizes: &[u32],
@@ -110,23 +135,20 @@ fn compare_rows(
     for i in 0..members.len() {
         let member = &members[i];
         let (size, after) = split_size(sizes);
-        compare(&member.shape, sizes, next, &a[i], &b[i], mask, found)?;
+        compare_member(&member.shape, sizes, next, size, &a[i], &b[i], mask, found)?;
         next += size;
         sizes = after;
     }
     Ok(())
 }
 
-/// Whether a set has none of so many numbers from `start` on. It looks at whole bytes, and so it may say no because of a number
-/// beside them.
-pub(crate) fn misses(mask: &BitSet, start: u32, count: u32) -> bool
+/// Whether a set has none of so many numbers from `start` on.
+pub fn misses(mask: &BitSet, start: u32, count: u32) -> bool
     requires { start + count ≤ 4096 }
     ensures { result ≡ true → (k : ℕ) → start ≤ k → k < start + count → set.contains mask.now k ≡ false }
 {
-    for place in start / 8..(start + count + 7) / 8 {
-        if mask.byte(place) != 0 {
-            return false;
-        }
+    match mask.first_from(start) {
+        Some(first) => first >= start + count,
+        None => true,
     }
-    true
 }

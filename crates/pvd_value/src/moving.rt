@@ -12,7 +12,8 @@ use crate::value::PvValue;
 use pvd_type::{BitSet, Member, PvType, Shape, split_size};
 
 /// Takes the leaves of `from` that the mask has, and keeps the others; `from` gets those that were in their places. The leaves
-/// are moved, so no memory is taken, and structures without a marked leaf are passed over.
+/// are moved, so no memory is taken, and members without a marked leaf are passed over.
+#[inline(always)]
 pub fn take_leaves(ty: &PvType, into: &mut PvValue, mask: &BitSet, from: &mut PvValue)
     requires into { fits_of 16 (view into.old) ty.now ≡ true }
     requires from { fits_of 16 (view from.old) ty.now ≡ true }
@@ -27,6 +28,7 @@ pub fn take_leaves(ty: &PvType, into: &mut PvValue, mask: &BitSet, from: &mut Pv
 
 /// Exchanges the leaves that the mask has of two values of a node with this number. The sizes are those from this node on.
 #[cycle(swap)]
+#[inline(always)]
 fn swap(
     shape: &Shape,
     sizes: &[u32],
@@ -44,9 +46,6 @@ fn swap(
 {
     match shape {
         Shape::Struct(node) => {
-            if misses(mask, number, sizes[0]) {
-                return;
-            }
             if let PvValue::Struct(old) = into {
                 if let PvValue::Struct(new) = from {
                     swap_row(&node.members, &sizes[1..], number + 1, old, new, mask);
@@ -61,7 +60,34 @@ fn swap(
     }
 }
 
+/// The same of a member with so many numbers, if one of them is marked.
 #[cycle(swap)]
+#[inline(always)]
+fn swap_member(
+    shape: &Shape,
+    sizes: &[u32],
+    number: u32,
+    count: u32,
+    into: &mut PvValue,
+    from: &mut PvValue,
+    mask: &BitSet,
+)
+    requires into { fits_of 16 (view into.old) (shape_view shape.now) ≡ true }
+    requires from { fits_of 16 (view from.old) (shape_view shape.now) ≡ true }
+    requires sizes { IsMeasured sizes.now (numbered (shape_view shape.now)) }
+    requires count { count ≡ length (numbered (shape_view shape.now)) }
+    requires few { number + length (numbered (shape_view shape.now)) ≤ 4096 }
+    ensures value { view into.new ≡ merged (set.contains mask.now) number (shape_view shape.now) (view into.old) (view from.old) }
+    ensures rest { view from.new ≡ merged (set.contains mask.now) number (shape_view shape.now) (view from.old) (view into.old) }
+{
+    if count > 1 && misses(mask, number, count) {
+        return;
+    }
+    swap(shape, sizes, number, into, from, mask);
+}
+
+#[cycle(swap)]
+#[inline(never)]
 fn swap_row(
     members: &[Member],
     sizes: &[u32],
@@ -82,7 +108,15 @@ fn swap_row(
     for i in 0..members.len() {
         let member = &members[i];
         let (size, after) = split_size(sizes);
-        swap(&member.shape, sizes, next, &mut old[i], &mut new[i], mask);
+        swap_member(
+            &member.shape,
+            sizes,
+            next,
+            size,
+            &mut old[i],
+            &mut new[i],
+            mask,
+        );
         next += size;
         sizes = after;
     }

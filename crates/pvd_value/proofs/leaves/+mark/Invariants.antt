@@ -1,7 +1,7 @@
 use Rattle.std.proofs.Common.{◌≡◌, ◌+◌, length, drop, fold}
 use Rattle.std.specs.FinSet as set
 use Rattle.pvd_type.specs.View.{members_view}
-use Rattle.pvd_type.specs.Numbers.{numbered_fields}
+use Rattle.pvd_type.specs.Numbers.{numbered_fields, IsMeasured}
 use Rattle.pvd_value.specs.Leaves.{leaves_among}
 use Rattle.pvd_value.proofs.leaves.+mark.Given as goal
 
@@ -12,4 +12,5 @@ invariant-mark_members-loop-member l =
     record {
       same : fold set.insert l.found (leaves_among (set.contains l.bits) l.inside l.next rest) ≡ fold set.insert l.fn.found (leaves_among (set.contains l.bits) l.inside l.number all);
       total : l.next + length (numbered_fields rest) ≡ l.number + length (numbered_fields all);
+      measured : IsMeasured l.sizes (numbered_fields rest);
     }

@@ -1,13 +1,13 @@
-use Rattle.std.proofs.Common.{◌≡◌, ◌∙◌, ◌+◌, ◌*◌, ◌<◌, ◌≤◌, ◌++◌, ℕ, Bool, List, refl, subst, fold, sym, ap, length, get_or, drop, rules, arith}
+use Rattle.std.proofs.Common.{◌≡◌, ◌∙◌, ◌+◌, ◌*◌, ◌<◌, ◌≤◌, ℕ, Bool, List, subst, fold, sym, ap, length, get_or, drop, rules, arith}
 use Rattle.std.specs.FinSet as set
 use Rattle.std.specs.List.{filter}
 use Rattle.std.proofs.lemmas.List.{length-append, take_rest}
 use Rattle.std.proofs.lemmas.List.Elements.{filter-append}
 use Rattle.pvd_type.proofs.Sizes.{measured_first, measured_inside}
 use Rattle.pvd_value.proofs.Differences.{filter_none}
-use Rattle.pvd_type.specs.Tree.{Tree, leaf, node, struct}
+use Rattle.pvd_type.specs.Tree.{Tree, node, struct}
 use Rattle.pvd_type.specs.View.{shape_view, members_view}
-use Rattle.pvd_type.specs.Numbers.{numbered, numbered_fields, nodes, nodes_in, sizes_of, IsMeasured}
+use Rattle.pvd_type.specs.Numbers.{numbered, numbered_fields, nodes, nodes_in, IsMeasured}
 use Rattle.pvd_type.specs.declared.shape.Member.{Member}
 use Rattle.pvd_type.specs.declared.shape.Node.{Node, out-Node}
 use Rattle.pvd_type.proofs.Counts.{nodes_within}
@@ -30,15 +30,15 @@ compare-compare_rows-requires t c =
     let is : shape_view c.args.shape.now ≡ node struct n.id fs = ap shape_view c.in-Struct.is ∙ struct_is c.in-Struct.node in
     let a_fits = row_of_struct 16 (view c.args.a.now) n.id fs (ap (fits_of 16 (view c.args.a.now)) (sym is) ∙ c.requires.a) in
     let b_fits = row_of_struct 16 (view c.args.b.now) n.id fs (ap (fits_of 16 (view c.args.b.now)) (sym is) ∙ c.requires.b) in
-    let fewer : 2 * nodes_in (members_view c.deref-in-Struct.result.now) + 1 < 2 * nodes (shape_view c.args.shape.now) =
+    let fewer : 3 * nodes_in (members_view c.deref-in-Struct.result.now) + 2 < 3 * nodes (shape_view c.args.shape.now) =
     omega (arith, ap nodes is, ap (λ (xs : List Member). nodes_in (members_view xs)) listed) in
     let few : c.args.number + 1 + length (numbered_fields (members_view c.deref-in-Struct.result.now)) ≤ 4096 =
     omega (arith, c.requires.few, ap (λ (x : Tree). length (numbered x)) is, ap (λ (xs : List Member). length (numbered_fields (members_view xs))) listed) in
     let inside = measured_inside c.args.sizes.now n.id fs (subst (λ (x : Tree). IsMeasured c.args.sizes.now (numbered x)) is c.requires.sizes) in
     (omega (arith, fewer, c.decreases), (rw (c.members-old.ensures, listed) a_fits, (rw (c.members-new.ensures, listed) b_fits, (rw (listed, take_rest c.args.sizes.now 1) inside, few))))
 
-pub compare_rows-compare-requires : goal.compare_rows-compare-requires
-compare_rows-compare-requires t c =
+pub compare_rows-compare_member-requires : goal.compare_rows-compare_member-requires
+compare_rows-compare_member-requires t c =
     let ms = c.args.members.now in
     let i = c.loop-i.i in
     let m = c.index-members-i.result in
@@ -59,7 +59,8 @@ compare_rows-compare-requires t c =
     let measures = measured_first c.loop-i.sizes.now (shape_view m.shape) left (rw rest_m at c.loop-i.invariant.measured) in
     let few : c.loop-i.next + length (numbered (shape_view m.shape)) ≤ 4096 =
     omega (arith, c.requires.few, rw rest_m at c.loop-i.invariant.total, length-append (numbered (shape_view m.shape)) left) in
-    (omega (arith, nodes_within ms i m in_ms at_m, c.decreases), (fit_a.0, (fit_b.0, (measures.here, few))))
+    let count : c.split_size-size.result.0 ≡ length (numbered (shape_view m.shape)) = c.split_size-size.ensures.size ∙ measures.size in
+    (omega (arith, nodes_within ms i m in_ms at_m, c.decreases), (fit_a.0, (fit_b.0, (measures.here, (count, few)))))
 
 pub compare_rows-returns : goal.compare_rows-returns
 compare_rows-returns t c =
@@ -107,7 +108,7 @@ compare_rows-loop-i-preserved t c =
     let len = slots_length 16 (view a) (shape_view m.shape) fit_a.0 in
     let long : length slots_a ≡ length slots_b = len ∙ sym (slots_length 16 (view b) (shape_view m.shape) fit_b.0) in
     record {
-      same = (λ j. fold set.insert (c.in_ok-compare.ensures j) (filter mask (differing (c.loop-i.next + size j) others_a others_b)))
+      same = (λ j. fold set.insert (c.in_ok-compare_member.ensures j) (filter mask (differing (c.loop-i.next + size j) others_a others_b)))
           ∙ ap (λ k. fold set.insert (fold set.insert found (filter mask mine)) (filter mask (differing (c.loop-i.next + k) others_a others_b))) (sym len)
           ∙ sym (fold-append set.insert found (filter mask mine) (filter mask (differing (c.loop-i.next + length slots_a) others_a others_b)))
           ∙ ap (fold set.insert found) (sym (filter-append mask mine (differing (c.loop-i.next + length slots_a) others_a others_b)))
@@ -142,17 +143,12 @@ compare_rows-split_size-size-requires-clause-within t c =
     let measures = measured_first c.loop-i.sizes.now (shape_view m.shape) left (rw rest_m at c.loop-i.invariant.measured) in
     omega (arith, measures.size, measures.within)
 
-first_size : (t : Tree) (rest : List ℕ) → get_or (sizes_of (numbered t) ++ rest) 0 0 ≡ length (numbered t)
-first_size (leaf l) rest = refl
-first_size (node k id fs) rest = refl
-
-pub compare-returns-then-misses : goal.compare-returns-then-misses
-compare-returns-then-misses t c =
+pub compare_member-returns-then-misses : goal.compare_member-returns-then-misses
+compare_member-returns-then-misses t c =
     let tree = shape_view c.args.shape.now in
-    let size : get_or c.args.sizes.now 0 0 ≡ length (numbered tree) = ap (λ (xs : List ℕ). get_or xs 0 0) c.requires.sizes.front ∙ first_size tree c.requires.sizes.rest in
     let long = slots_length 16 (view c.args.a.now) tree c.requires.a in
     sym (ap (fold set.insert c.args.found.now) (filter_none (set.contains c.args.mask.now) c.args.number (slots tree (view c.args.a.now)) (slots tree (view c.args.b.now))
-    (λ k from to. c.misses.ensures c.if-misses.true k from (omega (arith, to, size, long)))))
+    (λ k from to. c.misses.ensures c.if-misses.true k from (omega (arith, to, c.requires.count, long)))))
 
 pub compare-returns-in_default : goal.compare-returns-in_default
 compare-returns-in_default t c =

@@ -10,10 +10,13 @@ use Rattle.pvd_value.specs.Same.{differing}
 use Rattle.pvd_value.proofs.marked.+compare.Given as goal
 
 abbrev pub decreases-compare : goal.decreases-compare
-decreases-compare l = 2 * nodes (shape_view l.shape.now)
+decreases-compare l = 3 * nodes (shape_view l.shape.now)
+
+abbrev pub decreases-compare_member : goal.decreases-compare_member
+decreases-compare_member l = 3 * nodes (shape_view l.shape.now) + 1
 
 abbrev pub decreases-compare_rows : goal.decreases-compare_rows
-decreases-compare_rows l = 2 * nodes_in (members_view l.members.now) + 1
+decreases-compare_rows l = 3 * nodes_in (members_view l.members.now) + 2
 
 abbrev pub invariant-compare_rows-loop-i : goal.invariant-compare_rows-loop-i
 invariant-compare_rows-loop-i l =

@@ -1,9 +1,8 @@
-use Rattle.std.proofs.Common.{◌≡◌, ◌∙◌, ◌+◌, ◌<◌, ◌≤◌, ℕ, Bool, true, false, cond, List, ◌++◌, refl, sym, ap, length, get_or, take, drop, set, rules, arith}
+use Rattle.std.proofs.Common.{◌≡◌, ◌∙◌, ◌+◌, ◌<◌, ◌≤◌, ℕ, Bool, true, false, cond, List, sym, ap, length, get_or, take, drop, set, rules, arith}
 use Rattle.std.specs.FinSet as fin
 use Rattle.std.proofs.lemmas.List.{length-append, length-set, take_all}
-use Rattle.pvd_type.specs.Tree.{Tree, leaf, node}
 use Rattle.pvd_type.specs.View.{shape_view, members_view}
-use Rattle.pvd_type.specs.Numbers.{numbered, numbered_fields, sizes_of}
+use Rattle.pvd_type.specs.Numbers.{numbered, numbered_fields}
 use Rattle.pvd_type.specs.declared.shape.Member.{Member}
 use Rattle.pvd_type.proofs.Counts.{nodes_within}
 use Rattle.pvd_type.proofs.Sizes.{measured_first}
@@ -19,23 +18,15 @@ use Rattle.pvd_type.proofs.Shapes.{unentered}
 use Rattle.pvd_value.proofs.Slots.{lone_merged}
 use Rattle.pvd_value.proofs.moving.+swap.Goals as goal
 
-first_size : (t : Tree) (rest : List ℕ) → get_or (sizes_of (numbered t) ++ rest) 0 0 ≡ length (numbered t)
-first_size (leaf l) rest = refl
-first_size (node k id fs) rest = refl
+pub swap_member-returns-then-misses-clause-value : goal.swap_member-returns-then-misses-clause-value
+swap_member-returns-then-misses-clause-value t c =
+    sym (merged_none 16 (fin.contains c.args.mask.now) c.args.number (shape_view c.args.shape.now) (view c.args.into.now) (view c.args.from.now) c.requires.into c.requires.from
+    (λ k from to. c.misses.ensures c.if-misses.true k from (omega (arith, to, c.requires.count))))
 
-pub swap-returns-then-misses-clause-value : goal.swap-returns-then-misses-clause-value
-swap-returns-then-misses-clause-value t c =
-    let tree = shape_view c.args.shape.now in
-    let size : get_or c.args.sizes.now 0 0 ≡ length (numbered tree) = ap (λ (xs : List ℕ). get_or xs 0 0) c.requires.sizes.front ∙ first_size tree c.requires.sizes.rest in
-    sym (merged_none 16 (fin.contains c.args.mask.now) c.args.number tree (view c.args.into.now) (view c.args.from.now) c.requires.into c.requires.from
-    (λ k from to. c.misses.ensures c.if-misses.true k from (omega (arith, to, size))))
-
-pub swap-returns-then-misses-clause-rest : goal.swap-returns-then-misses-clause-rest
-swap-returns-then-misses-clause-rest t c =
-    let tree = shape_view c.args.shape.now in
-    let size : get_or c.args.sizes.now 0 0 ≡ length (numbered tree) = ap (λ (xs : List ℕ). get_or xs 0 0) c.requires.sizes.front ∙ first_size tree c.requires.sizes.rest in
-    sym (merged_none 16 (fin.contains c.args.mask.now) c.args.number tree (view c.args.from.now) (view c.args.into.now) c.requires.from c.requires.into
-    (λ k from to. c.misses.ensures c.if-misses.true k from (omega (arith, to, size))))
+pub swap_member-returns-then-misses-clause-rest : goal.swap_member-returns-then-misses-clause-rest
+swap_member-returns-then-misses-clause-rest t c =
+    sym (merged_none 16 (fin.contains c.args.mask.now) c.args.number (shape_view c.args.shape.now) (view c.args.from.now) (view c.args.into.now) c.requires.from c.requires.into
+    (λ k from to. c.misses.ensures c.if-misses.true k from (omega (arith, to, c.requires.count))))
 
 pub swap_row-overflow_add-next : goal.swap_row-overflow_add-next
 swap_row-overflow_add-next t c =
@@ -79,8 +70,8 @@ merged_on mask i n next m ms vs v y others left d whole in_vs in_ms at_v at_m ot
     ∙ ap (λ (k : ℕ). joined (row_view front) (more (merged mask n (shape_view m.shape) (view v) d) (merged_row mask k rest_ms (row_view (drop (i + 1) vs)) left))) after
     ∙ rw (rest_m, rest_v, other) at same
 
-pub swap_row-swap-requires : goal.swap_row-swap-requires
-swap_row-swap-requires t c =
+pub swap_row-swap_member-requires : goal.swap_row-swap_member-requires
+swap_row-swap_member-requires t c =
     let ms = c.args.members.now in
     let i = c.loop-i.i in
     let m = c.index-members-i.result in
@@ -101,7 +92,8 @@ swap_row-swap-requires t c =
     let measures = measured_first c.loop-i.sizes.now (shape_view m.shape) left (rw rest_m at c.loop-i.invariant.measured) in
     let few : c.loop-i.next + length (numbered (shape_view m.shape)) ≤ 4096 =
     omega (arith, c.requires.few, rw rest_m at c.loop-i.invariant.total, length-append (numbered (shape_view m.shape)) left) in
-    (omega (arith, nodes_within ms i m in_ms at_m, c.decreases), (fit_old.0, (fit_new.0, (measures.here, few))))
+    let count : c.split_size-size.result.0 ≡ length (numbered (shape_view m.shape)) = c.split_size-size.ensures.size ∙ measures.size in
+    (omega (arith, nodes_within ms i m in_ms at_m, c.decreases), (fit_old.0, (fit_new.0, (measures.here, (count, few)))))
 
 pub swap_row-returns-clause-values : goal.swap_row-returns-clause-values
 swap_row-returns-clause-values t c =
@@ -138,18 +130,18 @@ swap_row-loop-i-preserved t c =
     let measures = measured_first c.loop-i.sizes.now (shape_view m.shape) left (rw rest_m at c.loop-i.invariant.measured) in
     let size : c.split_size-size.result.0 ≡ length (numbered (shape_view m.shape)) = c.split_size-size.ensures.size ∙ measures.size in
     let after : c.loop-i.next + c.split_size-size.result.0 ≡ c.loop-i.next + length (numbered (shape_view m.shape)) = ap (λ (n : ℕ). c.loop-i.next + n) size in
-    let y = c.swap.new.into in
-    let z = c.swap.new.from in
+    let y = c.swap_member.new.into in
+    let z = c.swap_member.new.from in
     let new_left : row_view (drop (i + 1) (set news i z)) ≡ row_view (drop (i + 1) news) = ap row_view (drop_set news i z) in
     let old_left : row_view (drop (i + 1) (set olds i y)) ≡ row_view (drop (i + 1) olds) = ap row_view (drop_set olds i y) in
     let rest_ms = members_view (drop (i + 1) ms) in
     record {
       same =
           ap (λ (r : Row). joined (row_view (take (i + 1) (set olds i y))) (merged_row mask (c.loop-i.next + c.split_size-size.result.0) rest_ms (row_view (drop (i + 1) (set olds i y))) r)) new_left
-          ∙ merged_on mask i c.loop-i.next (c.loop-i.next + c.split_size-size.result.0) m ms olds old y (row_view (drop i news)) (row_view (drop (i + 1) news)) (view new) _ in_old in_ms at_old at_m rest_new c.swap.ensures.value after c.loop-i.invariant.same;
+          ∙ merged_on mask i c.loop-i.next (c.loop-i.next + c.split_size-size.result.0) m ms olds old y (row_view (drop i news)) (row_view (drop (i + 1) news)) (view new) _ in_old in_ms at_old at_m rest_new c.swap_member.ensures.value after c.loop-i.invariant.same;
       other =
           ap (λ (r : Row). joined (row_view (take (i + 1) (set news i z))) (merged_row mask (c.loop-i.next + c.split_size-size.result.0) rest_ms (row_view (drop (i + 1) (set news i z))) r)) old_left
-          ∙ merged_on mask i c.loop-i.next (c.loop-i.next + c.split_size-size.result.0) m ms news new z (row_view (drop i olds)) (row_view (drop (i + 1) olds)) (view old) _ in_new in_ms at_new at_m rest_old c.swap.ensures.rest after c.loop-i.invariant.other;
+          ∙ merged_on mask i c.loop-i.next (c.loop-i.next + c.split_size-size.result.0) m ms news new z (row_view (drop i olds)) (row_view (drop (i + 1) olds)) (view old) _ in_new in_ms at_new at_m rest_old c.swap_member.ensures.rest after c.loop-i.invariant.other;
       total = omega (arith, size, rw rest_m at c.loop-i.invariant.total, length-append (numbered (shape_view m.shape)) left);
       measured = rw (c.split_size-size.ensures.after, measures.size) measures.after;
       old_fits = ap (λ (r : Row). row_fits 16 r rest_ms) old_left ∙ fit_old.1;

@@ -9,10 +9,13 @@ use Rattle.pvd_value.proofs.Rows.{joined}
 use Rattle.pvd_value.proofs.moving.+swap.Given as goal
 
 abbrev pub decreases-swap : goal.decreases-swap
-decreases-swap l = 2 * nodes (shape_view l.shape.now)
+decreases-swap l = 3 * nodes (shape_view l.shape.now)
+
+abbrev pub decreases-swap_member : goal.decreases-swap_member
+decreases-swap_member l = 3 * nodes (shape_view l.shape.now) + 1
 
 abbrev pub decreases-swap_row : goal.decreases-swap_row
-decreases-swap_row l = 2 * nodes_in (members_view l.members.now) + 1
+decreases-swap_row l = 3 * nodes_in (members_view l.members.now) + 2
 
 abbrev pub invariant-swap_row-loop-i : goal.invariant-swap_row-loop-i
 invariant-swap_row-loop-i l =
