@@ -1,7 +1,8 @@
 -- Items that are read one after another, as a loop does.
-use Rattle.std.proofs.Common.{◌≡◌, ℕ, suc, ◌-◌, ◌+◌, ◌≤◌, ◌<◌, List, [], ◌∷◌, ◌++◌, Ok, Err, refl, sym, ap, ◌∙◌, append_assoc, arith}
+use Rattle.std.proofs.Common.{◌≡◌, ℕ, zero, suc, ◌-◌, ◌+◌, ◌≤◌, ◌<◌, List, [], ◌∷◌, ◌++◌, Ok, Err, refl, sym, ap, subst, ◌∙◌, append_assoc, arith}
 use Rattle.std.proofs.lemmas.List.{append-nil}
 use Rattle.pva_wire.specs.Reading.{◌>>=◌}
+use Rattle.pva_wire.proofs.Takes.{ok_is, bind_ok}
 use Rattle.pvd_codec.specs.declared.fault.ValueStop.{ValueStop}
 use Rattle.pvd_codec.specs.declared.fault.ValueStop.TheVariants as stops
 use Rattle.pvd_codec.specs.Reading.{Read, Fails, items_at}
@@ -38,3 +39,40 @@ module _ {A S : Type 0} (item : S → Read S A) where
       let k : count - i ≡ 0 = omega arith in
       let one : with_front front (items_at item (count - i) s) ≡ Ok (front, s) = rw k (ap (λ (xs : List A). Ok (xs, s)) (append-nil front)) in
       sym so_far ∙ one
+
+  nothing_before : (read : Read S (List A)) → read ≡ with_front [] read
+  nothing_before (Ok y) = refl
+  nothing_before (Err f) = refl
+
+  one_before : (x : A) (xs : List A) (read : Read S (List A)) → (with_front xs read >>= λ y. Ok (x ∷ y.0, y.1)) ≡ with_front (x ∷ xs) read
+  one_before x xs (Ok y) = refl
+  one_before x xs (Err f) = refl
+
+  regroup_all : (front xs : List A) (read : Read S (List A)) → with_front front (with_front xs read) ≡ with_front (front ++ xs) read
+  regroup_all front xs (Ok y) = ap (λ (zs : List A). Ok (zs, y.1)) (simp append_assoc)
+  regroup_all front xs (Err f) = refl
+
+  one_more : (k m : ℕ) (s : S) (x : A × S) (ys : List A × S) → item s ≡ Ok x → items_at item (k + m) x.1 ≡ with_front ys.0 (items_at item m ys.1)
+      → items_at item (suc k + m) s ≡ with_front (x.0 ∷ ys.0) (items_at item m ys.1)
+  unfolding items_at
+  one_more k m s x ys first others =
+      let count : suc k + m ≡ suc (k + m) = omega arith in
+      rw (count, first, others) (one_before x.0 ys.0 (items_at item m ys.1))
+
+  -- the first few, and then the others
+  few_first : (k m : ℕ) (s : S) (xs : List A × S) → items_at item k s ≡ Ok xs → items_at item (k + m) s ≡ with_front xs.0 (items_at item m xs.1)
+  unfolding items_at
+  few_first zero m s xs h =
+      let none : 0 + m ≡ m = omega arith in
+      subst (λ (zs : List A × S). items_at item (0 + m) s ≡ with_front zs.0 (items_at item m zs.1)) (ok_is ([], s) xs h) (rw none (nothing_before (items_at item m s)))
+  few_first (suc k) m s xs h =
+      let x = bind_ok (item s) (λ x. items_at item k x.1 >>= λ ys. Ok (x.0 ∷ ys.0, ys.1)) xs h in
+      let ys = bind_ok (items_at item k x.0.1) (λ ys. Ok (x.0.0 ∷ ys.0, ys.1)) xs x.2 in
+      subst (λ (zs : List A × S). items_at item (suc k + m) s ≡ with_front zs.0 (items_at item m zs.1)) (ok_is (x.0.0 ∷ ys.0.0, ys.0.1) xs ys.2) (one_more k m s x.0 ys.0 x.1 (few_first k m x.0.1 ys.0 ys.1))
+
+  pub goes_on_by : (front : List A) (count i k : ℕ) (s : S) (xs : List A) (after : S) (total : Read S (List A)) → i + k ≤ count → items_at item k s ≡ Ok (xs, after)
+      → with_front front (items_at item (count - i) s) ≡ total → with_front (front ++ xs) (items_at item (count - (i + k)) after) ≡ total
+  goes_on_by front count i k s xs after total le h so_far =
+      let parts : count - i ≡ k + (count - (i + k)) = omega (arith, le) in
+      let one : with_front front (items_at item (count - i) s) ≡ with_front (front ++ xs) (items_at item (count - (i + k)) after) = rw (parts, few_first k (count - (i + k)) s (xs, after) h) (regroup_all front xs (items_at item (count - (i + k)) after)) in
+      sym one ∙ so_far

@@ -1,9 +1,8 @@
 -- Numbers of one width that were read at once are those that are read one after another.
-use Rattle.std.proofs.Common.{◌≡◌, ℕ, suc, ◌+◌, ◌*◌, ◌<◌, ◌≤◌, false, ltb, List, [], ◌∷◌, ◌++◌, length, get_or, map, take, drop, Ok, refl, sym, ap, ◌∙◌, arith}
+use Rattle.std.proofs.Common.{◌≡◌, ℕ, suc, ◌+◌, ◌-◌, ◌*◌, ◌<◌, ◌≤◌, false, ltb, List, [], ◌∷◌, ◌++◌, length, get_or, map, drop, Ok, refl, sym, ap, ◌∙◌, arith}
 use Rattle.std.proofs.lemmas.Bool.{le-ltb}
 use Rattle.std.proofs.lemmas.List.{length-append, length-drop, drop-drop, drop-append-le}
-use Rattle.std.proofs.Math.Nat.{mul-suc, mul_comm}
-use Rattle.std.proofs.Math.Seq.{take-append_seam}
+use Rattle.std.proofs.Math.Nat.{add-mul, mul-suc, mul_comm}
 use Rattle.byteorder.specs.Numbers.{big_from-append, little_from-append}
 use Rattle.pva_wire.specs.declared.order.Order.{Order}
 use Rattle.pva_wire.specs.declared.order.Order.TheVariants.{Little, Big}
@@ -41,15 +40,6 @@ module _ {X : Type 0} (meaning : ℕ → X) (order : Order) (n : ℕ) where
       let others = numbers_read d xs (drop n front) rest left (λ k h. each (suc k) (omega (arith, h)) ∙ ap (λ bs. meaning (number_of order n bs)) (sym (drop_drop k front))) in
       rw (one_number front rest enough, others, sym first) refl
 
-  -- items that were filled with them all
-  pub numbers_filled : (d : X) (count : ℕ) (bytes front rest : List ℕ) (items dst : List X) (len : ℕ) → bytes ≡ front ++ rest → length front ≡ count * n → len ≡ count → length dst ≡ len
-      → ((k : ℕ) → k < length dst → get_or dst k d ≡ meaning (number_of order n (drop (n * k) front))) → items_at (valued meaning order n) count bytes ≡ Ok (take len (dst ++ drop (length dst) items), rest)
-  numbers_filled d count bytes front rest items dst len parts size same kept each =
-      let as_many : count ≡ length dst = omega (arith, same, kept) in
-      let wide : length front ≡ n * length dst = size ∙ ap (λ k. k * n) as_many ∙ mul_comm (length dst) n in
-      let all : take len (dst ++ drop (length dst) items) ≡ dst = ap (λ k. take k (dst ++ drop (length dst) items)) (sym kept) ∙ take-append_seam dst (drop (length dst) items) in
-      rw (parts, as_many, all) (numbers_read d dst front rest wide each)
-
 -- a number of one byte
 byte_is : (order : Order) (b : ℕ) (bytes : List ℕ) → number_of order 1 (b ∷ bytes) ≡ b
 byte_is Little b bytes = omega arith
@@ -61,3 +51,19 @@ bytes_read meaning order [] rest = refl
 bytes_read meaning order (b ∷ front) rest =
     let one : valued meaning order 1 (b ∷ (front ++ rest)) ≡ Ok (meaning b, front ++ rest) = one_number meaning order 1 (b ∷ front) rest (omega arith) ∙ ap (λ x. Ok (meaning x, front ++ rest)) (byte_is order b front) in
     rw (one, bytes_read meaning order front rest) refl
+
+module _ {X : Type 0} (meaning : ℕ → X) (order : Order) (n : ℕ) where
+  -- what was appended is what the next few bytes spell
+  pub numbers_appended : (d : X) (count : ℕ) (bytes front rest : List ℕ) (before after dst : List X) → bytes ≡ front ++ rest → length front ≡ count * n → length dst ≡ count → after ≡ before ++ dst
+      → ((k : ℕ) → k < length dst → get_or dst k d ≡ meaning (number_of order n (drop (n * k) front)))
+      → (xs : List X) × (after ≡ before ++ xs) × (length xs ≡ count) × (items_at (valued meaning order n) count bytes ≡ Ok (xs, rest))
+  numbers_appended d count bytes front rest before after dst parts size kept appended each =
+      let wide : length front ≡ n * length dst = size ∙ ap (λ k. k * n) (sym kept) ∙ mul_comm (length dst) n in
+      (dst, appended, kept, rw (parts, sym kept) (numbers_read meaning order n d dst front rest wide each))
+
+-- room for the others, where there was room for all
+pub room_left : (n few left before after : ℕ) → few ≤ left → left * n ≤ before → few * n + after ≡ before → (left - few) * n ≤ after
+room_left n few left before after le enough parts =
+    let others : left ≡ few + (left - few) = omega (arith, le) in
+    let split : left * n ≡ few * n + (left - few) * n = ap (λ k. k * n) others ∙ add-mul few (left - few) n in
+    omega (arith, split, enough, parts)

@@ -4,6 +4,7 @@
 mod cursor;
 mod fault;
 mod laws;
+mod list_numbers;
 mod lists;
 mod lists_writing;
 mod parts;

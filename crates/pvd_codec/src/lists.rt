@@ -1,13 +1,13 @@
 ghost use Rattle.std.specs.Prelude.{◌≡◌, ◌*◌, ◌≤◌, length, map, IfOk};
-ghost use Rattle.std.specs.Int.{w8, w16, w32, w64, cast_signed};
+ghost use Rattle.std.specs.Int.{w8, cast_signed};
 ghost use Rattle.pva_wire.specs.Reading.{text_at};
 ghost use Rattle.pvd_value.specs.View.{items_view, view};
 ghost use Rattle.pvd_value.specs.Data.{many};
 ghost use Rattle.pvd_codec.specs.Reading.{Gives, lifted, bool_at, valued, width_of, extent_at, items_at, elements_at, list_at};
 
 use crate::fault::{ValueCause, ValueStop};
+use crate::list_numbers::numbers_at;
 use crate::scalars::{bool_at, name_at};
-use byteorder::{BigEndian, ByteOrder, LittleEndian};
 use pva_wire::{Cause, Order, count_at, counted_at};
 use pvd_type::{Extent, Name, Scalar};
 use pvd_value::{Items, PvValue};
@@ -144,150 +144,6 @@ fn i8s_at(
     Ok((signed_bytes(alloc, front)?, rest))
 }
 
-/// So many unsigned numbers of two bytes.
-fn u16s_at(
-    alloc: Global,
-    order: Order,
-    count: u32,
-    bytes: &[u8],
-) -> Result<(Vec<u16>, &[u8]), ValueStop>
-    requires { count * 2 ≤ length bytes.now }
-    ensures { Gives (λ x. (x.0.items, x.1.now)) result (items_at (valued (λ n. n) order 2) count bytes.now) }
-{
-    let (front, rest) = bytes.split_at(count as usize * 2);
-    let mut items: Vec<u16> = vec![in alloc; 0; count as usize]?;
-    match order {
-        Order::Little => {
-            LittleEndian::read_u16_into(front, &mut items);
-            Ok((items, rest))
-        }
-        Order::Big => {
-            BigEndian::read_u16_into(front, &mut items);
-            Ok((items, rest))
-        }
-    }
-}
-
-/// So many unsigned numbers of four bytes.
-fn u32s_at(
-    alloc: Global,
-    order: Order,
-    count: u32,
-    bytes: &[u8],
-) -> Result<(Vec<u32>, &[u8]), ValueStop>
-    requires { count * 4 ≤ length bytes.now }
-    ensures { Gives (λ x. (x.0.items, x.1.now)) result (items_at (valued (λ n. n) order 4) count bytes.now) }
-{
-    let (front, rest) = bytes.split_at(count as usize * 4);
-    let mut items: Vec<u32> = vec![in alloc; 0; count as usize]?;
-    match order {
-        Order::Little => {
-            LittleEndian::read_u32_into(front, &mut items);
-            Ok((items, rest))
-        }
-        Order::Big => {
-            BigEndian::read_u32_into(front, &mut items);
-            Ok((items, rest))
-        }
-    }
-}
-
-/// So many unsigned numbers of eight bytes.
-fn u64s_at(
-    alloc: Global,
-    order: Order,
-    count: u32,
-    bytes: &[u8],
-) -> Result<(Vec<u64>, &[u8]), ValueStop>
-    requires { count * 8 ≤ length bytes.now }
-    ensures { Gives (λ x. (x.0.items, x.1.now)) result (items_at (valued (λ n. n) order 8) count bytes.now) }
-{
-    let (front, rest) = bytes.split_at(count as usize * 8);
-    let mut items: Vec<u64> = vec![in alloc; 0; count as usize]?;
-    match order {
-        Order::Little => {
-            LittleEndian::read_u64_into(front, &mut items);
-            Ok((items, rest))
-        }
-        Order::Big => {
-            BigEndian::read_u64_into(front, &mut items);
-            Ok((items, rest))
-        }
-    }
-}
-
-/// So many signed numbers of two bytes.
-fn i16s_at(
-    alloc: Global,
-    order: Order,
-    count: u32,
-    bytes: &[u8],
-) -> Result<(Vec<i16>, &[u8]), ValueStop>
-    requires { count * 2 ≤ length bytes.now }
-    ensures { Gives (λ x. (x.0.items, x.1.now)) result (items_at (valued (cast_signed w16) order 2) count bytes.now) }
-{
-    let (front, rest) = bytes.split_at(count as usize * 2);
-    let mut items: Vec<i16> = vec![in alloc; 0; count as usize]?;
-    match order {
-        Order::Little => {
-            LittleEndian::read_i16_into(front, &mut items);
-            Ok((items, rest))
-        }
-        Order::Big => {
-            BigEndian::read_i16_into(front, &mut items);
-            Ok((items, rest))
-        }
-    }
-}
-
-/// So many signed numbers of four bytes.
-fn i32s_at(
-    alloc: Global,
-    order: Order,
-    count: u32,
-    bytes: &[u8],
-) -> Result<(Vec<i32>, &[u8]), ValueStop>
-    requires { count * 4 ≤ length bytes.now }
-    ensures { Gives (λ x. (x.0.items, x.1.now)) result (items_at (valued (cast_signed w32) order 4) count bytes.now) }
-{
-    let (front, rest) = bytes.split_at(count as usize * 4);
-    let mut items: Vec<i32> = vec![in alloc; 0; count as usize]?;
-    match order {
-        Order::Little => {
-            LittleEndian::read_i32_into(front, &mut items);
-            Ok((items, rest))
-        }
-        Order::Big => {
-            BigEndian::read_i32_into(front, &mut items);
-            Ok((items, rest))
-        }
-    }
-}
-
-/// So many signed numbers of eight bytes.
-fn i64s_at(
-    alloc: Global,
-    order: Order,
-    count: u32,
-    bytes: &[u8],
-) -> Result<(Vec<i64>, &[u8]), ValueStop>
-    requires { count * 8 ≤ length bytes.now }
-    ensures { Gives (λ x. (x.0.items, x.1.now)) result (items_at (valued (cast_signed w64) order 8) count bytes.now) }
-{
-    let (front, rest) = bytes.split_at(count as usize * 8);
-    let mut items: Vec<i64> = vec![in alloc; 0; count as usize]?;
-    match order {
-        Order::Little => {
-            LittleEndian::read_i64_into(front, &mut items);
-            Ok((items, rest))
-        }
-        Order::Big => {
-            BigEndian::read_i64_into(front, &mut items);
-            Ok((items, rest))
-        }
-    }
-}
-
 /// So many scalars, for which there are bytes enough.
 #[tactic(auto, unfolding(crate::specs::Reading::elements_at))]
 fn elements_at(
@@ -310,15 +166,15 @@ fn elements_at(
             Ok((PvValue::List(Items::I8(items)), rest))
         }
         Scalar::I16 => {
-            let (items, rest) = i16s_at(alloc, order, count, bytes)?;
+            let (items, rest) = numbers_at::<i16>(alloc, order, count, bytes)?;
             Ok((PvValue::List(Items::I16(items)), rest))
         }
         Scalar::I32 => {
-            let (items, rest) = i32s_at(alloc, order, count, bytes)?;
+            let (items, rest) = numbers_at::<i32>(alloc, order, count, bytes)?;
             Ok((PvValue::List(Items::I32(items)), rest))
         }
         Scalar::I64 => {
-            let (items, rest) = i64s_at(alloc, order, count, bytes)?;
+            let (items, rest) = numbers_at::<i64>(alloc, order, count, bytes)?;
             Ok((PvValue::List(Items::I64(items)), rest))
         }
         Scalar::U8 => {
@@ -326,23 +182,23 @@ fn elements_at(
             Ok((PvValue::List(Items::U8(items)), rest))
         }
         Scalar::U16 => {
-            let (items, rest) = u16s_at(alloc, order, count, bytes)?;
+            let (items, rest) = numbers_at::<u16>(alloc, order, count, bytes)?;
             Ok((PvValue::List(Items::U16(items)), rest))
         }
         Scalar::U32 => {
-            let (items, rest) = u32s_at(alloc, order, count, bytes)?;
+            let (items, rest) = numbers_at::<u32>(alloc, order, count, bytes)?;
             Ok((PvValue::List(Items::U32(items)), rest))
         }
         Scalar::U64 => {
-            let (items, rest) = u64s_at(alloc, order, count, bytes)?;
+            let (items, rest) = numbers_at::<u64>(alloc, order, count, bytes)?;
             Ok((PvValue::List(Items::U64(items)), rest))
         }
         Scalar::F32 => {
-            let (items, rest) = u32s_at(alloc, order, count, bytes)?;
+            let (items, rest) = numbers_at::<u32>(alloc, order, count, bytes)?;
             Ok((PvValue::List(Items::F32(items)), rest))
         }
         Scalar::F64 => {
-            let (items, rest) = u64s_at(alloc, order, count, bytes)?;
+            let (items, rest) = numbers_at::<u64>(alloc, order, count, bytes)?;
             Ok((PvValue::List(Items::F64(items)), rest))
         }
         Scalar::Text => {

@@ -1,5 +1,6 @@
-ghost use Rattle.std.specs.Prelude.{◌≡◌, ◌++◌, ◌*◌, length, OnOk, OnErr};
+ghost use Rattle.std.specs.Prelude.{◌≡◌, ◌++◌, ◌*◌, ◌≤◌, length, OnOk, OnErr};
 ghost use Rattle.std.specs.List.{flat_map};
+ghost use Rattle.pva_wire.specs.declared.order.Order.TheVariants.{Little};
 ghost use Rattle.pvd_value.specs.Data.{Single, byte, short, int, long, ubyte, ushort, uint, ulong};
 ghost use Rattle.pvd_codec.specs.Written.{Begins, canonical_single, CanSingle, CanEach};
 
@@ -59,6 +60,151 @@ fn read_all<T: Signed>(numbers: &[T])
     }
 }
 
+/// A number of a list, which is appended with its lowest byte first, as the machine has it in memory.
+trait Number {
+    ghost single: { Self → Single };
+
+    /// How many bytes the number has.
+    fn width() -> usize;
+
+    /// Appends a few numbers, one after another, where there is room for them, and else answers want of memory. The test for room
+    /// tells the compiler that nothing moves between the two copies, so that it makes one of them.
+    fn append(out: &mut Vec<u8>, numbers: &[Self]) -> Result<(), NoMemory>
+        requires { length numbers.now ≤ 128 }
+        ensures written { OnOk result (out.new.items ≡ out.old.items ++ flat_map (λ x. canonical_single Little (single x)) numbers.now) }
+        ensures begins { OnErr result (Begins out.old.items out.new.items) };
+}
+
+impl Number for i16 {
+    ghost single = { short };
+
+    fn width() -> usize {
+        2
+    }
+
+    fn append(out: &mut Vec<u8>, numbers: &[i16]) -> Result<(), NoMemory> {
+        let mut room = [0u8; 256];
+        let bytes = &mut room[..numbers.len() * 2];
+        if out.capacity() - out.len() < bytes.len() {
+            return Err(NoMemory);
+        }
+        put_i16s(bytes, Order::Little, numbers);
+        out.extend_from_slice(bytes)?;
+        Ok(())
+    }
+}
+
+impl Number for i32 {
+    ghost single = { int };
+
+    fn width() -> usize {
+        4
+    }
+
+    fn append(out: &mut Vec<u8>, numbers: &[i32]) -> Result<(), NoMemory> {
+        let mut room = [0u8; 512];
+        let bytes = &mut room[..numbers.len() * 4];
+        if out.capacity() - out.len() < bytes.len() {
+            return Err(NoMemory);
+        }
+        put_i32s(bytes, Order::Little, numbers);
+        out.extend_from_slice(bytes)?;
+        Ok(())
+    }
+}
+
+impl Number for i64 {
+    ghost single = { long };
+
+    fn width() -> usize {
+        8
+    }
+
+    fn append(out: &mut Vec<u8>, numbers: &[i64]) -> Result<(), NoMemory> {
+        let mut room = [0u8; 1024];
+        let bytes = &mut room[..numbers.len() * 8];
+        if out.capacity() - out.len() < bytes.len() {
+            return Err(NoMemory);
+        }
+        put_i64s(bytes, Order::Little, numbers);
+        out.extend_from_slice(bytes)?;
+        Ok(())
+    }
+}
+
+impl Number for u16 {
+    ghost single = { ushort };
+
+    fn width() -> usize {
+        2
+    }
+
+    fn append(out: &mut Vec<u8>, numbers: &[u16]) -> Result<(), NoMemory> {
+        let mut room = [0u8; 256];
+        let bytes = &mut room[..numbers.len() * 2];
+        if out.capacity() - out.len() < bytes.len() {
+            return Err(NoMemory);
+        }
+        put_u16s(bytes, Order::Little, numbers);
+        out.extend_from_slice(bytes)?;
+        Ok(())
+    }
+}
+
+impl Number for u32 {
+    ghost single = { uint };
+
+    fn width() -> usize {
+        4
+    }
+
+    fn append(out: &mut Vec<u8>, numbers: &[u32]) -> Result<(), NoMemory> {
+        let mut room = [0u8; 512];
+        let bytes = &mut room[..numbers.len() * 4];
+        if out.capacity() - out.len() < bytes.len() {
+            return Err(NoMemory);
+        }
+        put_u32s(bytes, Order::Little, numbers);
+        out.extend_from_slice(bytes)?;
+        Ok(())
+    }
+}
+
+impl Number for u64 {
+    ghost single = { ulong };
+
+    fn width() -> usize {
+        8
+    }
+
+    fn append(out: &mut Vec<u8>, numbers: &[u64]) -> Result<(), NoMemory> {
+        let mut room = [0u8; 1024];
+        let bytes = &mut room[..numbers.len() * 8];
+        if out.capacity() - out.len() < bytes.len() {
+            return Err(NoMemory);
+        }
+        put_u64s(bytes, Order::Little, numbers);
+        out.extend_from_slice(bytes)?;
+        Ok(())
+    }
+}
+
+/// Appends numbers, lowest byte first, into room that was made for all of them before. They go by way of a small array, for
+/// which the compiler makes plain copies on a machine of that order.
+fn write_little<T: Number>(out: &mut Vec<u8>, values: &[T]) -> Result<(), NoMemory>
+    ensures written { OnOk result (out.new.items ≡ out.old.items ++ flat_map (λ x. canonical_single Little (T.single x)) values.now) }
+    ensures begins { OnErr result (Begins out.old.items out.new.items) }
+{
+    out.reserve(values.len().saturating_mul(T::width()))?;
+    let mut rest = values;
+    while !rest.is_empty() {
+        let (numbers, after) = rest.split_at(rest.len().min(128));
+        T::append(out, numbers)?;
+        rest = after;
+    }
+    Ok(())
+}
+
 /// Appends bytes as they stand.
 pub fn write_u8s(out: &mut Vec<u8>, order: Order, values: &[u8]) -> Result<(), NoMemory>
     ensures written { OnOk result (out.new.items ≡ out.old.items ++ flat_map (λ x. canonical_single order (ubyte x)) values.now) }
@@ -100,6 +246,9 @@ pub fn write_i16s(out: &mut Vec<u8>, order: Order, values: &[i16]) -> Result<(),
     ensures begins { OnErr result (Begins out.old.items out.new.items) }
 {
     read_all(values);
+    if let Order::Little = order {
+        return write_little(out, values);
+    }
     let start = out.len();
     out.resize(start + values.len() * 2, 0)?;
     put_i16s(&mut out[start..], order, values);
@@ -124,6 +273,9 @@ pub fn write_i32s(out: &mut Vec<u8>, order: Order, values: &[i32]) -> Result<(),
     ensures begins { OnErr result (Begins out.old.items out.new.items) }
 {
     read_all(values);
+    if let Order::Little = order {
+        return write_little(out, values);
+    }
     let start = out.len();
     out.resize(start + values.len() * 4, 0)?;
     put_i32s(&mut out[start..], order, values);
@@ -148,6 +300,9 @@ pub fn write_i64s(out: &mut Vec<u8>, order: Order, values: &[i64]) -> Result<(),
     ensures begins { OnErr result (Begins out.old.items out.new.items) }
 {
     read_all(values);
+    if let Order::Little = order {
+        return write_little(out, values);
+    }
     let start = out.len();
     out.resize(start + values.len() * 8, 0)?;
     put_i64s(&mut out[start..], order, values);
@@ -171,6 +326,9 @@ pub fn write_u16s(out: &mut Vec<u8>, order: Order, values: &[u16]) -> Result<(),
     ensures can { OnOk result (CanEach (λ x. CanSingle (ushort x)) values.now) }
     ensures begins { OnErr result (Begins out.old.items out.new.items) }
 {
+    if let Order::Little = order {
+        return write_little(out, values);
+    }
     let start = out.len();
     out.resize(start + values.len() * 2, 0)?;
     put_u16s(&mut out[start..], order, values);
@@ -194,6 +352,9 @@ pub fn write_u32s(out: &mut Vec<u8>, order: Order, values: &[u32]) -> Result<(),
     ensures can { OnOk result (CanEach (λ x. CanSingle (uint x)) values.now) }
     ensures begins { OnErr result (Begins out.old.items out.new.items) }
 {
+    if let Order::Little = order {
+        return write_little(out, values);
+    }
     let start = out.len();
     out.resize(start + values.len() * 4, 0)?;
     put_u32s(&mut out[start..], order, values);
@@ -217,6 +378,9 @@ pub fn write_u64s(out: &mut Vec<u8>, order: Order, values: &[u64]) -> Result<(),
     ensures can { OnOk result (CanEach (λ x. CanSingle (ulong x)) values.now) }
     ensures begins { OnErr result (Begins out.old.items out.new.items) }
 {
+    if let Order::Little = order {
+        return write_little(out, values);
+    }
     let start = out.len();
     out.resize(start + values.len() * 8, 0)?;
     put_u64s(&mut out[start..], order, values);

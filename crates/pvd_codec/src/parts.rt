@@ -1,8 +1,8 @@
-ghost use Rattle.std.specs.Prelude.{◌≡◌, get_or, ◌+◌, ◌-◌, ◌*◌, ◌≤◌, ◌<◌, ◌^◌, length, IfOk};
+ghost use Rattle.std.specs.Prelude.{◌≡◌, get_or, ◌+◌, ◌-◌, ◌*◌, ◌≤◌, ◌<◌, ◌^◌, length};
 ghost use Rattle.std.specs.FinSet as set;
 ghost use Rattle.pva_wire.specs.Bits.{place, byte_bit};
 ghost use Rattle.pvd_type.specs.View.{shape_view, members_view};
-ghost use Rattle.pvd_type.specs.Numbers.{nodes, nodes_in, numbered, numbered_fields};
+ghost use Rattle.pvd_type.specs.Numbers.{nodes, nodes_in, numbered, numbered_fields, IsMeasured};
 ghost use Rattle.pvd_value.specs.View.{view, row_view};
 ghost use Rattle.pvd_desc.specs.Types.{laid};
 ghost use Rattle.pvd_codec.specs.Reading.{Gives, first_marked, marks_at, slot_at, marked_with, marked_row, part_at};
@@ -11,8 +11,8 @@ use crate::fault::{ValueCause, ValueStop};
 use crate::reading::{DEPTH, value_at};
 use pva_wire::{Order, bits_at, counted_at};
 use pvd_desc::{Definitions, Registry};
-use pvd_type::{BitSet, Member, PvType, Shape};
-use pvd_value::{PvValue, ValueBits, blank_shape, leaves_of};
+use pvd_type::{BitSet, Member, PvType, Shape, split_size};
+use pvd_value::{PvValue, ValueBits, blank_shape, leaves_of, misses};
 use std::alloc::Global;
 
 /// Which of `count` bytes of a set holds the bits from eight times `at` on.
@@ -89,6 +89,7 @@ fn marks_at<'a>(
 
 /// What stands under a number: the value where it is marked, and else the blank one, which takes no
 /// bytes.
+#[inline(always)]
 fn slot_at<'a>(
     alloc: Global,
     order: Order,
@@ -107,9 +108,10 @@ fn slot_at<'a>(
     Ok((blank_shape(alloc, shape)?, bytes))
 }
 
-/// The marked leaves of a node that has this number, and the number that follows it. The other leaves
-/// are blank.
+/// The marked leaves of a node that has this number. The other leaves are blank, and a structure without
+/// a marked one is made as a whole. The sizes are those from this node on.
 #[cycle(marked)]
+#[inline(always)]
 #[tactic(auto, unfolding(crate::specs::Reading::marked_with))]
 fn marked_at<'a>(
     alloc: Global,
@@ -117,28 +119,33 @@ fn marked_at<'a>(
     base: &Registry,
     changed: &mut Definitions,
     shape: &Shape,
+    sizes: &[u32],
     number: u32,
     mask: &BitSet,
     bytes: &'a [u8],
-) -> Result<(PvValue, u32, &'a [u8]), ValueStop>
+) -> Result<(PvValue, &'a [u8]), ValueStop>
     requires nodes { nodes (shape_view shape.now) ≤ 4096 }
+    requires sizes { IsMeasured sizes.now (numbered (shape_view shape.now)) }
     requires few { number + length (numbered (shape_view shape.now)) ≤ 4096 }
-    ensures value { Gives (λ x. (view x.0, (x.2.now, laid base.now changed.new))) result (marked_with order (set.contains mask.now) number (shape_view shape.now) (bytes.now, laid base.now changed.old)) }
-    ensures next { IfOk result (λ x. x.1 ≡ number + length (numbered (shape_view shape.now))) }
+    ensures { Gives (λ x. (view x.0, (x.1.now, laid base.now changed.new))) result (marked_with order (set.contains mask.now) number (shape_view shape.now) (bytes.now, laid base.now changed.old)) }
 {
     match shape {
         Shape::Struct(node) => {
-            let (values, next, rest) = marked_row_at(
+            if misses(mask, number, sizes[0]) {
+                return Ok((blank_shape(alloc, shape)?, bytes));
+            }
+            let (values, rest) = marked_row_at(
                 alloc,
                 order,
                 base,
                 changed,
                 &node.members,
+                &sizes[1..],
                 number + 1,
                 mask,
                 bytes,
             )?;
-            Ok((PvValue::Struct(values), next, rest))
+            Ok((PvValue::Struct(values), rest))
         }
         _ => {
             let (value, rest) = slot_at(
@@ -150,47 +157,53 @@ fn marked_at<'a>(
                 mask.contains(number),
                 bytes,
             )?;
-            Ok((value, number + 1, rest))
+            Ok((value, rest))
         }
     }
 }
 
-/// The marked leaves of members, the first of which has this number, and the number that follows the last one.
+/// The marked leaves of members, the first of which has this number. The sizes are those from the first on.
 #[cycle(marked)]
+#[inline(never)]
 fn marked_row_at<'a>(
     alloc: Global,
     order: Order,
     base: &Registry,
     changed: &mut Definitions,
     members: &[Member],
+    sizes: &[u32],
     number: u32,
     mask: &BitSet,
     bytes: &'a [u8],
-) -> Result<(Vec<PvValue>, u32, &'a [u8]), ValueStop>
+) -> Result<(Vec<PvValue>, &'a [u8]), ValueStop>
     requires nodes { nodes_in (members_view members.now) < 4096 }
+    requires sizes { IsMeasured sizes.now (numbered_fields (members_view members.now)) }
     requires few { number + length (numbered_fields (members_view members.now)) ≤ 4096 }
-    ensures values { Gives (λ x. (row_view x.0.items, (x.2.now, laid base.now changed.new))) result (marked_row order (set.contains mask.now) number (members_view members.now) (bytes.now, laid base.now changed.old)) }
-    ensures next { IfOk result (λ x. x.1 ≡ number + length (numbered_fields (members_view members.now))) }
+    ensures { Gives (λ x. (row_view x.0.items, (x.1.now, laid base.now changed.new))) result (marked_row order (set.contains mask.now) number (members_view members.now) (bytes.now, laid base.now changed.old)) }
 {
-    let mut values = Vec::new(alloc);
+    let mut values = Vec::with_capacity(alloc, members.len())?;
+    let mut sizes = sizes;
     let mut next = number;
     let mut rest = bytes;
     for member in members {
-        let (value, following, after) = marked_at(
+        let (size, following) = split_size(sizes);
+        let (value, after) = marked_at(
             alloc,
             order,
             base,
             changed,
             &member.shape,
+            sizes,
             next,
             mask,
             rest,
         )?;
         values.push(value)?;
-        next = following;
+        next += size;
+        sizes = following;
         rest = after;
     }
-    Ok((values, next, rest))
+    Ok((values, rest))
 }
 
 /// A part: a set of bits, and the leaves that it marks, in the order of their numbers.
@@ -206,6 +219,16 @@ pub fn part_at<'a>(
     ensures { Gives (λ x. ((x.0, view x.1), (x.2.now, laid base.now changed.new))) result (part_at order ty.now (bytes.now, laid base.now changed.old)) }
 {
     let (mask, rest) = marks_at(alloc, order, ty, bytes)?;
-    let (value, _, rest) = marked_at(alloc, order, base, changed, ty.shape(), 0, &mask, rest)?;
+    let (value, rest) = marked_at(
+        alloc,
+        order,
+        base,
+        changed,
+        ty.shape(),
+        ty.sizes(),
+        0,
+        &mask,
+        rest,
+    )?;
     Ok((mask, value, rest))
 }

@@ -1,7 +1,7 @@
 use Rattle.std.proofs.Common.{◌≡◌, ◌*◌, ◌+◌, length, drop}
 use Rattle.std.specs.FinSet as set
 use Rattle.pvd_type.specs.View.{shape_view, members_view}
-use Rattle.pvd_type.specs.Numbers.{numbered_fields, nodes, nodes_in}
+use Rattle.pvd_type.specs.Numbers.{numbered_fields, nodes, nodes_in, IsMeasured}
 use Rattle.pvd_value.specs.View.{row_view}
 use Rattle.pvd_value.proofs.Rows.{joined}
 use Rattle.pvd_desc.specs.Types.{laid}
@@ -21,4 +21,5 @@ invariant-marked_row_at-loop-member l = record {
       with_row (joined (row_view l.values.items)) (marked_row l.order (set.contains l.mask) l.next (members_view (drop l.member-index l.members)) (l.rest, laid l.base l.changed))
       ≡ marked_row l.order (set.contains l.mask) l.number (members_view l.members) (l.bytes, laid l.base l.fn.changed);
   total : l.next + length (numbered_fields (members_view (drop l.member-index l.members))) ≡ l.number + length (numbered_fields (members_view l.members));
+  measured : IsMeasured l.sizes (numbered_fields (members_view (drop l.member-index l.members)));
 }
