@@ -50,6 +50,7 @@ module _ (C H E B M R S : Type 0) (law : Meaning C H E B M R S) (base : B) (slot
               old = was.old;
               own = was.own;
               did = was.did;
+              had = was.had;
               others = was.others;
               distinct = was.distinct;
               before = was.before;
@@ -132,6 +133,7 @@ module _ (C H E B M R S : Type 0) (law : Meaning C H E B M R S) (base : B) (slot
         old = was.old;
         own = was.own;
         did = was.did;
+        had = was.had;
         others = was.others;
         distinct = was.distinct;
         before = was.before;

@@ -14,7 +14,7 @@ use Rattle.histories.specs.History.{Begins, IsLegalAfter, AllTrue, entries_of, d
 use Rattle.hall_locks.specs.declared.view.View.{View}
 use Rattle.hall_locks.specs.declared.view.Place.{Place}
 use Rattle.hall_locks.specs.declared.view.Place.TheVariants.{Hub}
-use Rattle.hall_locks.specs.Hall.{given_hub, deed_of, shown_cells, cells_after, shown_by, MayGive, IsDue, IsMarked, IsTrueMark, grown, with_mark, numbers_of, IsHub, InHand, HubInHand, IsFloor, Fits, InHandOf, Whose}
+use Rattle.hall_locks.specs.Hall.{HadAll, given_hub, deed_of, shown_cells, cells_after, shown_by, MayGive, IsDue, IsMarked, IsTrueMark, grown, with_mark, numbers_of, IsHub, InHand, HubInHand, IsFloor, Fits, InHandOf, Whose}
 use Rattle.hall_locks.specs.Steps.{GivesHub}
 use Rattle.histories.proofs.Judged.{legal_snoc}
 use Rattle.histories.proofs.Judged.{every_weaken}
@@ -24,6 +24,10 @@ use Rattle.hall_locks.proofs.Rules.{Rule, seats, within, kept_on, free_after, ta
 use Rattle.histories.proofs.Stories.{begins_self, begins_trans}
 use Rattle.histories.proofs.Judged.{true_snoc, true_weaken}
 use Rattle.hall_locks.proofs.Deeds.{begins_grown, base-grown, entries_snoc, entries_item, deeds_own, deeds_other, ds_with, pairs_more, every_among, falls_numbers}
+
+had_still : {B E R : Type 0} (seat : ℕ) (old : List (Story B E R)) (j k : Story B E R) → deeds_by seat j.deeds ≡ deeds_by seat k.deeds → HadAll seat old j → HadAll seat old k
+had_still seat [] j k same had = tt
+had_still seat (h ∷ hs) j k same had = had ∙ same
 
 module _ {C H E B M R S : Type 0} (law : Meaning C H E B M R S) where
   -- a cell that is not in hand shows what it did
@@ -169,6 +173,7 @@ module _ (C H E B M R S : Type 0) (law : Meaning C H E B M R S) (base : B) (slot
       old = tt;
       own = λ l. (number_is, sym (log_here r.logs v.number log' id (sym number_is)), (was.own l).2, keeper_is);
       did = λ _. refl;
+      had = λ _. tt;
       others = others_after id v own_apart was.others;
       distinct = was.distinct;
       before = was.before;
@@ -179,12 +184,17 @@ module _ (C H E B M R S : Type 0) (law : Meaning C H E B M R S) (base : B) (slot
       empty = λ dead. let e : true ≡ false = sym live ∙ dead in absurd (cc e);
     }
 
+    -- nothing was done in another seat's name
+    others_did : (j : ℕ) → j ≢ id → deeds_by j r.journal.deeds ≡ deeds_by j after.deeds
+    others_did j other = sym (deeds_else law v.seen v.number j deed (λ same. other (sym same ∙ number_is)) ∙ ap (λ (h : Story B E R). deeds_by j h.deeds) whole)
+
     theirs : (j : ℕ) (u : Vw) → j ≢ id → get_elem? s.views j ≡ some u → Fits law after holder' r.keeper logs' j u
     theirs j u other e = let was = r.each j u e in record {
       seen = λ t. begins_trans (was.seen t) begins_after;
       old = every_weaken (λ h. Begins h r.journal) (λ h. Begins h after) u.old (λ h b. begins_trans b begins_after) was.old;
       own = λ l. let o = was.own l in (o.0, o.1 ∙ sym (log_else r.logs v.number log' j (λ same. other (same ∙ number_is))), o.2, o.3);
-      did = λ l. was.did l ∙ sym (deeds_else law v.seen v.number j deed (λ same. other (sym same ∙ number_is)) ∙ ap (λ (h : Story B E R). deeds_by j h.deeds) whole);
+      did = λ l. was.did l ∙ others_did j other;
+      had = λ l. had_still j u.old r.journal after (others_did j other) (was.had l);
       others = others_after j u (other_apart j u other e) was.others;
       distinct = was.distinct;
       before = was.before;

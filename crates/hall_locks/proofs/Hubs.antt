@@ -1,5 +1,5 @@
 -- The hub is taken.
-use Rattle.std.proofs.Common.{◌≡◌, ℕ, suc, ◌<◌, ◌≤◌, ◌≢◌, eqb, true, false, List, [], length, get_or, set, sym, refl, ◌∙◌, subst, arith, length-set, eq-eqb, ne_eqb}
+use Rattle.std.proofs.Common.{◌≡◌, ℕ, suc, ◌<◌, ◌≤◌, ◌≢◌, eqb, true, false, List, [], ◌∷◌, length, get_or, set, sym, refl, ◌∙◌, subst, arith, length-set, eq-eqb, ne_eqb}
 use mathlib.Core.Logic.{dite}
 use mathlib.Core.Option.{none, some}
 use native.Mathlib.Decide.{ℕ_discrete}
@@ -7,12 +7,12 @@ use lib.ListN.{get_elem?}
 use prog.Atomic.{either}
 use Rattle.atomic_table.specs.Table.{State, Me, step, keeps, takes, stepped, Allows}
 use Rattle.atomic_table.proofs.Lists.{set_else}
-use Rattle.hall_core.specs.Meanings.{Meaning, Pairs}
+use Rattle.hall_core.specs.Meanings.{AreDistinct, Meaning, Pairs}
 use Rattle.histories.specs.History.{IsLegalAfter, entries_of, deeds_by}
 use Rattle.hall_locks.specs.declared.view.View.{View}
 use Rattle.hall_locks.specs.declared.view.Place.{Place}
 use Rattle.hall_locks.specs.declared.view.Place.TheVariants.{Hub}
-use Rattle.hall_locks.specs.Hall.{with_hub, shown_by, IsHub, InHand}
+use Rattle.hall_locks.specs.Hall.{with_hub, shown_by, numbers_of, IsHub, InHand}
 use Rattle.hall_locks.specs.Hands.{Found}
 use Rattle.hall_locks.specs.Steps.{TakesHub}
 use Rattle.histories.proofs.Judged.{every_weaken}
@@ -51,6 +51,7 @@ module _ (C H E B M R S : Type 0) (law : Meaning C H E B M R S) (base : B) (slot
               old = tt;
               own = was.own;
               did = λ _. refl;
+              had = λ _. tt;
               others = was.others;
               distinct = was.distinct;
               before = was.before;
@@ -70,6 +71,9 @@ module _ (C H E B M R S : Type 0) (law : Meaning C H E B M R S) (base : B) (slot
           legal = subst (λ g. IsLegalAfter (law.may_follow g) [] (entries_of r.journal.deeds)) (sym r.same_base) r.legal;
           shown = every_weaken (InHand law r.journal r.holder v.bound id) (λ p. p.1 ≡ shown_by law r.journal p.0) v.cells (λ p i. i.value) was.cells;
           did = subst (λ k. deeds_by k r.journal.deeds ≡ deeds_by k v.seen.deeds) (sym own.0) (sym (was.did live));
+          distinct = subst (λ n. AreDistinct (n ∷ numbers_of v.others)) (sym own.0) was.distinct;
+          others_logged = every_weaken (λ (p : ℕ × List M). (p.1 ≡ r.logs p.0) × (r.keeper p.0 ≡ suc id)) (λ (p : ℕ × List M). Pairs law.adds law.fits p.1 (deeds_by p.0 r.journal.deeds)) v.others
+              (λ p is. subst (λ log. Pairs law.adds law.fits log (deeds_by p.0 r.journal.deeds)) (sym is.0) (r.pairs p.0)) was.others;
         },
       )
 

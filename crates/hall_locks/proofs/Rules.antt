@@ -46,6 +46,7 @@ module _ (C H E B M R S : Type 0) (law : Meaning C H E B M R S) (base : B) where
     old = f.old;
     own = λ l. let o = f.own l in (o.0, o.1, o.2, keep_on j o.3);
     did = f.did;
+    had = f.had;
     others = every_weaken (λ (p : ℕ × List M). (p.1 ≡ logs p.0) × (keeper p.0 ≡ suc j)) (λ (p : ℕ × List M). (p.1 ≡ logs p.0) × (keeper' p.0 ≡ suc j)) v.others (λ p a. (a.0, keep_on p.0 a.1)) f.others;
     distinct = f.distinct;
     before = f.before;

@@ -16,7 +16,7 @@ use Rattle.hall_core.specs.Meanings.{Meaning, Adds, Among, AreDistinct, Pairs}
 use Rattle.histories.specs.History.{Begins, Every, deeds_by}
 use Rattle.hall_locks.specs.declared.view.View.{View}
 use Rattle.hall_locks.specs.declared.view.Place.{Place}
-use Rattle.hall_locks.specs.Hall.{new_view, note_view, spent_view, hearing, merging, longer, longer_if, InHand, Fits, HasLog, HasSeen, Ruled, numbers_of}
+use Rattle.hall_locks.specs.Hall.{new_view, note_view, spent_view, hearing, merging, longer, longer_if, InHand, Fits, HadAll, HasLog, HasSeen, Ruled, numbers_of}
 use Rattle.hall_locks.specs.Hall as hall
 use Rattle.hall_locks.specs.Hands.{Rests}
 use Rattle.hall_locks.specs.Steps.{Knows, Compares}
@@ -158,6 +158,7 @@ module _ (C H E B M R S : Type 0) (law : Meaning C H E B M R S) (base : B) where
         old = tt;
         own = λ e. absurd (cc e);
         did = λ e. absurd (cc e);
+        had = λ _. tt;
         others = tt;
         distinct = (not_none (length s.views), tt);
         before = (
@@ -204,6 +205,7 @@ module _ (C H E B M R S : Type 0) (law : Meaning C H E B M R S) (base : B) where
               old = tt;
               own = λ _. (refl, sym (r.unkept id fresh), refl, held_here r.keeper id (suc id) id refl);
               did = λ _. nothing_before id h r.journal (was.seen refl) none_did ∙ sym none_did;
+              had = λ _. tt;
               others = tt;
               distinct = (not_none id, tt);
               before = tt;
@@ -304,7 +306,7 @@ module _ (C H E B M R S : Type 0) (law : Meaning C H E B M R S) (base : B) where
         legal = r.legal;
         longest = longest_after s r id v both o other at there apart tells seen a b;
         each = seats C H E B M R S law base (Fits law r.journal r.holder keeper' r.logs) vs other Gone
-            record { seen = λ e. absurd (cc e); old = tt; own = λ e. absurd (cc e); did = λ e. absurd (cc e); others = tt; distinct = (not_none other, tt); before = tt; unborn = λ _ e. absurd (cc e); cells = tt; falls = tt; hub = λ x e. absurd (cc e); empty = λ _. (refl, refl) }
+            record { seen = λ e. absurd (cc e); old = tt; own = λ e. absurd (cc e); did = λ e. absurd (cc e); had = λ _. tt; others = tt; distinct = (not_none other, tt); before = tt; unborn = λ _ e. absurd (cc e); cells = tt; falls = tt; hub = λ x e. absurd (cc e); empty = λ _. (refl, refl) }
             (λ j u apart_j at_j. seats C H E B M R S law base (λ i x. i ≢ other → Fits law r.journal r.holder keeper' r.logs i x) s.views id both (λ _. mine)
             (λ i x _ e ne. refit C H E B M R S law base r.journal r.holder r.holder r.keeper keeper' r.logs i x (λ k is. is) (λ k is. stays k i ne is) (λ is. never i is) (r.each i x e)) j u at_j apart_j);
         kept = has;
@@ -344,6 +346,7 @@ module _ (C H E B M R S : Type 0) (law : Meaning C H E B M R S) (base : B) where
         old = (a, (b, tt));
         own = was.own;
         did = λ l. longer_did id v.seen n.seen r.journal a b (was.did l);
+        had = was.did;
         others = was.others;
         distinct = was.distinct;
         before = was.before;
@@ -410,6 +413,7 @@ module _ (C H E B M R S : Type 0) (law : Meaning C H E B M R S) (base : B) where
         old = (a, (b, tt));
         own = λ l. (mine.0, mine.1, mine.2, still id id (λ x. apart (sym x)) mine.3);
         did = λ l. longer_did id v.seen o.seen r.journal a b (was.did l);
+        had = was.did;
         others = every_append KNew v.others ((o.number, o.log) ∷ o.others)
             (every_weaken (λ (p : ℕ × List M). (p.1 ≡ r.logs p.0) × (r.keeper p.0 ≡ suc id)) KNew v.others (λ p x. (x.0, still p.0 id (λ y. apart (sym y)) x.1)) was.others) (
               (own.1 ∙ ap r.logs (sym own.0), passed_here r.keeper other id o.number (ap r.keeper own.0 ∙ own.3)),
@@ -442,6 +446,8 @@ module _ (C H E B M R S : Type 0) (law : Meaning C H E B M R S) (base : B) where
         history = r.journal;
         seen = was.seen own.2;
         old = was.old;
+        did = subst (λ n. deeds_by n m.0.seen.deeds ≡ deeds_by n r.journal.deeds) (sym own.0) (was.did live);
+        had = subst (λ n. HadAll n m.0.old r.journal) (sym own.0) (was.had live);
         distinct = subst (λ n. AreDistinct (n ∷ numbers_of m.0.others)) (sym own.0) was.distinct;
       },
     ),
@@ -456,3 +462,10 @@ pub told_is : {H E B M R S : Type 0} (a b : Story B E R) (v w : View H E B M R S
 told_is a b v w old seen same t =
     let both : Every (λ k. Begins k t.history) (a ∷ b ∷ []) = subst (Every (λ k. Begins k t.history)) old t.old in
     subst (λ h. Begins a h × Begins b h) (sym (ap (λ x. x.seen) same ∙ seen)) (longer_has a b t.history both.0 both.1.0)
+
+-- and of what was done in the name of the seat
+pub told_did : {H E B M R S : Type 0} (a b : Story B E R) (v w : View H E B M R S) → v.old ≡ a ∷ b ∷ [] → w ≡ v → Knows v
+    → deeds_by v.number w.seen.deeds ≡ deeds_by v.number a.deeds
+told_did a b v w old same t =
+    let had : HadAll v.number (a ∷ b ∷ []) t.history = subst (λ hs. HadAll v.number hs t.history) old t.had in
+    ap (λ x. deeds_by v.number x.seen.deeds) same ∙ (t.did ∙ sym had)

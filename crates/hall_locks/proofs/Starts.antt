@@ -62,6 +62,7 @@ module _ (C H E B M R S : Type 0) (law : Meaning C H E B M R S) where
     old = tt;
     own = λ _. (refl, refl, refl, refl);
     did = λ _. refl;
+    had = λ _. tt;
     others = tt;
     distinct = (not_none 0, tt);
     before = tt;

@@ -71,6 +71,11 @@ longer_if false h k = h
 abbrev pub longer : {B E R : Type 0} → Story B E R → Story B E R → Story B E R
 longer h k = longer_if (nat_le (length h.deeds) (length k.deeds)) h k
 
+-- what a seat had seen itself, the first of these, has all that it did
+abbrev pub HadAll : {B E R : Type 0} → ℕ → List (Story B E R) → Story B E R → Type 0
+HadAll seat [] journal = Unit {0}
+HadAll seat (h ∷ hs) journal = deeds_by seat h.deeds ≡ deeds_by seat journal.deeds
+
 -- the view of a new pass
 abbrev pub new_view : {H E B M R S : Type 0} → ℕ → Story B E R → View H E B M R S
 new_view n h = record {
@@ -237,6 +242,7 @@ module _ {C H E B M R S : Type 0} (law : Meaning C H E B M R S) where
     pub own : v.live ≡ true → (v.number ≡ seat) × (v.log ≡ logs seat) × (v.tells ≡ true) × (keeper seat ≡ suc seat)
     -- it has seen all that it did
     pub did : v.live ≡ true → deeds_by seat v.seen.deeds ≡ deeds_by seat journal.deeds
+    pub had : v.live ≡ true → HadAll seat v.old journal
     pub others : Every (λ p. (p.1 ≡ logs p.0) × (keeper p.0 ≡ suc seat)) v.others
     pub distinct : AreDistinct (seat ∷ numbers_of v.others)
     -- a note names seats that were before it, and is no seat yet

@@ -4,7 +4,7 @@ use Rattle.atomic_table.specs.Table.{Me}
 use Rattle.histories.specs.declared.story.Story.{Story}
 use Rattle.histories.specs.declared.story.Deed.{Deed}
 use Rattle.histories.specs.declared.story.Deed.TheVariants.{Entry, Item}
-use Rattle.hall_core.specs.Meanings.{Among, Meaning, Adds, adds_nothing, adds_entry, adds_item, Pairs}
+use Rattle.hall_core.specs.Meanings.{Among, AreDistinct, Meaning, Adds, adds_nothing, adds_entry, adds_item, Pairs}
 use Rattle.histories.specs.History.{Begins, IsLegalAfter, entries_of, deeds_by, Every}
 use Rattle.hall_locks.specs.declared.view.View.{View}
 use Rattle.hall_locks.specs.declared.view.Place.{Place}
@@ -87,6 +87,9 @@ module _ {C H E B M R S : Type 0} (law : Meaning C H E B M R S) where
     pub shown : Every (λ p. p.1 ≡ shown_by law seen p.0) before.cells
     -- nobody else did anything in the seat's name
     pub did : deeds_by before.number seen.deeds ≡ deeds_by before.number before.seen.deeds
+    -- the logs that it took in are of other seats, and each is that of all that its seat did
+    pub distinct : AreDistinct (before.number ∷ numbers_of before.others)
+    pub others_logged : Every (λ p. Pairs law.adds law.fits p.1 (deeds_by p.0 seen.deeds)) before.others
 
   -- each cell in hand shows what it showed when it was taken. The view has the last one first
   abbrev pub AsTaken : View H E B M R S → List C → Type 0

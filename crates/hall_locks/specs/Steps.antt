@@ -3,12 +3,12 @@
 use Rattle.std.specs.Prelude.{◌≡◌, ◌≢◌, ℕ, suc, ◌<◌, List, ◌∷◌, Option, None}
 use Rattle.atomic_table.specs.Table.{Me, Step, rest}
 use Rattle.histories.specs.declared.story.Story.{Story}
-use Rattle.histories.specs.History.{Every, Begins}
+use Rattle.histories.specs.History.{Every, Begins, deeds_by}
 use Rattle.hall_core.specs.Meanings.{Meaning, Among, AreDistinct}
 use Rattle.hall_locks.specs.declared.view.View.{View}
 use Rattle.hall_locks.specs.declared.view.Place.{Place}
 use Rattle.hall_locks.specs.declared.view.Place.TheVariants.{Cell, Hub}
-use Rattle.hall_locks.specs.Hall.{WasShown, new_view, with_cell, with_cells, with_hub, given_hub, numbers_of}
+use Rattle.hall_locks.specs.Hall.{HadAll, WasShown, new_view, with_cell, with_cells, with_hub, given_hub, numbers_of}
 use Rattle.hall_locks.specs.Hands.{Found}
 
 module _ {H E B M R S : Type 0} where
@@ -19,12 +19,14 @@ module _ {H E B M R S : Type 0} where
     pub within : Every (λ p. Among p.0 bound) v.cells
     pub no_hub : v.hub ≡ None
 
-  -- what a seat knows of the others: all that it has seen begins one history, and each log in its view is of another
-  -- seat
+  -- what a seat knows of the others: all that it has seen begins one history, in which nobody did anything in its name,
+  -- and each log in its view is of another seat
   pub record Knows (v : View H E B M R S) : Type 0 where
     pub history : Story B E R
     pub seen : Begins v.seen history
     pub old : Every (λ h. Begins h history) v.old
+    pub did : deeds_by v.number v.seen.deeds ≡ deeds_by v.number history.deeds
+    pub had : HadAll v.number v.old history
     pub distinct : AreDistinct (v.number ∷ numbers_of v.others)
 
 module _ {C H E B M R S : Type 0} where

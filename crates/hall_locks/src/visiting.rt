@@ -2,7 +2,7 @@
 ghost use Rattle.std.specs.Prelude.{◌≡◌, ◌<◌, ◌≤◌, [], length, IfOk, IfErr, IsOk, vec_capacity};
 ghost use Rattle.histories.specs.History.{Every};
 ghost use Rattle.hall_locks.specs.Hall.{WasShown};
-ghost use Rattle.hall_locks.specs.Passes.{hall_id, pass_hall, pass_view, pass_seen, visit_hall, visit_view};
+ghost use Rattle.hall_locks.specs.Passes.{hall_id, pass_hall, pass_view, pass_seen, pass_others, visit_hall, visit_view, visit_others};
 ghost use Rattle.hall_locks.specs.Hands.{Carries, Rises, in_visit, Rests, AsTaken};
 
 use crate::hall::{Hall, Token};
@@ -95,6 +95,7 @@ impl<T: Law> Hall<T> {
         ensures taken { IfOk result (λ v. AsTaken T.meaning (visit_view v) v.cells.items) }
         ensures same { IfOk result (λ v. visit_view v
             ≡ in_visit (pass_view pass) (visit_view v).bound (visit_view v).cells) }
+        ensures others { IfOk result (λ v. visit_others v ≡ pass_others pass) }
         ensures was { IfOk result (λ v. Every (WasShown T.meaning (pass_seen pass).base) (visit_view v).cells) }
         ensures back { IfErr result (λ e. e.0 ≡ pass) }
         ensures empty { footprint.items ≡ [] → IsOk result }
@@ -118,6 +119,7 @@ impl<T: Law> Hall<T> {
         requires taken { AsTaken T.meaning (visit_view visit) visit.cells.items }
         ensures own { pass_hall result ≡ visit_hall visit }
         ensures same { pass_view result ≡ in_visit (visit_view visit) (visit_view visit).bound [] }
+        ensures others { pass_others result ≡ visit_others visit }
     {
         let Visit {
             mut seat,
