@@ -1,3 +1,4 @@
+pub mod Few
 pub mod Moments
 pub mod Weights
 pub mod Histories

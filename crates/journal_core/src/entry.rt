@@ -3,22 +3,23 @@ ghost use Rattle.std.specs.Prelude.{◌≡◌, ◌<◌, ◌^◌};
 ghost use Rattle.std.specs.List.{sum_by};
 ghost use Rattle.journal_core.specs.Weights as weights;
 
+use crate::few::Few;
 use pvd_type::Name;
-use rec_kinds::{Action, Datum, Items, Moment, RecState};
+use rec_kinds::{Action, Datum, Moment, RecState};
 
 /// One commit. Records are named by their numbers.
 #[derive(Debug, Drop)]
 pub struct Entry {
     /// The records that were held, each once, in rising order.
-    pub footprint: Items<u32>,
+    pub footprint: Few<u32>,
     /// What was done, in order, each with its record.
-    pub actions: Items<(u32, Action)>,
+    pub actions: Few<(u32, Action)>,
     /// The moment of the commit.
     pub moment: Moment,
     /// For each action, whether the record's port took the value. It is true of a record without a port.
-    pub drove: Items<bool>,
+    pub drove: Few<bool>,
     /// For each action, its record and the state after it.
-    pub writes: Items<(u32, RecState)>,
+    pub writes: Few<(u32, RecState)>,
 }
 
 /// What an entry weighs: 64, and 32 for each record of its footprint, and 32 and its payload for each action. A payload

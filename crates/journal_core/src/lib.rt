@@ -3,6 +3,7 @@
 #![tactic(auto)]
 
 mod entry;
+mod few;
 mod history;
 mod laws;
 mod replay;
@@ -10,6 +11,7 @@ mod replay;
 mod tests;
 
 pub use entry::{Entry, weight};
+pub use few::Few;
 pub use history::History;
 pub use laws::{histories_grow, legal_at_each_place, states_stay_valid};
-pub use rec_kinds::{Action, Datum, Items, Moment, NoMemory, RecState};
+pub use rec_kinds::{Action, Datum, Moment, NoMemory, RecState};

@@ -3,7 +3,7 @@ ghost use Rattle.rec_kinds.specs.declared.datum.Action.TheVariants.{Put};
 ghost use Rattle.journal_core.specs.Histories.{WritesWithin};
 ghost use Rattle.journal_core.specs.Weights.{payload, weight as weight_of};
 
-use crate::{Action, Datum, Entry, History, Items, Moment, RecState, weight};
+use crate::{Action, Datum, Entry, Few, History, Moment, RecState, weight};
 use pvd_type::Name;
 use rec_kinds::{SharedItems, SharedText, longout, process};
 use std::alloc::Global;
@@ -23,11 +23,11 @@ fn entry_of(alloc: Global, action: Action, state: RecState) -> Result<Entry, Fai
     let mut writes = Vec::new(alloc);
     writes.push((0, state))?;
     Ok(Entry {
-        footprint: Items::from_vec(footprint),
-        actions: Items::from_vec(actions),
+        footprint: Few::from_vec(footprint),
+        actions: Few::from_vec(actions),
         moment,
-        drove: Items::from_vec(drove),
-        writes: Items::from_vec(writes),
+        drove: Few::from_vec(drove),
+        writes: Few::from_vec(writes),
     })
 }
 
@@ -106,11 +106,11 @@ fn weight_with(alloc: Global, datum: Datum) -> Result<u64, Fail>
     actions.push((4, Action::Put(datum)))?;
     actions.push((7, Action::Process))?;
     Ok(weight(&Entry {
-        footprint: Items::from_vec([4, 7].to_vec(alloc)?),
-        actions: Items::from_vec(actions),
+        footprint: Few::from_vec([4, 7].to_vec(alloc)?),
+        actions: Few::from_vec(actions),
         moment: Moment::zero(),
-        drove: Items::from_vec([true, true].to_vec(alloc)?),
-        writes: Items::from_vec(Vec::new(alloc)),
+        drove: Few::from_vec([true, true].to_vec(alloc)?),
+        writes: Few::from_vec(Vec::new(alloc)),
     }))
 }
 

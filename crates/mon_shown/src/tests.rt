@@ -7,7 +7,7 @@ ghost use Rattle.mon_shown.specs.Tags.{shown_tag, tags_shown};
 ghost use Rattle.pvd_value.specs.View.{view};
 
 use crate::{NoMemory, NotBegun, Subscriptions, Views};
-use journal_core::{Entry, Items, Moment};
+use journal_core::{Entry, Few, Moment};
 use mon_queue::Update;
 use pvd_type::{BitSet, Member, Name, Node, PvType, Scalar, Shape};
 use pvd_value::{PvValue, fits, leaf};
@@ -153,11 +153,11 @@ fn opening(alloc: Global) -> Result<Vec<RecState>, NoMemory> {
 fn entry_of(alloc: Global, rec: u32, tag: i32) -> Result<Entry, NoMemory> {
     let writes = vec![in alloc; (rec, tagged(alloc, tag)?)]?;
     Ok(Entry {
-        footprint: Items::from_vec(vec![in alloc; rec]?),
-        actions: Items::from_vec(Vec::new(alloc)),
+        footprint: Few::from_vec(vec![in alloc; rec]?),
+        actions: Few::from_vec(Vec::new(alloc)),
         moment: Moment::zero(),
-        drove: Items::from_vec(Vec::new(alloc)),
-        writes: Items::from_vec(writes),
+        drove: Few::from_vec(Vec::new(alloc)),
+        writes: Few::from_vec(writes),
     })
 }
 
