@@ -62,14 +62,12 @@ impl<V> Directory<V> {
         self.keys.get(number).is_some()
     }
 
-    /// The value of a number.
+    /// The value of a number. Where there is no gap in the numbers from 0 on each stands at its own place, and is found at once.
     pub(crate) fn get(&self, number: u32) -> Option<&V>
         ensures { option_copied result ≡ map.get self.now.values number }
     {
-        match self.keys.get(number) {
-            Some(key) => self.values.get(key),
-            None => None,
-        }
+        let mut near = number as usize;
+        self.get_near(&mut near, number)
     }
 
     /// The value of a number, which is looked for first at the places from `near` on. `near` is then its place.

@@ -16,3 +16,4 @@ pub mod Telling
 pub mod Lasting
 pub mod Folding
 pub mod Staying
+pub mod Crossing

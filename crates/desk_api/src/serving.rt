@@ -199,7 +199,8 @@ impl Site {
         ensures { IfOk result (λ recs. recs.items ≡ footprint_with self.now actions.now looked.now) }
     {
         are_over(self);
-        let mut found = Vec::with_capacity(alloc, actions.len())?;
+        // two for each action, since a record that a group shows is read for the group too
+        let mut found = Vec::with_capacity(alloc, 2 * actions.len() + looked.len())?;
         for (rec, _) in actions {
             self.add_held(*rec, &mut found)?;
         }

@@ -17,3 +17,4 @@ pub mod Heads
 pub mod Ready
 pub mod Keeping
 pub mod Putting
+pub mod Crossing

@@ -148,6 +148,7 @@ fn write_slots(
 }
 
 /// Writes the leaves of a mask, as a member shows them, into a value. The first node of what it shows has this number.
+#[inline(always)]
 fn write_source(
     source: &Source,
     number: u32,

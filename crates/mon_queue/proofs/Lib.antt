@@ -4,3 +4,4 @@ pub mod Showing
 pub mod Courses
 pub mod Rings
 pub mod Unreading
+pub mod Crossing

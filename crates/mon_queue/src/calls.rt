@@ -128,6 +128,7 @@ fn take_oldest(ring: &mut HeapCircularBuffer<Update>) -> Option<Update>
 }
 
 /// One more update, for which there is room.
+#[inline(always)]
 fn append(ring: &mut HeapCircularBuffer<Update>, update: Update)
     requires { length ring.old.items < ring.old.capacity }
     ensures { ring.new ≡ buffer (ring.old.items ++ update ∷ []) ring.old.capacity }

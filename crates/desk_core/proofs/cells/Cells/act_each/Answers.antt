@@ -32,7 +32,7 @@ loop-rec-preserved g c =
     let at = got actions i c.loop-rec-item.result c.loop-rec-test.true c.loop-rec-item.is in
     let done = c.in_ok-act.ensures {u = tt} in
     let n = done.next in record {
-      done = subst (λ (l : List (ℕ × Action)). AreDone configs c.args.moment c.args.self.now.states.items c.act.new.self.states.items (map (option_map g.P.Port.port) c.args.self.now.ports.items) (map (option_map g.P.Port.port) c.act.new.self.ports.items) l c.act.new.effects.drove.items c.act.new.effects.writes.items c.act.new.self.before.items)
+      done = subst (λ (l : List (ℕ × Action)). AreDone configs c.args.moment c.args.self.now.states.items c.act.new.self.states.items (map (option_map g.P.Port.port) c.args.self.now.ports.items) (map (option_map g.P.Port.port) c.act.new.self.ports.items) l c.act.new.effects.drove c.act.new.effects.writes c.act.new.self.before.items)
           (sym (next_taken actions i c.loop-rec-item.result at))
           (more_done configs c.args.moment c.args.self.now.states.items _ c.loop-rec.self.states.items _ (take i actions) _ _ _ c.loop-rec.invariant.done _ _ c.loop-rec-item.result _ _ _ n);
       valid = subst (AreValid configs) (sym n.written.cells_are) (valid_next configs c.loop-rec.self.states.items c.args.moment c.loop-rec-item.result n.drove (c.loop-rec-item.result.0, n.state) c.loop-rec.invariant.valid n.done);

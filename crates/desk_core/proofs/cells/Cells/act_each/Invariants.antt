@@ -11,7 +11,7 @@ use Rattle.desk_core.proofs.cells.Cells.act_each.Given as goal
 abbrev pub invariant-loop-rec : goal.invariant-loop-rec
 invariant-loop-rec g l = record {
   done : AreDone l.site.configs l.moment l.fn.self.states.items l.self.states.items (map (option_map g.P.Port.port) l.fn.self.ports.items) (map (option_map g.P.Port.port) l.self.ports.items)
-      (take l.rec-index l.actions) l.effects.drove.items l.effects.writes.items l.self.before.items;
+      (take l.rec-index l.actions) l.effects.drove l.effects.writes l.self.before.items;
   valid : AreValid l.site.configs l.self.states.items;
   ported : ports_there l.self.ports.items ≡ ports_wanted l.site.configs;
   light : sum_by action_weight (take l.rec-index l.actions) ≤ l.rec-index * 2 ^ 39;
