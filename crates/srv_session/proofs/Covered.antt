@@ -292,10 +292,10 @@ pop_covers log s req ask here place slot (Some update) c =
 -- Steps.
 
 covers_step : (site : SiteData) (s : State) (log : List Mark) (x : Step) → IsStep site s x → Covers log s → Covers (log ++ marks_in x) (after_step site s x)
-covers_step site s log (hears e marks sent) p c = hearing_covers site s log marks sent (heard site s e) (heard_so site s e) p c
+covers_step site s log (hears e marks sent) p c = hearing_covers site s log marks sent (heard site s e) (heard_so site s e) p.0 c
 covers_step site s log (pops req marks sent) p c =
-    let u = p.is_pop in
-    subst (λ (ms : List Mark). Covers (log ++ ms) (after_pop s req ms)) (sym u.marks_are) (pop_covers log s req u.ask u.is_due.here u.place u.sub.slot p.update c)
+    let u = p.0.is_pop in
+    subst (λ (ms : List Mark). Covers (log ++ ms) (after_pop s req ms)) (sym u.marks_are) (pop_covers log s req u.ask u.is_due.here u.place u.sub.slot p.0.update c)
 
 pub covers_steps : (site : SiteData) (s : State) (log : List Mark) (xs : List Step) → AreSteps site s xs → Covers log s → Covers (log ++ marks_of xs) (state_after site s xs)
 covers_steps site s log [] rules c = subst (λ (l : List Mark). Covers l s) (sym (append-nil log)) c

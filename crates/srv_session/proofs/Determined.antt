@@ -508,9 +508,9 @@ goes_on site s log (hears e m x ∷ xs) (pops r n y ∷ ys) more k l holds free 
 goes_on site s log (pops r m x ∷ xs) (hears e n y ∷ ys) more k l holds free a b turns marks = absurd (false≢true (sym (ap is_pop_first turns)))
 goes_on site s log (hears d m x ∷ xs) (hears e n y ∷ ys) more k l holds free a b turns marks =
     let first : d ≡ e = ap (turn_or d) turns in
-    let here = subst (λ (z : Event). IsAnswer site s (heard site s z) n y) (sym first) b.0 in
+    let here = subst (λ (z : Event). IsAnswer site s (heard site s z) n y) (sym first) b.0.0 in
     let joined = sym (append_assoc m (marks_of xs) k) ∙ marks ∙ append_assoc n (marks_of ys) l in
-    let same = same_answer site s (heard site s d) m n (marks_of xs ++ k) (marks_of ys ++ l) x y a.0 here joined in
+    let same = same_answer site s (heard site s d) m n (marks_of xs ++ k) (marks_of ys ++ l) x y a.0.0 here joined in
     let step : hears d m x ≡ hears e n y = λ i. hears (first i) (same.marks i) (same.sent i) in
     let next = holds_step site s log (hears d m x) holds a.0 (true_front IsFreeBegun log m (marks_of xs) free) in
     let rest =
@@ -519,7 +519,7 @@ goes_on site s log (hears d m x ∷ xs) (hears e n y ∷ ys) more k l holds free
     let back = sym step in record { rest = rest.rest; whole = λ i. back i ∷ rest.whole i; turns = rest.turns; marks = rest.marks }
 goes_on site s log (pops q m x ∷ xs) (pops r n y ∷ ys) more k l holds free a b turns marks =
     let joined = sym (append_assoc m (marks_of xs) k) ∙ marks ∙ append_assoc n (marks_of ys) l in
-    let both = same_pop site s log q r m n (marks_of xs ++ k) (marks_of ys ++ l) x y holds a.0 b.0 joined in
+    let both = same_pop site s log q r m n (marks_of xs ++ k) (marks_of ys ++ l) x y holds a.0.0 b.0.0 joined in
     let same = both.1 in
     let step : pops q m x ≡ pops r n y = λ i. pops (both.0 i) (same.marks i) (same.sent i) in
     let next = holds_step site s log (pops q m x) holds a.0 (true_front IsFreeBegun log m (marks_of xs) free) in

@@ -55,7 +55,7 @@ are_quiet site s (r ∷ reqs) [] are rules none = absurd are
 are_quiet site s (r ∷ reqs) (hears e marks sent ∷ xs) are rules none = absurd are
 are_quiet site s (r ∷ reqs) (pops req marks sent ∷ xs) are rules none =
     let parts = no_either (is_some_sent sent) (sends xs) none in
-    let q = quiet site s req marks sent rules.0 parts.0 in
+    let q = quiet site s req marks sent rules.0.0 parts.0 in
     let rest = are_quiet site s reqs xs are.1 (subst (λ (z : State). AreSteps site z xs) q.state rules.1) parts.1 in
     record {
       state = ap (λ (z : State). state_after site z xs) q.state ∙ rest.state;

@@ -23,7 +23,7 @@ use Rattle.desk_api.specs.declared.mark.Seat.{Seat}
 use Rattle.desk_api.specs.declared.sub.Sub.{Sub}
 use Rattle.srv_session.specs.State.{State, Requests, Asked, is_on, on_only, without_channel, slot_of_sub, slot_of, slots_of}
 use Rattle.srv_session.specs.Calls.{AreLiving, Holds, Shown, Heeds, Replied, Finished}
-use Rattle.srv_session.specs.Replies.{Sent, said, spelled, spelled_all}
+use Rattle.srv_session.specs.Replies.{Sent, IsSayable, said, spelled, spelled_all}
 use Rattle.srv_session.specs.Rows.{AreEndingsOf, EndingsPart, left_by}
 use Rattle.srv_session.specs.Tasks.{asks, destroy_channel, destroy_request}
 use Rattle.srv_session.specs.Views.{stopping}
@@ -119,6 +119,7 @@ request_ended here there moment s t out after req c state same = record {
   marks = c.marks;
   sent = [];
   answers = record { endings = c.named; sent_is = refl };
+  sayable = tt;
   adds = c.adds;
   moments = endings_moments moment (slot_of (at s.requests req)) c.marks c.named;
   state = state;
@@ -128,16 +129,17 @@ request_ended here there moment s t out after req c state same = record {
 -- A channel ended; its reply was written, or memory ran out for it.
 module _ (here there : Seat) (moment : Moment) (s t : State) (out after : List ℕ) (sid cid : ℕ) (c : Calls here there (AreEndingsOf (slots_of (on_only sid s.requests)))) (requests_are : t.requests ≡ without_channel sid s.requests) where
   pub channel_told : t ≡ record s { channels = remove s.channels sid; requests = without_channel sid s.requests }
-      → after ≡ out ++ spelled s.order s.segment (said (reply.channel_destroyed sid cid))
+      → (after ≡ out ++ spelled s.order s.segment (said (reply.channel_destroyed sid cid))) × IsSayable (said (reply.channel_destroyed sid cid))
       → Heeds (shown here s out) (shown there t after) moment (asks (destroy_channel sid cid) s.types) (Ok tt)
   channel_told state ok = record {
     marks = c.marks;
     sent = said (reply.channel_destroyed sid cid) ∷ [];
     answers = record { endings = c.named; sent_is = refl };
+    sayable = (ok.1, tt);
     adds = c.adds;
     moments = endings_moments moment (slots_of (on_only sid s.requests)) c.marks c.named;
     state = state;
-    output = ok ∙ ap (λ (l : List ℕ). out ++ l) (sym (append-nil (spelled s.order s.segment (said (reply.channel_destroyed sid cid)))));
+    output = ok.0 ∙ ap (λ (l : List ℕ). out ++ l) (sym (append-nil (spelled s.order s.segment (said (reply.channel_destroyed sid cid)))));
   }
 
   pub channel_untold : after ≡ out → Heeds (shown here s out) (shown there t after) moment (asks (destroy_channel sid cid) s.types) (Err stops.NoMemory)
@@ -252,7 +254,7 @@ some_ask (Some ask) is = (ask, refl)
 -- The reply to the end of a channel, by its answer.
 pub channel_answered : (here there : Seat) (moment : Moment) (s t : State) (out after : List ℕ) (sid cid : ℕ) → Calls here there (AreEndingsOf (slots_of (on_only sid s.requests)))
     → t ≡ record s { channels = remove s.channels sid; requests = without_channel sid s.requests } → (answer : Result (Unit {0}) NoMemory) (result : Result (Unit {0}) SessionStop) → result ≡ stopping answer
-    → OnOk answer (after ≡ out ++ spelled s.order s.segment (said (reply.channel_destroyed sid cid))) → OnErr answer (after ≡ out)
+    → OnOk answer ((after ≡ out ++ spelled s.order s.segment (said (reply.channel_destroyed sid cid))) × IsSayable (said (reply.channel_destroyed sid cid))) → OnErr answer (after ≡ out)
     → Heeds (shown here s out) (shown there t after) moment (asks (destroy_channel sid cid) s.types) result
 channel_answered here there moment s t out after sid cid c state (Ok u) result is ok err =
     subst (Heeds (shown here s out) (shown there t after) moment (asks (destroy_channel sid cid) s.types)) (sym is)
@@ -264,15 +266,14 @@ channel_answered here there moment s t out after sid cid c state (Err e) result 
 pub channel_closed : (here there : Seat) (moment : Moment) (s mid t : State) (out between after : List ℕ) (sid cid : ℕ) → Calls here there (AreEndingsOf (slots_of (on_only sid s.requests)))
     → mid ≡ record s { channels = remove s.channels sid; requests = without_channel sid s.requests } → t ≡ mid → between ≡ out
     → (answer : Result (Unit {0}) NoMemory) (result : Result (Unit {0}) SessionStop) → result ≡ stopping answer
-    → OnOk answer (after ≡ between ++ spelled mid.order mid.segment (said (reply.channel_destroyed sid cid))) → OnErr answer (after ≡ between)
+    → OnOk answer ((after ≡ between ++ spelled mid.order mid.segment (said (reply.channel_destroyed sid cid))) × IsSayable (said (reply.channel_destroyed sid cid))) → OnErr answer (after ≡ between)
     → Heeds (shown here s out) (shown there t after) moment (asks (destroy_channel sid cid) s.types) result
 channel_closed here there moment s mid t out between after sid cid c mid_is t_is between_is answer result is ok err =
     channel_answered here there moment s t out after sid cid c (t_is ∙ mid_is) answer result is (ok_by answer ok) (err_by answer err)
   where
-    ok_by : (a : Result (Unit {0}) NoMemory) → OnOk a (after ≡ between ++ spelled mid.order mid.segment (said (reply.channel_destroyed sid cid))) → OnOk a (after ≡ out ++ spelled s.order s.segment (said (reply.channel_destroyed sid cid)))
+    ok_by : (a : Result (Unit {0}) NoMemory) → OnOk a ((after ≡ between ++ spelled mid.order mid.segment (said (reply.channel_destroyed sid cid))) × IsSayable (said (reply.channel_destroyed sid cid))) → OnOk a ((after ≡ out ++ spelled s.order s.segment (said (reply.channel_destroyed sid cid))) × IsSayable (said (reply.channel_destroyed sid cid)))
     ok_by (Ok u) e =
-        e ∙ ap (λ (z : State). between ++ spelled z.order z.segment (said (reply.channel_destroyed sid cid))) mid_is
-        ∙ ap (λ (l : List ℕ). l ++ spelled s.order s.segment (said (reply.channel_destroyed sid cid))) between_is
+        (e.0 ∙ ap (λ (z : State). between ++ spelled z.order z.segment (said (reply.channel_destroyed sid cid))) mid_is ∙ ap (λ (l : List ℕ). l ++ spelled s.order s.segment (said (reply.channel_destroyed sid cid))) between_is, e.1)
     ok_by (Err x) e = tt
 
     err_by : (a : Result (Unit {0}) NoMemory) → OnErr a (after ≡ between) → OnErr a (after ≡ out)

@@ -316,7 +316,7 @@ past_pops site log s t (r ∷ reqs) [] are rules holds = absurd are
 past_pops site log s t (r ∷ reqs) (hears e marks sent ∷ xs) are rules holds = absurd are
 past_pops site log s t (r ∷ reqs) (pops req marks sent ∷ xs) are rules holds =
     subst (λ (l : List Mark). Holds l s) (append_assoc log marks (marks_of xs))
-    (past_pops site (log ++ marks) s (after_pop t req marks) reqs xs are.1 rules.1 (past_pop log marks s t req rules.0.channel rules.0.update rules.0.is_pop holds))
+    (past_pops site (log ++ marks) s (after_pop t req marks) reqs xs are.1 rules.1 (past_pop log marks s t req rules.0.0.channel rules.0.0.update rules.0.0.is_pop holds))
 
 -- A monitor begins.
 
@@ -476,8 +476,8 @@ left_holds site s log marks (unreadable fault) of p free holds = stays site log 
 left_holds site s log marks over_range of p free holds = stays site log marks s (none_leave marks p) holds
 
 pub holds_step : (site : SiteData) (s : State) (log : List Mark) (x : Step) → Holds log s → IsStep site s x → AllTrue IsFreeBegun log (marks_in x) → Holds (log ++ marks_in x) (after_step site s x)
-holds_step site s log (hears e marks sent) holds p free = hearing_holds site s log marks sent (heard site s e) (heard_so site s e) p free holds
-holds_step site s log (pops req marks sent) holds p free = pop_holds log marks s req p.channel p.update p.is_pop holds
+holds_step site s log (hears e marks sent) holds p free = hearing_holds site s log marks sent (heard site s e) (heard_so site s e) p.0 free holds
+holds_step site s log (pops req marks sent) holds p free = pop_holds log marks s req p.0.channel p.0.update p.0.is_pop holds
 
 pub holds_steps : (site : SiteData) (s : State) (log : List Mark) (xs : List Step) → Holds log s → AreSteps site s xs → AllTrue IsFreeBegun log (marks_of xs) → Holds (log ++ marks_of xs) (state_after site s xs)
 holds_steps site s log [] holds rules free = subst (λ (l : List Mark). Holds l s) (sym (append-nil log)) holds

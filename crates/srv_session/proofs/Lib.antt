@@ -22,3 +22,4 @@ pub mod Validating
 pub mod Typed
 pub mod Ending
 pub mod Monitoring
+pub mod Sayable

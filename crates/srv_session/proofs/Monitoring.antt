@@ -34,10 +34,10 @@ use Rattle.desk_api.specs.declared.sub.SubAnswer.{SubAnswer}
 use Rattle.desk_api.specs.declared.sub.SubAnswer.TheVariants as answers
 use Rattle.srv_session.specs.State.{State, Requests, Asked, slots_of}
 use Rattle.srv_session.specs.Calls.{Shown, Heeds}
-use Rattle.srv_session.specs.Replies.{Sent, said, spelled, is_call, begun, refused}
+use Rattle.srv_session.specs.Replies.{Sent, IsSayable, said, spelled, is_call, begun, refused}
 use Rattle.srv_session.specs.Rows.{begins_alone, SubscribePart, monitor_of, steered, subscribed_reply, left_by, after_task}
 use Rattle.srv_session.specs.Tasks.{Task, Hearing, asks, over_range, refuse, subscribe, steer, destroy_request, beginning, beginning_as, fault_text, is_over, acknowledged, started_by, steering, windowed}
-use Rattle.srv_session.specs.Views.{state_of, output_of, show, stopping, AnswersAlone, HasPart, IsAsBefore, RefusesFault, RefusesPlace}
+use Rattle.srv_session.specs.Views.{state_of, output_of, show, stopping, AnswersAlone, HasPart, HasSaid, IsAsBefore, RefusesFault, RefusesPlace}
 use Rattle.srv_session.specs.Watching.{RefusesSubscription, Writes}
 use Rattle.srv_session.specs.declared.session.Session.{Session}
 use Rattle.srv_session.specs.declared.stop.SessionStop.{SessionStop}
@@ -78,16 +78,17 @@ module _ (here : Seat) (moment : Moment) (s : State) (out : List ℕ) (req sub s
       reply_ = begun kinds.Monitor req begins_alone (type_of here.seen.base.site channel)
 
       pub monitor_begun : (answer : Result (Unit {0}) NoMemory) (result : Result (Unit {0}) SessionStop) → result ≡ stopping answer
-          → OnOk answer (after ≡ out ++ spelled s.order s.segment (said reply_)) → OnErr answer (after ≡ out)
+          → OnOk answer ((after ≡ out ++ spelled s.order s.segment (said reply_)) × IsSayable (said reply_)) → OnErr answer (after ≡ out)
           → Heeds (shown here s out) (shown there t after) moment task_ result
       monitor_begun (Ok u) result is ok err = subst (Heeds (shown here s out) (shown there t after) moment task_) (sym is) (record {
         marks = calls.marks;
         sent = said reply_ ∷ [];
         answers = record { answer = Ok living; told = reply_; is_subscribe = calls.named; told_is = refl; sent_is = refl };
+        sayable = (ok.1, tt);
         adds = calls.adds;
         moments = subscribe_moments moment channel wanted (Ok living) calls.marks calls.named;
         state = behind;
-        output = ok ∙ ap (λ (l : List ℕ). out ++ l) (sym (append-nil (spelled s.order s.segment (said reply_))));
+        output = ok.0 ∙ ap (λ (l : List ℕ). out ++ l) (sym (append-nil (spelled s.order s.segment (said reply_))));
       })
       monitor_begun (Err e) result is ok err = subst (Heeds (shown here s out) (shown there t after) moment task_) (sym is) (record {
         marks = calls.marks;
@@ -102,17 +103,20 @@ module _ (here : Seat) (moment : Moment) (s : State) (out : List ℕ) (req sub s
     pub monitor_begun_by : (living : Sub) → Calls here there (AreSubscribe channel wanted.mask wanted.queue (Ok living)) → (mid : State) (between : List ℕ) (ty : Tree)
         → mid ≡ record s { requests = insert s.requests req (monitor_of sid wanted living.slot window) } → between ≡ out → ty ≡ type_of here.seen.base.site channel → t ≡ mid
         → (answer : Result (Unit {0}) NoMemory) (result : Result (Unit {0}) SessionStop) → result ≡ stopping answer
-        → OnOk answer (after ≡ between ++ spelled mid.order mid.segment (said (begun kinds.Monitor req begins_alone ty))) → OnErr answer (after ≡ between)
+        → OnOk answer ((after ≡ between ++ spelled mid.order mid.segment (said (begun kinds.Monitor req begins_alone ty))) × IsSayable (said (begun kinds.Monitor req begins_alone ty))) → OnErr answer (after ≡ between)
         → Heeds (shown here s out) (shown there t after) moment task_ result
     monitor_begun_by living calls mid between ty mid_is between_is ty_is t_is answer result is ok err =
         monitor_begun living calls (t_is ∙ mid_is) answer result is (on_ok_by answer ok) (on_err_by answer err)
       where
-        on_ok_by : (a : Result (Unit {0}) NoMemory) → OnOk a (after ≡ between ++ spelled mid.order mid.segment (said (begun kinds.Monitor req begins_alone ty)))
-            → OnOk a (after ≡ out ++ spelled s.order s.segment (said (begun kinds.Monitor req begins_alone (type_of here.seen.base.site channel))))
-        on_ok_by (Ok u) e =
-            e ∙ ap (λ (z : State). between ++ spelled z.order z.segment (said (begun kinds.Monitor req begins_alone ty))) mid_is
-            ∙ ap (λ (l : List ℕ). l ++ spelled s.order s.segment (said (begun kinds.Monitor req begins_alone ty))) between_is
-            ∙ ap (λ (y : Tree). out ++ spelled s.order s.segment (said (begun kinds.Monitor req begins_alone y))) ty_is
+        on_ok_by : (a : Result (Unit {0}) NoMemory) → OnOk a ((after ≡ between ++ spelled mid.order mid.segment (said (begun kinds.Monitor req begins_alone ty))) × IsSayable (said (begun kinds.Monitor req begins_alone ty)))
+            → OnOk a
+            ((after ≡ out ++ spelled s.order s.segment (said (begun kinds.Monitor req begins_alone (type_of here.seen.base.site channel)))) × IsSayable (said (begun kinds.Monitor req begins_alone (type_of here.seen.base.site channel))))
+        on_ok_by (Ok u) e = (
+          e.0 ∙ ap (λ (z : State). between ++ spelled z.order z.segment (said (begun kinds.Monitor req begins_alone ty))) mid_is
+              ∙ ap (λ (l : List ℕ). l ++ spelled s.order s.segment (said (begun kinds.Monitor req begins_alone ty))) between_is
+              ∙ ap (λ (y : Tree). out ++ spelled s.order s.segment (said (begun kinds.Monitor req begins_alone y))) ty_is,
+          subst (λ (y : Tree). IsSayable (said (begun kinds.Monitor req begins_alone y))) ty_is e.1,
+        )
         on_ok_by (Err x) e = tt
 
         on_err_by : (a : Result (Unit {0}) NoMemory) → OnErr a (after ≡ between) → OnErr a (after ≡ out)
@@ -144,11 +148,12 @@ module _ (here : Seat) (moment : Moment) (s : State) (out : List ℕ) (req sub s
               marks = calls.marks;
               sent = said reply ∷ [];
               answers = record { answer = Err (answers.TooManyMonitors count); told = reply; is_subscribe = named; told_is = refl; sent_is = refl };
+              sayable = (told.1, tt);
               adds = calls.adds;
               moments = subscribe_moments moment channel wanted (Err (answers.TooManyMonitors count)) calls.marks named;
               state = state ∙ ap (after_task here.seen.base.site s (subscribe req sub sid channel wanted window)) (sym named.marks_are);
               output =
-                  told ∙ ap (λ (z : State). output_of old ++ spelled z.order z.segment (said reply)) old_is
+                  told.0 ∙ ap (λ (z : State). output_of old ++ spelled z.order z.segment (said reply)) old_is
                   ∙ ap (λ (l : List ℕ). l ++ spelled s.order s.segment (said reply)) out_is
                   ∙ ap (λ (l : List ℕ). out ++ l) (sym (append-nil (spelled s.order s.segment (said reply))));
             }
@@ -169,6 +174,7 @@ no_change seat moment s t out after req sub count ask legal state same = record 
   marks = [];
   sent = [];
   answers = record { marks_are = refl; sent_is = refl };
+  sayable = tt;
   adds = adds_nothing seat legal;
   moments = tt;
   state = state;
@@ -189,12 +195,12 @@ module _ (types : Types) (req sub : ℕ) (count : Option ℕ) (ask : Asked) wher
       ∙ ap (λ (b : Bool). cond b (asks (destroy_request req) types) goes_on) ends_is
 
 -- a request for values is no call
-pub part_call : (kind : AskKind) → HasPart kind → is_call kind ≡ false
-part_call kinds.Get part = refl
-part_call kinds.Put part = refl
-part_call kinds.PutGet part = refl
-part_call kinds.Rpc part = absurd part
-part_call kinds.Monitor part = absurd part
+pub part_call : (kind : AskKind) (sub : ℕ) → HasPart kind sub → is_call kind ≡ false
+part_call kinds.Get sub part = refl
+part_call kinds.Put sub part = refl
+part_call kinds.PutGet sub part = refl
+part_call kinds.Rpc sub part = absurd part
+part_call kinds.Monitor sub part = absurd part
 
 -- A session whose state is this.
 pub heeds_old : (seat : Seat) (s m : State) (out mid : List ℕ) (new : Shown) (moment : Moment) (h : Hearing) (result : Result (Unit {0}) SessionStop) → m ≡ s → mid ≡ out → Heeds (shown seat m mid) new moment h result
@@ -203,7 +209,7 @@ heeds_old seat s m out mid new moment h result same still t =
     subst (λ (z : State). Heeds (shown seat z out) new moment h result) same (subst (λ (o : List ℕ). Heeds (shown seat m o) new moment h result) still t)
 
 -- this is written, or nothing
-pub writes_by : (old new : Session) (x : Sent) (result : Result (Unit {0}) NoMemory) → OnOk result (output_of new ≡ output_of old ++ spelled old.order old.segment x) → OnErr result (output_of new ≡ output_of old) → Writes old new x result
+pub writes_by : (old new : Session) (x : Sent) (result : Result (Unit {0}) NoMemory) → OnOk result (HasSaid old new x) → OnErr result (output_of new ≡ output_of old) → Writes old new x result
 writes_by old new x (Ok u) ok err = ok
 writes_by old new x (Err e) ok err = err
 

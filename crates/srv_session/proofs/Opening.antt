@@ -1,5 +1,5 @@
 -- Channels that are opened and ended.
-use Rattle.std.proofs.Common.{◌≡◌, ◌==◌, ℕ, ◌<◌, Bool, true, false, cond, List, ◌∷◌, ◌++◌, drop, take, length, ◌+◌, Option, None, Some, Result, Ok, Err, refl, sym, ◌∙◌, ap, arith, append_assoc}
+use Rattle.std.proofs.Common.{◌≡◌, ◌==◌, ℕ, ◌<◌, Bool, true, false, cond, List, ◌∷◌, ◌++◌, drop, take, length, ◌+◌, Option, None, Some, Result, Ok, Err, refl, sym, ◌∙◌, ap, subst, arith, append_assoc}
 use Rattle.std.specs.Prelude.{IfNone, IfOk, OnErr, OnSome, is_some, get_or, codes}
 use Rattle.std.specs.FinMap.{get, insert, len}
 use Rattle.std.proofs.Math.Seq.{take-append_seam}
@@ -7,6 +7,7 @@ use Rattle.std.proofs.lemmas.Bool.{false≢true}
 use Rattle.std.proofs.lemmas.List.{at_drop_more}
 use Rattle.std.proofs.lemmas.Bool.Decides.{nat_tests}
 use Rattle.pva_messages.specs.Replies as reply
+use Rattle.pvd_codec.specs.Written.{CanEach}
 use Rattle.chan_table.specs.Numbers.{IsLeastAbsent}
 use Rattle.chan_table.specs.Tables.{Tables, limit, of_cid, channel_of, with_channel, without_channel as less_channel}
 use Rattle.chan_table.specs.declared.answer.TableAnswer.{TableAnswer}
@@ -15,7 +16,7 @@ use Rattle.desk_api.specs.declared.sub.Sub.{Sub}
 use Rattle.srv_session.specs.State.{State, Channels, is_full, is_open, has_cid, least_free}
 use Rattle.desk_api.specs.Sites.{channel_named}
 use Rattle.desk_api.specs.declared.history.SiteData.{SiteData}
-use Rattle.srv_session.specs.Replies.{Sent, said, spelled, spelled_all, outcome}
+use Rattle.srv_session.specs.Replies.{Sent, IsSayable, said, spelled, spelled_all, outcome}
 use Rattle.srv_session.specs.Rows.{created, opened, all_created, all_opened}
 use Rattle.srv_session.specs.Tasks.{destroy_channel, pass_over, asked_end}
 use Rattle.srv_session.specs.Views.{Keeps}
@@ -119,6 +120,11 @@ module _ (site : SiteData) (names : List (ℕ × List ℕ)) (i : ℕ) (x : ℕ �
         ∙ ap (λ (z : State). (mid ++ spelled z.order z.segment reply_) ++ spelled_all s.order s.segment (rest new_channels)) m_is
         ∙ append_assoc mid (spelled s.order s.segment reply_) (spelled_all s.order s.segment (rest new_channels))
         ∙ sym (next_name (λ ns. mid ++ spelled_all s.order s.segment (all_created site m.channels ns)) names i x is lt)
+
+  -- and what is told of all names can be said, where what is told of those behind it can
+  pub next_sayable : IsSayable (said (created m.channels x.0 (channel_named site x.1))) → CanEach IsSayable (all_created site n.channels (drop (i + 1) names)) → CanEach IsSayable (all_created site m.channels (drop i names))
+  next_sayable first rest =
+      subst (CanEach IsSayable) (sym (next_name (all_created site m.channels) names i x is lt)) (first, subst (λ (c : Channels). CanEach IsSayable (all_created site c (drop (i + 1) names))) same_channels rest)
 
 pub keeps_more : (a b c : Session) → Keeps a b → Keeps b c → Keeps a c
 keeps_more a b c p q = record {

@@ -25,7 +25,7 @@ use Rattle.desk_api.specs.declared.mark.Mark.TheVariants.{Popped}
 use Rattle.desk_api.specs.declared.mark.Seat.{Seat}
 use Rattle.desk_api.specs.declared.sub.Sub.{Sub}
 use Rattle.srv_session.specs.State.{State, Requests, Asked, channel_at, is_due, due, slot_of_sub, slots_of}
-use Rattle.srv_session.specs.Replies.{Sent, is_call, said, spelled, spelled_all, updated}
+use Rattle.srv_session.specs.Replies.{Sent, IsSayable, is_call, said, spelled, spelled_all, updated}
 use Rattle.srv_session.specs.Rising.{is_rising}
 use Rattle.srv_session.specs.Steps.{Step, hears, pops, IsDueMonitor, IsPopOf, PopRow, UnsentPop, one_sent, with_sent, after_pop, after_step, AreSteps, state_after, marks_of, sent_in, out_of, update_sent}
 use Rattle.srv_session.specs.Calls.{AreLiving, IsOf, IsHeld, Holds, ArePopsOf, is_some_sent, sends, Pumps, Pumped, PumpedSome, PumpStopped}
@@ -224,7 +224,7 @@ module _ (here : Seat) (s : State) (out : List ℕ) (now : Seat) (old : Session)
       at_state = sym g.state
 
       rules_ : AreSteps site_ s (g.steps ++ step_ ∷ [])
-      rules_ = steps_append site_ s g.steps (step_ ∷ []) g.rules (subst (λ (z : State). PopRow site_ z id p.marks p.sent) g.state row_, tt)
+      rules_ = steps_append site_ s g.steps (step_ ∷ []) g.rules ((subst (λ (z : State). PopRow site_ z id p.marks p.sent) g.state row_, p.sayable), tt)
 
       pub going_on : Going here s out there (state_of new) (output_of new) later more
       going_on = record {
@@ -389,6 +389,7 @@ module _ (here there : Seat) (old : Session) (req : ℕ) (ask : Asked) (channel 
     marks = calls.marks;
     sent = [];
     row = popped_row here there (state_of old) req ask channel sub is None calls;
+    sayable = tt;
     adds = calls.adds;
     state = sym (after_popped here there (state_of old) req ask channel sub is None calls);
     output = sym (append-nil (output_of old));
@@ -401,10 +402,11 @@ module _ (here there : Seat) (old : Session) (req : ℕ) (ask : Asked) (channel 
       marks = calls.marks;
       sent = said (updated req (type_of here.seen.base.site channel) update) ∷ [];
       row = popped_row here there (state_of old) req ask channel sub is (Some update) calls;
+      sayable = (subst (λ (t : Tree). IsSayable (said (updated req t update))) ty_is sends_.0.1, tt);
       adds = calls.adds;
       state = sends_.1 ∙ sym (after_popped here there (state_of old) req ask channel sub is (Some update) calls);
       output =
-          sends_.0 ∙ ap (λ (t : Tree). output_of old ++ spelled old.order old.segment (said (updated req t update))) ty_is
+          sends_.0.0 ∙ ap (λ (t : Tree). output_of old ++ spelled old.order old.segment (said (updated req t update))) ty_is
           ∙ ap (λ (l : List ℕ). output_of old ++ l) (sym (append-nil (spelled old.order old.segment (said (updated req (type_of here.seen.base.site channel) update)))));
       now_is = true_ before;
     }

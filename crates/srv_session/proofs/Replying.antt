@@ -1,5 +1,5 @@
 -- What is written behind the output, and what the rows' functions did.
-use Rattle.std.proofs.Common.{◌≡◌, ℕ, ◌≤◌, drop, length, Bool, true, false, not, ◌&&◌, List, [], ◌∷◌, ◌++◌, Option, None, Some, Result, Ok, Err, refl, sym, ◌∙◌, ap, append_assoc}
+use Rattle.std.proofs.Common.{◌≡◌, ℕ, ◌≤◌, drop, length, Bool, true, false, not, ◌&&◌, List, [], ◌∷◌, ◌++◌, Option, None, Some, Result, Ok, Err, refl, sym, ◌∙◌, ap, subst, append_assoc}
 use Rattle.std.specs.Prelude.{OnOk, OnErr, IsErr, IfNone, option_map}
 use Rattle.std.specs.FinSet.{FinSet}
 use Rattle.std.specs.Ordering.{nat_cmp}
@@ -29,7 +29,7 @@ use Rattle.desk_api.specs.declared.mark.Seat.{Seat}
 use Rattle.desk_api.specs.declared.put.Done.{Done}
 use Rattle.desk_api.specs.declared.put.PutAnswer.{PutAnswer}
 use Rattle.srv_session.specs.State.{State, Asked, slots_of}
-use Rattle.srv_session.specs.Replies.{said, control, methods, greetings, spelled, spelled_all, outcome, answered, begun, got, called, command_of_kind}
+use Rattle.srv_session.specs.Replies.{IsSayable, said, control, methods, greetings, spelled, spelled_all, outcome, answered, begun, got, called, command_of_kind}
 use Rattle.srv_session.specs.Tasks.{get, put, put_get, snapshot}
 use Rattle.srv_session.specs.Rows.{asked, put_status, put_get_reply, rows_data, behind}
 use Rattle.srv_session.specs.Calls.{Takes}
@@ -86,14 +86,12 @@ both_types false t is = absurd (false≢true is)
 
 pub answered_fields : (kind : AskKind) (req sub : ℕ) (problem : Option (List ℕ)) → IfNone problem (IsOkAlone kind sub)
     → reply_fields (answered kind req sub (outcome problem)) ≡ field.word req ∷ field.byte sub ∷ field.status (outcome problem) ∷ []
-answered_fields kinds.Get req sub None none =
-    ap (λ (l : List Field). field.word req ∷ field.byte sub ∷ field.status good ∷ (l ++ [])) (bare (begins sub) None none)
+answered_fields kinds.Get req sub None none = absurd none
 answered_fields kinds.Get req sub (Some text) none = refl
 answered_fields kinds.Put req sub None none =
-    ap (λ (l : List Field). field.word req ∷ field.byte sub ∷ field.status good ∷ (l ++ [])) (bare (begins sub) None none)
+    ap (λ (l : List Field). field.word req ∷ field.byte sub ∷ field.status good ∷ (l ++ [])) (bare (begins sub) None none.0)
 answered_fields kinds.Put req sub (Some text) none = refl
-answered_fields kinds.PutGet req sub None none =
-    ap (λ (l : List Field). field.word req ∷ field.byte sub ∷ field.status good ∷ ((l ++ l) ++ [])) (bare (begins sub) None none)
+answered_fields kinds.PutGet req sub None none = absurd none
 answered_fields kinds.PutGet req sub (Some text) none = refl
 answered_fields kinds.Rpc req sub None none =
     ap (λ (l : List Field). field.word req ∷ field.byte sub ∷ field.status good ∷ l) (bare_call (begins sub) None none)
@@ -108,7 +106,7 @@ answered_command kinds.PutGet req sub status = refl
 answered_command kinds.Rpc req sub status = refl
 answered_command kinds.Monitor req sub status = refl
 
-pub got_fields : (kind : AskKind) (req sub : ℕ) (ty : Tree) (mask : FinSet nat_cmp) (value : Data) → HasPart kind → begins sub ≡ false
+pub got_fields : (kind : AskKind) (req sub : ℕ) (ty : Tree) (mask : FinSet nat_cmp) (value : Data) → HasPart kind sub → begins sub ≡ false
     → reply_fields (got kind req sub ty mask value) ≡ field.word req ∷ field.byte sub ∷ field.status good ∷ field.part (record { ty = ty; mask = mask; value = value }) ∷ []
 got_fields kinds.Get req sub ty mask value part none =
     ap (λ (l : List Field). field.word req ∷ field.byte sub ∷ field.status good ∷ (l ++ field.part (record { ty = ty; mask = mask; value = value }) ∷ [])) (bare (begins sub) None none)
@@ -119,7 +117,7 @@ got_fields kinds.PutGet req sub ty mask value part none =
 got_fields kinds.Rpc req sub ty mask value part none = absurd part
 got_fields kinds.Monitor req sub ty mask value part none = absurd part
 
-pub got_command : (kind : AskKind) (req sub : ℕ) (ty : Tree) (mask : FinSet nat_cmp) (value : Data) → HasPart kind → reply_command (got kind req sub ty mask value) ≡ byte_of (command_of_kind kind)
+pub got_command : (kind : AskKind) (req sub : ℕ) (ty : Tree) (mask : FinSet nat_cmp) (value : Data) → HasPart kind sub → reply_command (got kind req sub ty mask value) ≡ byte_of (command_of_kind kind)
 got_command kinds.Get req sub ty mask value part = refl
 got_command kinds.Put req sub ty mask value part = refl
 got_command kinds.PutGet req sub ty mask value part = refl
@@ -191,17 +189,18 @@ module _ (here there : Seat) (moment : Moment) (s t : State) (out after : List �
 
     -- it was written
     pub told : (ty : Tree) → ty ≡ type_of here.seen.base.site channel → t ≡ record s { requests = behind req sub s.requests }
-        → after ≡ out ++ spelled s.order s.segment (said (got kind req sub ty ask.mask value))
+        → (after ≡ out ++ spelled s.order s.segment (said (got kind req sub ty ask.mask value))) × IsSayable (said (got kind req sub ty ask.mask value))
         → Takes (shown here s out) (shown there t after) moment (get kind req sub ask channel) (Ok tt)
     told ty ty_is state ok = record {
       marks = calls.marks;
       sent = said (got kind req sub (type_of here.seen.base.site channel) ask.mask value) ∷ [];
       row = record { value = value; is_get = calls.named; sent_is = refl };
+      sayable = (subst (λ (y : Tree). IsSayable (said (got kind req sub y ask.mask value))) ty_is ok.1, tt);
       adds = calls.adds;
       moments = part_moments moment here.seen.base.site channel ask.atomic calls.marks (whole_is_part here.seen.base.site channel ask.atomic value calls.marks calls.named);
       state = state;
       output =
-          ok
+          ok.0
           ∙ ap (λ (y : Tree). out ++ spelled s.order s.segment (said (got kind req sub y ask.mask value))) ty_is
           ∙ ap (λ (z : List ℕ). out ++ z) (sym (append-nil (spelled s.order s.segment (said (got kind req sub (type_of here.seen.base.site channel) ask.mask value)))));
     }
@@ -222,16 +221,17 @@ module _ (here there : Seat) (moment : Moment) (s t : State) (out after : List �
   }
 
   pub put_said : (status : Status) → put_status answer ≡ Some status → t ≡ record s { requests = behind req sub s.requests }
-      → after ≡ out ++ spelled s.order s.segment (said (answered kinds.Put req sub status))
+      → (after ≡ out ++ spelled s.order s.segment (said (answered kinds.Put req sub status))) × IsSayable (said (answered kinds.Put req sub status))
       → Takes (shown here s out) (shown there t after) moment (put req sub ask channel mask value) (Ok tt)
   put_said status is state ok = record {
     marks = calls.marks;
     sent = said (answered kinds.Put req sub status) ∷ [];
     row = record { moment = moment; answer = answer; status = status; is_put = calls.named; status_is = is; sent_is = refl };
+    sayable = (ok.1, tt);
     adds = calls.adds;
     moments = put_moments (asked here.seen.base.site ask channel mask value moment) answer calls.marks calls.named;
     state = state;
-    output = ok ∙ ap (λ (z : List ℕ). out ++ z) (sym (append-nil (spelled s.order s.segment (said (answered kinds.Put req sub status)))));
+    output = ok.0 ∙ ap (λ (z : List ℕ). out ++ z) (sym (append-nil (spelled s.order s.segment (said (answered kinds.Put req sub status)))));
   }
 
 -- The same of a put-get.
@@ -250,16 +250,17 @@ module _ (here there : Seat) (moment : Moment) (s t : State) (out after : List �
   }
 
   pub put_get_said : (told : Reply) → put_get_reply here.seen.base.site req sub ask channel answer ≡ Some told → t ≡ record s { requests = behind req sub s.requests }
-      → after ≡ out ++ spelled s.order s.segment (said told)
+      → (after ≡ out ++ spelled s.order s.segment (said told)) × IsSayable (said told)
       → Takes (shown here s out) (shown there t after) moment (put_get req sub ask channel mask value) (Ok tt)
   put_get_said told is state ok = record {
     marks = calls.marks;
     sent = said told ∷ [];
     row = record { moment = moment; answer = answer; told = told; is_put_get = calls.named; told_is = is; sent_is = refl };
+    sayable = (ok.1, tt);
     adds = calls.adds;
     moments = put_get_moments (asked here.seen.base.site ask channel mask value moment) answer calls.marks calls.named;
     state = state;
-    output = ok ∙ ap (λ (z : List ℕ). out ++ z) (sym (append-nil (spelled s.order s.segment (said told))));
+    output = ok.0 ∙ ap (λ (z : List ℕ). out ++ z) (sym (append-nil (spelled s.order s.segment (said told))));
   }
 
 -- The same of a look at all records.
@@ -283,14 +284,15 @@ module _ (here there : Seat) (moment : Moment) (s t : State) (out after : List �
         not_looked result (record { marks = calls.marks; adds = calls.adds; named = snapshot_is_part here.seen.base.site rows calls.marks calls.named }) failed same stay
 
     pub look_said : t ≡ record s { requests = behind req sub s.requests }
-        → after ≡ out ++ spelled s.order s.segment (said (called req sub snapshot_tree (rows_data rows)))
+        → (after ≡ out ++ spelled s.order s.segment (said (called req sub snapshot_tree (rows_data rows)))) × IsSayable (said (called req sub snapshot_tree (rows_data rows)))
         → Takes (shown here s out) (shown there t after) moment (snapshot req sub) (Ok tt)
     look_said state ok = record {
       marks = calls.marks;
       sent = said (called req sub snapshot_tree (rows_data rows)) ∷ [];
       row = record { rows = rows; is_snapshot = calls.named; sent_is = refl };
+      sayable = (ok.1, tt);
       adds = calls.adds;
       moments = snapshot_moments moment here.seen.base.site calls.marks (snapshot_is_part here.seen.base.site rows calls.marks calls.named);
       state = state;
-      output = ok ∙ ap (λ (z : List ℕ). out ++ z) (sym (append-nil (spelled s.order s.segment (said (called req sub snapshot_tree (rows_data rows))))));
+      output = ok.0 ∙ ap (λ (z : List ℕ). out ++ z) (sym (append-nil (spelled s.order s.segment (said (called req sub snapshot_tree (rows_data rows))))));
     }

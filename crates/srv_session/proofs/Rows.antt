@@ -6,6 +6,7 @@ use Rattle.std.proofs.lemmas.List.{append-nil}
 use Rattle.pvd_value.specs.Data.{Data}
 use Rattle.pvd_value.specs.declared.value.PvValue.{PvValue}
 use Rattle.pva_frames.specs.declared.event.Event.{Event}
+use Rattle.pvd_codec.specs.Written.{CanEach}
 use Rattle.pvd_type.specs.declared.memory.NoMemory.{NoMemory}
 use Rattle.journal_core.specs.Moments.{Moment}
 use Rattle.rec_kinds.specs.declared.datum.Action.{Action}
@@ -25,7 +26,7 @@ use Rattle.desk_api.specs.declared.put.PutAnswer.TheVariants as answers
 use Rattle.desk_api.specs.declared.sub.SubAnswer.TheVariants as sub_answers
 use Rattle.srv_session.specs.State.{State, slots_of}
 use Rattle.srv_session.specs.Tasks.{Task, pass_over, echo_control, refuse, tell, validate, echo, create, destroy_channel, begin, get, put, put_get, respond, snapshot, subscribe, steer, destroy_request, Hearing, asks, unreadable, over_range, heard}
-use Rattle.srv_session.specs.Replies.{Sent, spelled, spelled_all}
+use Rattle.srv_session.specs.Replies.{Sent, IsSayable, spelled, spelled_all}
 use Rattle.srv_session.specs.Rows.{Says, Row, Part, after_task, left_by}
 use Rattle.srv_session.specs.Steps.{knowing, PartOf, NextPart, left_by_hearing}
 use Rattle.srv_session.specs.Calls.{Shown, Answered, Takes}
@@ -170,23 +171,24 @@ shown seat s out = record { seat = seat; state = s; output = out }
 module _ (seat : Seat) (moment : Moment) (s t : State) (before after : List ℕ) (task : Task) (result : Result (Unit {0}) NoMemory) (legal : IsLegal seat.seen) where
   -- these were sent
   pub said_all : (sent : List Sent) → Row seat.seen.base.site s task [] sent → OnOk result (t ≡ after_task seat.seen.base.site s task [])
-      → OnOk result (after ≡ before ++ spelled_all s.order s.segment sent) → OnErr result (after ≡ before)
+      → OnOk result ((after ≡ before ++ spelled_all s.order s.segment sent) × CanEach IsSayable sent) → OnErr result (after ≡ before)
       → OnErr result (slots_of t.requests ≡ slots_of s.requests)
       → Takes (shown seat s before) (shown seat t after) moment task result
   said_all sent row state ok err stay = by_result result state ok err stay
     where
       by_result : (r : Result (Unit {0}) NoMemory) → OnOk r (t ≡ after_task seat.seen.base.site s task [])
-          → OnOk r (after ≡ before ++ spelled_all s.order s.segment sent) → OnErr r (after ≡ before)
+          → OnOk r ((after ≡ before ++ spelled_all s.order s.segment sent) × CanEach IsSayable sent) → OnErr r (after ≡ before)
           → OnErr r (slots_of t.requests ≡ slots_of s.requests)
           → Takes (shown seat s before) (shown seat t after) moment task r
       by_result (Ok u) state ok err stay = record {
         marks = [];
         sent = sent;
         row = row;
+        sayable = ok.1;
         adds = adds_nothing seat legal;
         moments = tt;
         state = state;
-        output = ok;
+        output = ok.0;
       }
       by_result (Err e) state ok err stay = record {
         marks = [];
@@ -214,14 +216,14 @@ module _ (seat : Seat) (moment : Moment) (s t : State) (before after : List ℕ)
 
 -- one thing that was sent
 
-one_sent : (s : State) (x : Sent) (before after : List ℕ) (result : Result (Unit {0}) NoMemory) → OnOk result (after ≡ before ++ spelled s.order s.segment x)
-    → OnOk result (after ≡ before ++ spelled_all s.order s.segment (x ∷ []))
-one_sent s x before after (Ok u) ok = ok ∙ ap (λ (z : List ℕ). before ++ z) (sym (append-nil (spelled s.order s.segment x)))
+one_sent : (s : State) (x : Sent) (before after : List ℕ) (result : Result (Unit {0}) NoMemory) → OnOk result ((after ≡ before ++ spelled s.order s.segment x) × IsSayable x)
+    → OnOk result ((after ≡ before ++ spelled_all s.order s.segment (x ∷ [])) × CanEach IsSayable (x ∷ []))
+one_sent s x before after (Ok u) ok = (ok.0 ∙ ap (λ (z : List ℕ). before ++ z) (sym (append-nil (spelled s.order s.segment x))), (ok.1, tt))
 one_sent s x before after (Err e) ok = tt
 
 pub said_one : (seat : Seat) (moment : Moment) (s t : State) (before after : List ℕ) (task : Task) (result : Result (Unit {0}) NoMemory) (x : Sent) → IsLegal seat.seen
     → Row seat.seen.base.site s task [] (x ∷ []) → OnOk result (t ≡ after_task seat.seen.base.site s task [])
-    → OnOk result (after ≡ before ++ spelled s.order s.segment x) → OnErr result (after ≡ before)
+    → OnOk result ((after ≡ before ++ spelled s.order s.segment x) × IsSayable x) → OnErr result (after ≡ before)
     → OnErr result (slots_of t.requests ≡ slots_of s.requests)
     → Takes (shown seat s before) (shown seat t after) moment task result
 said_one seat moment s t before after task result x legal row state ok err stay =
@@ -231,7 +233,7 @@ said_one seat moment s t before after task result x legal row state ok err stay 
 pub nothing_said : (seat : Seat) (moment : Moment) (s t : State) (before after : List ℕ) (task : Task) → IsLegal seat.seen → Row seat.seen.base.site s task [] []
     → t ≡ after_task seat.seen.base.site s task [] → after ≡ before → Takes (shown seat s before) (shown seat t after) moment task (Ok tt)
 nothing_said seat moment s t before after task legal row state same =
-    said_all seat moment s t before after task (Ok tt) legal [] row state (same ∙ sym (append-nil before)) tt tt
+    said_all seat moment s t before after task (Ok tt) legal [] row state (same ∙ sym (append-nil before), tt) tt tt
 
 -- the task under another name
 pub as_task : (old new : Shown) (moment : Moment) (task other : Task) (result : Result (Unit {0}) NoMemory) → other ≡ task → Takes old new moment task result → Takes old new moment other result

@@ -216,9 +216,9 @@ popped_windows g s req ask place slot (Some update) here due w =
 step_windows : (site : SiteData) (s : State) (x : Step) (g : ℕ → Option Grant) → IsStep site s x → AreWindows g s.requests → AreWindows (λ q. grant_with site s q (g q) x) (after_step site s x).requests
 step_windows site s (hears e marks sent) g p w = heard_windows site s (heard site s e) marks g (heard_so site s e) w
 step_windows site s (pops req marks sent) g p w =
-    let u = p.is_pop in
+    let u = p.0.is_pop in
     subst (λ (ms : List Mark). AreWindows (λ q. cond (req == q) (grant_popped ms (g q)) (g q)) (after_pop s req ms).requests) (sym u.marks_are)
-    (popped_windows g s req u.ask u.place u.sub.slot p.update u.is_due.here u.is_due.due w)
+    (popped_windows g s req u.ask u.place u.sub.slot p.0.update u.is_due.here u.is_due.due w)
 
 steps_windows : (site : SiteData) (s : State) (xs : List Step) (g : ℕ → Option Grant) → AreSteps site s xs → AreWindows g s.requests → AreWindows (λ q. grant_after site s q (g q) xs) (state_after site s xs).requests
 steps_windows site s [] g rules w = w

@@ -6,6 +6,7 @@ use Rattle.std.specs.FinMap.{get as at}
 use Rattle.std.specs.FinSet as set
 use Rattle.chan_table.specs.declared.ask.AskKind.TheVariants as kinds
 use Rattle.pva_frames.specs.declared.event.Event.{Event}
+use Rattle.pvd_codec.specs.Written.{CanEach}
 use Rattle.pvd_type.specs.declared.memory.NoMemory.{NoMemory}
 use Rattle.journal_core.specs.Moments.{Moment}
 use Rattle.desk_api.specs.Calls.{Adds, HaveMoment}
@@ -18,7 +19,7 @@ use Rattle.desk_api.specs.Living.{Living, living, lives}
 use Rattle.desk_api.specs.declared.mark.Seat.{Seat}
 use Rattle.desk_api.specs.declared.sub.Sub.{Sub}
 use Rattle.srv_session.specs.State.{State, Channels, Asked, channel_at, due, slots_of}
-use Rattle.srv_session.specs.Replies.{Sent, spelled_all, is_call}
+use Rattle.srv_session.specs.Replies.{Sent, IsSayable, spelled_all, is_call}
 use Rattle.srv_session.specs.Tasks.{Task, Hearing, unreadable, over_range, heard}
 use Rattle.srv_session.specs.Rows.{Row, Part, after_task, left_by}
 use Rattle.srv_session.specs.Steps.{Step, pops, IsAnswer, PartOf, UnsentPop, AreSteps, AreEndings, after_hearing}
@@ -81,6 +82,7 @@ pub record Answered (old new : Shown) (moment : Moment) (task : Task) : Type 0 w
   pub marks : List Mark
   pub sent : List Sent
   pub row : Row (site_of old) old.state task marks sent
+  pub sayable : CanEach IsSayable sent
   pub adds : Adds old.seat new.seat marks
   pub moments : HaveMoment (Some moment) marks
   pub state : new.state ≡ after_task (site_of old) old.state task marks
@@ -107,6 +109,7 @@ pub record Replied (old new : Shown) (moment : Moment) (hearing : Hearing) : Typ
   pub marks : List Mark
   pub sent : List Sent
   pub answers : IsAnswer (site_of old) old.state hearing marks sent
+  pub sayable : CanEach IsSayable sent
   pub adds : Adds old.seat new.seat marks
   pub moments : HaveMoment (Some moment) marks
   pub state : new.state ≡ after_hearing (site_of old) old.state hearing marks

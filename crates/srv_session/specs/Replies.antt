@@ -1,5 +1,5 @@
 -- What a session sends, and how it is spelled (pvAccess Protocol Specification, "Application Messages").
-use Rattle.std.specs.Prelude.{ℕ, Bool, true, false, List, [], ◌∷◌, ◌++◌, Option, None, Some, codes}
+use Rattle.std.specs.Prelude.{◌≡◌, ◌<◌, ◌^◌, ℕ, Bool, true, false, List, [], ◌∷◌, ◌++◌, Option, None, Some, codes}
 use Rattle.std.specs.FinSet.{FinSet}
 use Rattle.std.specs.Ordering.{nat_cmp}
 use Rattle.pva_wire.specs.declared.order.Order.{Order}
@@ -9,12 +9,14 @@ use Rattle.pva_wire.specs.Status.{good}
 use Rattle.pvd_type.specs.Tree.{Tree}
 use Rattle.pvd_value.specs.Data.{Data}
 use Rattle.pvd_value.specs.View.{view}
+use Rattle.mon_queue.specs.Told.{are_leaves}
 use Rattle.mon_queue.specs.declared.update.Update.{Update}
 use Rattle.pvd_codec.specs.Written.{CanEach}
 use Rattle.pva_frames.specs.Spelling.{message_bytes, control_bytes}
 use Rattle.pva_messages.specs.declared.command.Command.{Command}
 use Rattle.pva_messages.specs.declared.command.Command.TheVariants as commands
 use Rattle.pva_messages.specs.Fields.{PartData}
+use Rattle.pva_messages.specs.Laws.{IsReplyWritable}
 use Rattle.pva_messages.specs.Replies as reply
 use Rattle.pva_messages.specs.Replies.{Reply, CanReply, reply_command, reply_fields, update_reply}
 use Rattle.pva_messages.specs.Written.{FitsField, canonical}
@@ -36,9 +38,20 @@ abbrev pub spelled_all : Order → ℕ → List Sent → List ℕ
 spelled_all order segment [] = []
 spelled_all order segment (x ∷ xs) = spelled order segment x ++ spelled_all order segment xs
 
--- what may be said: a message has what its row has, and values that fit
+-- what an update tells of what had changed more than once is a set of leaves
+abbrev pub HasLeafBits : Reply → Type 0
+HasLeafBits (reply.monitor_update req sub (Some u)) = are_leaves u.0.ty u.1 ≡ true
+HasLeafBits r = Unit {0}
+
+-- what may be said: a message has what its row has, values that fit, and leaves where it tells of leaves
 abbrev pub CanSay : Reply → Type 0
-CanSay r = CanReply r × CanEach FitsField (reply_fields r)
+CanSay r = CanReply r × CanEach FitsField (reply_fields r) × HasLeafBits r
+
+-- It has a spelling: a reply says what its row has, and all that it says can be spelled; the number of a control message
+-- has 32 bits.
+abbrev pub IsSayable : Sent → Type 0
+IsSayable (said r) = IsReplyWritable r × HasLeafBits r
+IsSayable (control command number) = number < 2 ^ 32
 
 -- the methods of authentication that a client may choose from
 abbrev pub methods : List (List ℕ)

@@ -3,6 +3,7 @@ use Rattle.std.specs.Prelude.{◌≡◌, ◌==◌, ◌-◌, ◌⊎◌, ℕ, true
 use Rattle.std.specs.Prelude.{option_map, ⊤, if◌then◌else◌}
 use Rattle.std.specs.FinMap.{get as at, insert}
 use Rattle.pva_frames.specs.declared.event.Event.{Event}
+use Rattle.pvd_codec.specs.Written.{CanEach}
 use Rattle.pvd_desc.specs.Types.{Types}
 use Rattle.mon_queue.specs.declared.update.Update.{Update}
 use Rattle.histories.specs.History.{AllTrue}
@@ -15,7 +16,7 @@ use Rattle.desk_api.specs.declared.mark.Mark.TheVariants.{Begun, Popped}
 use Rattle.desk_api.specs.declared.sub.Sub.{Sub}
 use Rattle.srv_session.specs.State.{State, Requests, Asked, channel_at, is_due, slots_of}
 use Rattle.srv_session.specs.Tasks.{Hearing, asks, unreadable, over_range, heard}
-use Rattle.srv_session.specs.Replies.{Sent, said, spelled_all, updated}
+use Rattle.srv_session.specs.Replies.{Sent, IsSayable, said, spelled_all, updated}
 use Rattle.srv_session.specs.Rows.{Row, NoPart, Part, after_task, left_by, AreEndingsOf}
 
 -- One step: an event of the client, or a pop of the monitor of a request; the marks that it made, and what the session
@@ -82,9 +83,10 @@ after_pop s req (Popped place slot (Some update) ∷ []) =
     record s { requests = with_sent req (at s.requests req) s.requests }
 after_pop s req marks = s
 
-abbrev pub IsStep : SiteData → State → Step → Type 0
-IsStep site s (hears e marks sent) = IsAnswer site s (heard site s e) marks sent
-IsStep site s (pops req marks sent) = PopRow site s req marks sent
+-- what the row of a step says
+abbrev pub IsByRow : SiteData → State → Step → Type 0
+IsByRow site s (hears e marks sent) = IsAnswer site s (heard site s e) marks sent
+IsByRow site s (pops req marks sent) = PopRow site s req marks sent
 
 abbrev pub after_step : SiteData → State → Step → State
 after_step site s (hears e marks sent) = after_event site s e marks
@@ -97,6 +99,10 @@ sent_in (pops req marks sent) = sent
 abbrev pub marks_in : Step → List Mark
 marks_in (hears e marks sent) = marks
 marks_in (pops req marks sent) = marks
+
+-- A step is as its row says, and all that is sent in it has a spelling.
+abbrev pub IsStep : SiteData → State → Step → Type 0
+IsStep site s x = IsByRow site s x × CanEach IsSayable (sent_in x)
 
 abbrev pub bytes_of : State → Step → List ℕ
 bytes_of s x = spelled_all s.order s.segment (sent_in x)

@@ -1,5 +1,5 @@
 -- What contracts see of a session.
-use Rattle.std.specs.Prelude.{◌≡◌, ◌≤◌, ℕ, Bool, false, List, ◌++◌, drop, Option, Some, option_map, Result, Ok, Err, codes}
+use Rattle.std.specs.Prelude.{◌≡◌, ◌≤◌, ℕ, Bool, true, false, List, ◌++◌, drop, Option, Some, option_map, Result, Ok, Err, codes}
 use Rattle.std.specs.FinMap.{get as at}
 use Rattle.std.specs.FinSet.{FinSet}
 use Rattle.std.specs.Ordering.{nat_cmp}
@@ -7,7 +7,7 @@ use denote.Ref.{Bor}
 use Rattle.pvd_codec.specs.declared.fault.ValueFault.{ValueFault}
 use Rattle.pvd_codec.specs.declared.fault.ValueFault.TheVariants as values
 use Rattle.pva_messages.specs.Requests as said
-use Rattle.pva_messages.specs.Subcommands.{begins}
+use Rattle.pva_messages.specs.Subcommands.{begins, asks_back}
 use Rattle.pva_messages.specs.Requests.{Request, part_place}
 use Rattle.pva_messages.specs.declared.fault.MessageFault.{MessageFault}
 use Rattle.pvd_type.specs.declared.memory.NoMemory.{NoMemory}
@@ -30,7 +30,7 @@ use Rattle.desk_api.specs.Types.{type_of, HoldsLeaves}
 use Rattle.desk_api.specs.declared.put.Done.{Done}
 use Rattle.desk_api.specs.declared.put.PutAnswer.{PutAnswer}
 use Rattle.srv_session.specs.State.{State, Asked, request_on, slots_of}
-use Rattle.srv_session.specs.Replies.{refused, outcome, is_call}
+use Rattle.srv_session.specs.Replies.{Sent, IsSayable, spelled, refused, outcome, is_call}
 use Rattle.srv_session.specs.Rows.{put_status}
 use Rattle.srv_session.specs.Tasks.{Task, begin, refuse, get, nothing_wanted, putting_as, fault_text, reading_part, heard_getting, Hearing}
 use Rattle.srv_session.specs.Calls.{Shown, Takes, Responds, Heeds}
@@ -60,6 +60,10 @@ output_of s = drop s.sent s.output.items
 abbrev pub show : Seat → Session → Shown
 show seat s = record { seat = seat; state = state_of s; output = output_of s }
 
+-- This was added to what is to be written, and has a spelling.
+abbrev pub HasSaid : Session → Session → Sent → Type 0
+HasSaid old new x = (output_of new ≡ output_of old ++ spelled old.order old.segment x) × IsSayable x
+
 -- nothing of what is to be written was taken back
 pub record Keeps (old new : Session) : Type 0 where
   pub more : List ℕ
@@ -85,17 +89,23 @@ HasOneType kinds.Put = Unit {0}
 HasOneType kinds.Monitor = Unit {0}
 HasOneType kind = ⊥
 
--- gets, puts and put-gets bring leaves of a value
-abbrev pub HasPart : AskKind → Type 0
-HasPart kinds.Get = Unit {0}
-HasPart kinds.Put = Unit {0}
-HasPart kinds.PutGet = Unit {0}
-HasPart kind = ⊥
+-- gets and put-gets bring leaves of a value, and so do puts that ask for it
+abbrev pub HasPart : AskKind → ℕ → Type 0
+HasPart kinds.Get sub = Unit {0}
+HasPart kinds.Put sub = asks_back sub ≡ true
+HasPart kinds.PutGet sub = Unit {0}
+HasPart kind sub = ⊥
 
--- OK alone is said to the beginning of a call, and else to no beginning; to a monitor it never is
+-- OK alone is said to a put that doesn't ask for the value, and to the beginning of a call
 abbrev pub IsOkAlone : AskKind → ℕ → Type 0
-IsOkAlone kinds.Monitor sub = ⊥
-IsOkAlone kind sub = begins sub ≡ is_call kind
+IsOkAlone kinds.Put sub = (begins sub ≡ false) × (asks_back sub ≡ false)
+IsOkAlone kinds.Rpc sub = begins sub ≡ true
+IsOkAlone kind sub = ⊥
+
+-- a monitor is refused in the reply to its beginning
+abbrev pub MayRefuse : AskKind → ℕ → Type 0
+MayRefuse kinds.Monitor sub = begins sub ≡ true
+MayRefuse kind sub = Unit {0}
 
 -- a request is there, which began on this channel, and is no call
 pub record IsThere (s : State) (sid req : ℕ) (found : Found) : Type 0 where

@@ -2,6 +2,7 @@
 use Rattle.std.specs.Prelude.{◌≡◌, ◌||◌, ℕ, Bool, true, false, List, [], ◌∷◌, ◌++◌, Option, None, Some, Result, Ok}
 use Rattle.std.specs.Prelude.{Err, codes}
 use Rattle.std.specs.FinMap.{get as at, insert}
+use Rattle.pvd_codec.specs.Written.{CanEach}
 use Rattle.pvd_type.specs.Tree.{Tree}
 use Rattle.pvd_type.specs.declared.memory.NoMemory.{NoMemory}
 use Rattle.journal_core.specs.Moments.{Moment}
@@ -14,10 +15,10 @@ use Rattle.desk_api.specs.declared.sub.SubAnswer.{SubAnswer}
 use Rattle.desk_api.specs.declared.sub.SubAnswer.TheVariants as answers
 use Rattle.srv_session.specs.Calls.{is_some_sent}
 use Rattle.srv_session.specs.State.{State, Asked, Requests, is_due, slots_of}
-use Rattle.srv_session.specs.Replies.{Sent, said, spelled, spelled_all, refused, updated}
+use Rattle.srv_session.specs.Replies.{Sent, IsSayable, said, spelled_all, refused, updated}
 use Rattle.srv_session.specs.Steps.{PopRow, UnsentPop, after_pop, with_sent}
 use Rattle.srv_session.specs.Tasks.{Hearing, started_by}
-use Rattle.srv_session.specs.Views.{state_of, output_of, HeedsHearing}
+use Rattle.srv_session.specs.Views.{state_of, output_of, HasSaid, HeedsHearing}
 use Rattle.srv_session.specs.declared.session.Session.{Session}
 use Rattle.srv_session.specs.declared.stop.SessionStop.{SessionStop}
 
@@ -27,7 +28,7 @@ HeedsAnytime here there old new hearing result = (moment : Moment) → HeedsHear
 
 -- this was written, or nothing
 abbrev pub Writes : Session → Session → Sent → Result (Unit {0}) NoMemory → Type 0
-Writes old new x (Ok u) = output_of new ≡ output_of old ++ spelled old.order old.segment x
+Writes old new x (Ok u) = HasSaid old new x
 Writes old new x (Err e) = output_of new ≡ output_of old
 
 -- No subscription began, for this reason. Where memory ran out nothing is said.
@@ -47,7 +48,7 @@ with_steered req sub window (Some ask) requests =
 
 abbrev pub SendsUpdate : Session → Session → ℕ → Tree → Update → Result (Unit {0}) NoMemory → Type 0
 SendsUpdate old new req ty update (Ok u) =
-    (output_of new ≡ output_of old ++ spelled old.order old.segment (said (updated req ty update)))
+    HasSaid old new (said (updated req ty update))
     × (state_of new
     ≡ record (state_of old) { requests = with_sent req (at (state_of old).requests req) (state_of old).requests })
 SendsUpdate old new req ty update (Err e) = (output_of new ≡ output_of old) × (state_of new ≡ state_of old)
@@ -57,6 +58,7 @@ pub record HasPopped (here there : Seat) (old new : Session) (req : ℕ) (before
   pub marks : List Mark
   pub sent : List Sent
   pub row : PopRow here.seen.base.site (state_of old) req marks sent
+  pub sayable : CanEach IsSayable sent
   pub adds : Adds here there marks
   pub state : state_of new ≡ after_pop (state_of old) req marks
   pub output : output_of new ≡ output_of old ++ spelled_all old.order old.segment sent

@@ -12,10 +12,11 @@ const NO_CHANNEL: u32 = u32::MAX;
 impl Session {
     ghost use Rattle.std.specs.Prelude.{◌++◌, OnOk};
     ghost use Rattle.srv_session.specs.State.{channel_at};
-    ghost use Rattle.srv_session.specs.Replies.{spelled, spelled_all, said};
+    ghost use Rattle.pvd_codec.specs.Written.{CanEach};
+    ghost use Rattle.srv_session.specs.Replies.{IsSayable, spelled_all, said};
     ghost use Rattle.srv_session.specs.Rows.{created, opened, all_created, all_opened};
     ghost use Rattle.srv_session.specs.Tasks as task;
-    ghost use Rattle.srv_session.specs.Views.{state_of, output_of, AnswersBeside, Keeps};
+    ghost use Rattle.srv_session.specs.Views.{state_of, output_of, AnswersBeside, HasSaid, Keeps};
     ghost use Rattle.desk_api.specs.Sites.{channel_named};
 
     /// The channel that is open under this id of the server.
@@ -28,7 +29,7 @@ impl Session {
     /// Opens a channel of this name, under the least id that is free, and replies.
     fn open<D: Desk>(&mut self, cid: u32, name: &Name, desk: &D) -> Result<(), NoMemory>
         ensures state { OnOk result (state_of self.new ≡ record (state_of self.old) { channels = opened (state_of self.old).channels cid (channel_named (D.seat desk.now).seen.base.site name.now) }) }
-        ensures ok { OnOk result (output_of self.new ≡ output_of self.old ++ spelled self.old.order self.old.segment (said (created (state_of self.old).channels cid (channel_named (D.seat desk.now).seen.base.site name.now)))) }
+        ensures ok { OnOk result (HasSaid self.old self.new (said (created (state_of self.old).channels cid (channel_named (D.seat desk.now).seen.base.site name.now)))) }
         ensures requests { (state_of self.new).requests ≡ (state_of self.old).requests }
         ensures keeps { Keeps self.old self.new }
     {
@@ -48,6 +49,7 @@ impl Session {
     fn open_all<D: Desk>(&mut self, names: &[(u32, Name)], desk: &D) -> Result<(), NoMemory>
         ensures state { OnOk result (state_of self.new ≡ record (state_of self.old) { channels = all_opened (D.seat desk.now).seen.base.site (state_of self.old).channels names.now }) }
         ensures ok { OnOk result (output_of self.new ≡ output_of self.old ++ spelled_all self.old.order self.old.segment (all_created (D.seat desk.now).seen.base.site (state_of self.old).channels names.now)) }
+        ensures sayable { OnOk result (CanEach IsSayable (all_created (D.seat desk.now).seen.base.site (state_of self.old).channels names.now)) }
         ensures requests { (state_of self.new).requests ≡ (state_of self.old).requests }
         ensures keeps { Keeps self.old self.new }
     {

@@ -51,7 +51,7 @@ impl Session {
         desk: &mut D,
     ) -> Result<(), NoMemory>
         requires site { IsOf (D.seat desk.old).seen.base.site (state_of self.old) }
-        requires kind { HasPart kind }
+        requires kind { HasPart kind sub }
         requires sub { begins sub ≡ false }
         ensures { AnswersAnytime (D.seat desk.old) (D.seat desk.new) self.old self.new (getting kind req sub (found_for (state_of self.old) kind sid req)) result }
     {
@@ -75,7 +75,7 @@ impl Session {
     ) -> Result<(), NoMemory>
         requires site { IsOf (D.seat desk.old).seen.base.site (state_of self.old) }
         requires there { IsThere (state_of self.old) sid req found }
-        requires kind { HasPart kind }
+        requires kind { HasPart kind sub }
         requires sub { begins sub ≡ false }
         ensures { GetsFrom (D.seat desk.old) (D.seat desk.new) self.old self.new kind sid req sub found result }
     {

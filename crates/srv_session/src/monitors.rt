@@ -131,6 +131,7 @@ impl Session {
     ) -> Result<(), SessionStop>
         requires site { IsOf (D.seat desk.old).seen.base.site (state_of self.old) }
         requires fits { IfSome request.now (λ r. fits_of 16 (view r.1) r.0 ≡ true) }
+        requires begins { begins asked.sub ≡ true }
         ensures { HeedsAnytime (D.seat desk.old) (D.seat desk.new) self.old self.new
             (windowed (state_of self.old).types asked.count
             (beginning (D.seat desk.old).seen.base.site (state_of self.old) kinds.Monitor asked.req asked.sub asked.sid
@@ -160,6 +161,7 @@ impl Session {
         requires channel { IsTrue (is_channel (D.seat desk.old).seen.base.site channel) }
         requires room { IsReady self.old.table asked.req }
         requires fits { IfSome request.now (λ r. fits_of 16 (view r.1) r.0 ≡ true) }
+        requires begins { begins asked.sub ≡ true }
         ensures { HeedsAnytime (D.seat desk.old) (D.seat desk.new) self.old self.new
             (windowed (state_of self.old).types asked.count
             (beginning_on (D.seat desk.old).seen.base.site kinds.Monitor asked.req asked.sub asked.sid
@@ -185,6 +187,7 @@ impl Session {
         requires valued { IsTrue (has_values channel) }
         requires room { IsReady self.old.table asked.req }
         requires fits { IfSome request.now (λ r. fits_of 16 (view r.1) r.0 ≡ true) }
+        requires begins { begins asked.sub ≡ true }
         ensures { HeedsAnytime (D.seat desk.old) (D.seat desk.new) self.old self.new
             (windowed (state_of self.old).types asked.count
             (beginning_as kinds.Monitor asked.req asked.sub asked.sid channel
@@ -218,6 +221,7 @@ impl Session {
         requires room { IsReady self.old.table asked.req }
         requires leaves { HoldsLeaves (type_of (D.seat desk.old).seen.base.site channel) wanted.mask }
         requires size { (1 ≤ wanted.queue) × (wanted.queue ≤ 64) }
+        requires begins { begins asked.sub ≡ true }
         ensures { HeedsAnytime (D.seat desk.old) (D.seat desk.new) self.old self.new
             (windowed (state_of self.old).types asked.count
             (task.begin kinds.Monitor asked.req asked.sub asked.sid channel wanted)) result }
@@ -244,6 +248,7 @@ impl Session {
         requires room { IsReady self.old.table asked.req }
         requires leaves { HoldsLeaves (type_of (D.seat desk.old).seen.base.site channel) wanted.mask }
         requires size { (1 ≤ wanted.queue) × (wanted.queue ≤ 64) }
+        requires begins { begins asked.sub ≡ true }
         ensures { HeedsAnytime (D.seat desk.old) (D.seat desk.new) self.old self.new
             (asks (task.subscribe asked.req asked.sub asked.sid channel wanted window) (state_of self.old).types) result }
     {
@@ -277,6 +282,7 @@ impl Session {
 
     /// Says why no subscription began.
     fn refuse_subscription(&mut self, req: u32, sub: u8, answer: SubAnswer) -> Result<(), NoMemory>
+        requires { begins sub ≡ true }
         ensures state { state_of self.new ≡ state_of self.old }
         ensures refuses { RefusesSubscription self.old self.new req sub answer result }
     {

@@ -66,9 +66,9 @@ impl Session {
     ghost use Rattle.mon_queue.specs.Told.{IsUpdateOf};
     ghost use Rattle.srv_session.specs.State.{slots_of};
     ghost use Rattle.srv_session.specs.Calls.{AreLiving, Holds, IsOf, Pumps};
-    ghost use Rattle.srv_session.specs.Replies.{said, spelled, updated};
+    ghost use Rattle.srv_session.specs.Replies.{said, updated};
     ghost use Rattle.srv_session.specs.Steps.{with_sent};
-    ghost use Rattle.srv_session.specs.Views.{state_of, output_of, show};
+    ghost use Rattle.srv_session.specs.Views.{state_of, output_of, show, HasSaid};
     ghost use Rattle.srv_session.specs.Watching.{PopsDue, SendsUpdate};
 
     /// Adds an update of a monitor: what changed, and of that what changed more than once since the update before it (the
@@ -78,8 +78,7 @@ impl Session {
         ensures state { state_of self.new ≡ state_of self.old }
         ensures table { self.new.table ≡ self.old.table }
         ensures monitors { self.new.monitors ≡ self.old.monitors }
-        ensures ok { OnOk result (output_of self.new ≡ output_of self.old
-            ++ spelled self.old.order self.old.segment (said (updated req ty.now update.now))) }
+        ensures ok { OnOk result (HasSaid self.old self.new (said (updated req ty.now update.now))) }
         ensures err { OnErr result (output_of self.new ≡ output_of self.old) }
     {
         write_monitor_update(

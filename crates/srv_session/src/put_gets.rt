@@ -5,7 +5,7 @@ ghost use Rattle.pvd_value.specs.View.{view};
 ghost use Rattle.pva_messages.specs.Subcommands.{asks_back, begins, counts};
 ghost use Rattle.chan_table.specs.declared.ask.AskKind.TheVariants as kinds;
 ghost use Rattle.desk_api.specs.Types.{HoldsLeaves};
-ghost use Rattle.srv_session.specs.Replies.{got, said, spelled};
+ghost use Rattle.srv_session.specs.Replies.{IsSayable, got, said, spelled};
 
 use crate::asking::type_on;
 use crate::handling::stopping;
@@ -47,6 +47,7 @@ fn write_got(
     requires fits { fits_of 16 (view value.now) ty.now ≡ true }
     requires leaves { HoldsLeaves ty.now mask.now }
     ensures ok { OnOk result (out.new.items ≡ out.old.items ++ spelled order segment (said (got kinds.PutGet req sub ty.now mask.now (view value.now)))) }
+    ensures sayable { OnOk result (IsSayable (said (got kinds.PutGet req sub ty.now mask.now (view value.now)))) }
     ensures err { OnErr result (out.new.items ≡ out.old.items) }
 {
     write_value(
@@ -72,7 +73,7 @@ impl Session {
     ghost use Rattle.srv_session.specs.Replies.{is_call, refused};
     ghost use Rattle.srv_session.specs.Tasks as task;
     ghost use Rattle.srv_session.specs.Tasks.{heard_put_get};
-    ghost use Rattle.srv_session.specs.Views.{state_of, AnswersAlone, HeedsHearing, IsThere, PutGetsPart, PutsTo};
+    ghost use Rattle.srv_session.specs.Views.{state_of, AnswersAlone, HeedsHearing, IsThere, MayRefuse, PutGetsPart, PutsTo};
 
     /// Answers a message of the command PutGet.
     pub(crate) fn answer_put_get<D: Desk>(
@@ -139,6 +140,7 @@ impl Session {
         sub: u8,
         text: &str,
     ) -> Result<(), NoMemory>
+        requires { MayRefuse kind sub }
         ensures { AnswersAlone self.old self.new (task.respond req sub (refused kind req sub text.now)) result }
     {
         self.say_answer(kind, req, sub, Some(text))?;

@@ -51,7 +51,7 @@ impl Session {
     ghost use Rattle.pvd_value.specs.View.{view};
     ghost use Rattle.pva_frames.specs.LentView.{whole_of};
     ghost use Rattle.pva_messages.specs.Requests.{part_place};
-    ghost use Rattle.pva_messages.specs.Subcommands.{begins};
+    ghost use Rattle.pva_messages.specs.Subcommands.{asks_back, begins};
     ghost use Rattle.pva_messages.specs.Views.{valued_view};
     ghost use Rattle.desk_api.specs.Types.{type_of, HoldsLeaves};
     ghost use Rattle.srv_session.specs.Calls.{IsOf};
@@ -104,6 +104,7 @@ impl Session {
         requires site { IsOf (D.seat desk.old).seen.base.site (state_of self.old) }
         requires there { IsThere (state_of self.old) sid req found }
         requires sub { begins sub ≡ false }
+        requires plain { asks_back sub ≡ false }
         requires place { part_place ≤ length message.now.payload.now }
         ensures { PutsPart gets (D.seat desk.old) (D.seat desk.new) self.old self.new moment (whole_of message.now) sid req sub found result }
     {
@@ -140,6 +141,7 @@ impl Session {
         requires site { IsOf (D.seat desk.old).seen.base.site (state_of self.old) }
         requires there { IsThere (state_of self.old) sid req found }
         requires sub { begins sub ≡ false }
+        requires plain { asks_back sub ≡ false }
         requires fits { fits_of 16 (view value.now) (type_of (D.seat desk.old).seen.base.site found.channel) ≡ true }
         requires leaves { HoldsLeaves (type_of (D.seat desk.old).seen.base.site found.channel) mask.now }
         ensures { PutsTo gets (D.seat desk.old) (D.seat desk.new) self.old self.new moment sid req sub found mask.now (view value.now) result }
@@ -166,6 +168,7 @@ impl Session {
         requires site { IsOf (D.seat desk.old).seen.base.site (state_of self.old) }
         requires there { IsThere (state_of self.old) sid req found }
         requires sub { begins sub ≡ false }
+        requires plain { asks_back sub ≡ false }
         requires fits { fits_of 16 (view value.now) (type_of (D.seat desk.old).seen.base.site found.channel) ≡ true }
         requires leaves { HoldsLeaves (type_of (D.seat desk.old).seen.base.site found.channel) mask.now }
         ensures { PutsTo false (D.seat desk.old) (D.seat desk.new) self.old self.new moment sid req sub found mask.now (view value.now) result }

@@ -34,7 +34,7 @@ impl Session {
     ghost use Rattle.srv_session.specs.Rows.{behind};
     ghost use Rattle.srv_session.specs.Tasks as task;
     ghost use Rattle.srv_session.specs.Tasks.{beginning, beginning_as, beginning_on, nothing_wanted, unfit, wanted_for, found_for};
-    ghost use Rattle.srv_session.specs.Views.{state_of, output_of, AnswersAlone, AnswersBeside, BeginsOn, BeginsCall, RefusesFault, RefusesPlace, IsFound};
+    ghost use Rattle.srv_session.specs.Views.{state_of, output_of, AnswersAlone, AnswersBeside, BeginsOn, BeginsCall, MayRefuse, RefusesFault, RefusesPlace, IsFound};
 
     /// Says why a message about a request is refused.
     pub(crate) fn refuse(
@@ -44,6 +44,7 @@ impl Session {
         sub: u8,
         text: &str,
     ) -> Result<(), NoMemory>
+        requires { MayRefuse kind sub }
         ensures { AnswersAlone self.old self.new (task.refuse (refused kind req sub text.now)) result }
     {
         self.say_answer(kind, req, sub, Some(text))
@@ -91,6 +92,7 @@ impl Session {
         req: u32,
         sub: u8,
     ) -> Result<(), NoMemory>
+        requires { MayRefuse kind sub }
         ensures { AnswersAlone self.old self.new (task.refuse (refused kind req sub (codes "unknown channel"))) result }
     {
         self.refuse(kind, req, sub, "unknown channel")
@@ -104,6 +106,7 @@ impl Session {
         sub: u8,
         answer: TableAnswer,
     ) -> Result<(), NoMemory>
+        requires { MayRefuse kind sub }
         ensures { RefusesPlace self.old self.new kind req sub answer result }
     {
         match answer {
@@ -226,6 +229,7 @@ impl Session {
         sub: u8,
         fault: &RequestFault,
     ) -> Result<(), NoMemory>
+        requires { MayRefuse kind sub }
         ensures { RefusesFault self.old self.new kind req sub fault.now result }
     {
         match fault {
@@ -243,6 +247,7 @@ impl Session {
         sub: u8,
         option: &Name,
     ) -> Result<(), NoMemory>
+        requires { MayRefuse kind sub }
         ensures { AnswersAlone self.old self.new (task.refuse (refused kind req sub (codes "bad option " ++ option.now))) result }
     {
         let mut text = String::new(alloc);

@@ -107,11 +107,11 @@ impl Session {
     ghost use Rattle.pva_messages.specs.Replies as reply;
     ghost use Rattle.pva_messages.specs.Subcommands.{begins};
     ghost use Rattle.pva_messages.specs.Views.{reply_view};
-    ghost use Rattle.srv_session.specs.Replies.{CanSay, spelled, spelled_all, said, control, greetings, outcome, is_call, answered, begun, got, called, field_told, field_refused};
+    ghost use Rattle.srv_session.specs.Replies.{CanSay, spelled_all, said, control, greetings, outcome, is_call, answered, begun, got, called, field_told, field_refused};
     ghost use Rattle.desk_api.specs.declared.history.SiteData.{SiteData};
     ghost use Rattle.srv_session.specs.Calls.{IsOf};
     ghost use Rattle.srv_session.specs.State.{Asked};
-    ghost use Rattle.srv_session.specs.Views.{state_of, output_of, Keeps, HasSelected, HasOneType, HasPart, IsOkAlone};
+    ghost use Rattle.srv_session.specs.Views.{state_of, output_of, Keeps, HasSaid, HasSelected, HasOneType, HasPart, IsOkAlone, MayRefuse};
     ghost use Rattle.chan_table.specs.declared.ask.AskKind.TheVariants as kinds;
 
     /// A session that has said nothing yet.
@@ -184,7 +184,7 @@ impl Session {
     /// Adds a control message.
     pub(crate) fn say_control(&mut self, command: u8, number: u32) -> Result<(), NoMemory>
         ensures state { state_of self.new ≡ state_of self.old }
-        ensures ok { OnOk result (output_of self.new ≡ output_of self.old ++ spelled self.old.order self.old.segment (control command number)) }
+        ensures ok { OnOk result (HasSaid self.old self.new (control command number)) }
         ensures err { OnErr result (output_of self.new ≡ output_of self.old) }
     {
         write_control(&mut self.output, self.order, true, command, number)?;
@@ -195,7 +195,7 @@ impl Session {
     fn say(&mut self, reply: ToClient) -> Result<(), NoMemory>
         requires { CanSay (reply_view reply) }
         ensures state { state_of self.new ≡ state_of self.old }
-        ensures ok { OnOk result (output_of self.new ≡ output_of self.old ++ spelled self.old.order self.old.segment (said (reply_view reply))) }
+        ensures ok { OnOk result (HasSaid self.old self.new (said (reply_view reply))) }
         ensures err { OnErr result (output_of self.new ≡ output_of self.old) }
     {
         let written = write_to_client(&mut self.output, self.order, self.segment, &reply);
@@ -240,7 +240,7 @@ impl Session {
     /// Adds the reply to a validation: OK, or the text of the problem.
     pub(crate) fn say_validated(&mut self, problem: Option<&str>) -> Result<(), NoMemory>
         ensures state { state_of self.new ≡ state_of self.old }
-        ensures ok { OnOk result (output_of self.new ≡ output_of self.old ++ spelled self.old.order self.old.segment (said (reply.validated (outcome (option_map (λ t. t.now) problem.entry))))) }
+        ensures ok { OnOk result (HasSaid self.old self.new (said (reply.validated (outcome (option_map (λ t. t.now) problem.entry))))) }
         ensures err { OnErr result (output_of self.new ≡ output_of self.old) }
     {
         self.payload.clear();
@@ -256,7 +256,7 @@ impl Session {
         problem: Option<&str>,
     ) -> Result<(), NoMemory>
         ensures state { state_of self.new ≡ state_of self.old }
-        ensures ok { OnOk result (output_of self.new ≡ output_of self.old ++ spelled self.old.order self.old.segment (said (reply.created cid sid (outcome (option_map (λ t. t.now) problem.entry))))) }
+        ensures ok { OnOk result (HasSaid self.old self.new (said (reply.created cid sid (outcome (option_map (λ t. t.now) problem.entry))))) }
         ensures err { OnErr result (output_of self.new ≡ output_of self.old) }
         ensures keeps { Keeps self.old self.new }
     {
@@ -268,7 +268,7 @@ impl Session {
     /// Adds the reply that a channel has ended.
     pub(crate) fn say_destroyed(&mut self, sid: u32, cid: u32) -> Result<(), NoMemory>
         ensures state { state_of self.new ≡ state_of self.old }
-        ensures ok { OnOk result (output_of self.new ≡ output_of self.old ++ spelled self.old.order self.old.segment (said (reply.channel_destroyed sid cid))) }
+        ensures ok { OnOk result (HasSaid self.old self.new (said (reply.channel_destroyed sid cid))) }
         ensures err { OnErr result (output_of self.new ≡ output_of self.old) }
     {
         self.payload.clear();
@@ -276,8 +276,8 @@ impl Session {
         self.say_payload(Command::DestroyChannel)
     }
 
-    /// Adds the reply to a message about a request: OK, or the text of the problem, and nothing beside. OK alone is said to no
-    /// beginning but that of a call, and never to one of a monitor.
+    /// Adds the reply to a message about a request: OK, or the text of the problem, and nothing beside. OK alone is said to the
+    /// beginning of a call, and to a put that doesn't ask for the value.
     pub(crate) fn say_answer(
         &mut self,
         kind: AskKind,
@@ -285,9 +285,10 @@ impl Session {
         sub: u8,
         problem: Option<&str>,
     ) -> Result<(), NoMemory>
-        requires { IfNone problem (IsOkAlone kind sub) }
+        requires alone { IfNone problem (IsOkAlone kind sub) }
+        requires refusal { MayRefuse kind sub }
         ensures state { state_of self.new ≡ state_of self.old }
-        ensures ok { OnOk result (output_of self.new ≡ output_of self.old ++ spelled self.old.order self.old.segment (said (answered kind req sub (outcome (option_map (λ t. t.now) problem.entry))))) }
+        ensures ok { OnOk result (HasSaid self.old self.new (said (answered kind req sub (outcome (option_map (λ t. t.now) problem.entry))))) }
         ensures err { OnErr result (output_of self.new ≡ output_of self.old) }
         ensures table { self.new.table ≡ self.old.table }
     {
@@ -308,7 +309,7 @@ impl Session {
         requires begins { begins sub ≡ true }
         ensures state { state_of self.new ≡ state_of self.old }
         ensures table { self.new.table ≡ self.old.table }
-        ensures ok { OnOk result (output_of self.new ≡ output_of self.old ++ spelled self.old.order self.old.segment (said (begun kind req sub ty.now))) }
+        ensures ok { OnOk result (HasSaid self.old self.new (said (begun kind req sub ty.now))) }
         ensures err { OnErr result (output_of self.new ≡ output_of self.old) }
     {
         match kind {
@@ -325,7 +326,7 @@ impl Session {
         requires begins { begins sub ≡ true }
         ensures state { state_of self.new ≡ state_of self.old }
         ensures table { self.new.table ≡ self.old.table }
-        ensures ok { OnOk result (output_of self.new ≡ output_of self.old ++ spelled self.old.order self.old.segment (said (begun kinds.PutGet req sub ty.now))) }
+        ensures ok { OnOk result (HasSaid self.old self.new (said (begun kinds.PutGet req sub ty.now))) }
         ensures err { OnErr result (output_of self.new ≡ output_of self.old) }
     {
         self.payload.clear();
@@ -339,7 +340,7 @@ impl Session {
         requires begins { begins sub ≡ true }
         ensures state { state_of self.new ≡ state_of self.old }
         ensures table { self.new.table ≡ self.old.table }
-        ensures ok { OnOk result (output_of self.new ≡ output_of self.old ++ spelled self.old.order self.old.segment (said (begun kind req sub ty.now))) }
+        ensures ok { OnOk result (HasSaid self.old self.new (said (begun kind req sub ty.now))) }
         ensures err { OnErr result (output_of self.new ≡ output_of self.old) }
     {
         write_begun(
@@ -363,11 +364,11 @@ impl Session {
         value: &PvValue,
     ) -> Result<(), NoMemory>
         requires there { HasSelected (state_of self.old) req ty.now }
-        requires kind { HasPart kind }
+        requires kind { HasPart kind sub }
         requires sub { begins sub ≡ false }
         requires fits { fits_of 16 (view value.now) ty.now ≡ true }
         ensures state { state_of self.new ≡ state_of self.old }
-        ensures ok { OnOk result ((ask : Asked) → at (state_of self.old).requests req ≡ Some ask → output_of self.new ≡ output_of self.old ++ spelled self.old.order self.old.segment (said (got kind req sub ty.now ask.mask (view value.now)))) }
+        ensures ok { OnOk result ((ask : Asked) → at (state_of self.old).requests req ≡ Some ask → HasSaid self.old self.new (said (got kind req sub ty.now ask.mask (view value.now)))) }
         ensures err { OnErr result (output_of self.new ≡ output_of self.old) }
     {
         let ask = self.table.ask(req).unwrap();
@@ -395,7 +396,7 @@ impl Session {
         requires sub { begins sub ≡ false }
         requires fits { fits_of 16 (view value.now) ty.now ≡ true }
         ensures state { state_of self.new ≡ state_of self.old }
-        ensures ok { OnOk result (output_of self.new ≡ output_of self.old ++ spelled self.old.order self.old.segment (said (called req sub ty.now (view value.now)))) }
+        ensures ok { OnOk result (HasSaid self.old self.new (said (called req sub ty.now (view value.now)))) }
         ensures err { OnErr result (output_of self.new ≡ output_of self.old) }
     {
         write_result(
@@ -412,7 +413,7 @@ impl Session {
     /// Adds the reply that tells the type of a field.
     pub(crate) fn say_field_type(&mut self, req: u32, ty: &PvType) -> Result<(), NoMemory>
         ensures state { state_of self.new ≡ state_of self.old }
-        ensures ok { OnOk result (output_of self.new ≡ output_of self.old ++ spelled self.old.order self.old.segment (said (field_told req ty.now))) }
+        ensures ok { OnOk result (HasSaid self.old self.new (said (field_told req ty.now))) }
         ensures err { OnErr result (output_of self.new ≡ output_of self.old) }
     {
         self.payload.clear();
@@ -423,7 +424,7 @@ impl Session {
     /// Adds the reply that says why the type of a field isn't told.
     pub(crate) fn say_field_refusal(&mut self, req: u32, text: &str) -> Result<(), NoMemory>
         ensures state { state_of self.new ≡ state_of self.old }
-        ensures ok { OnOk result (output_of self.new ≡ output_of self.old ++ spelled self.old.order self.old.segment (said (field_refused req text.now))) }
+        ensures ok { OnOk result (HasSaid self.old self.new (said (field_refused req text.now))) }
         ensures err { OnErr result (output_of self.new ≡ output_of self.old) }
     {
         self.payload.clear();

@@ -2,13 +2,13 @@
 ghost use Rattle.std.specs.Prelude.{◌≡◌, ◌<◌, ◌++◌, ◌∷◌, [], true, Some, OnOk, OnErr, option_map};
 ghost use Rattle.pvd_value.specs.Fits.{fits_of};
 ghost use Rattle.pvd_value.specs.View.{view};
-ghost use Rattle.pva_wire.specs.Status.{good, canonical_status};
-ghost use Rattle.pvd_codec.specs.Written.{Begins};
+ghost use Rattle.pva_wire.specs.Status.{good, canonical_status, CanStatus};
+ghost use Rattle.pvd_codec.specs.Written.{Begins, CanEach};
 ghost use Rattle.pva_frames.specs.Spelling.{message_bytes};
 ghost use Rattle.pva_messages.specs.Rows.{byte_of};
 ghost use Rattle.pva_messages.specs.Fields as field;
 ghost use Rattle.pva_messages.specs.Views.{part_of};
-ghost use Rattle.pva_messages.specs.Written.{canonical, canonical_valued, FitsField};
+ghost use Rattle.pva_messages.specs.Written.{canonical, canonical_valued, CanField, CanValued, FitsField};
 ghost use Rattle.pva_messages.specs.declared.command.Command.TheVariants.{Rpc};
 ghost use Rattle.srv_session.specs.Replies.{outcome};
 
@@ -31,7 +31,8 @@ const EMPTY: u8 = 0;
 
 /// Appends the status ERROR with this text and no call tree.
 fn write_error(out: &mut Vec<u8>, order: Order, text: &str) -> Result<(), NoMemory>
-    ensures { OnOk result (out.new.items ≡ out.old.items ++ canonical_status order (outcome (Some text.now))) }
+    ensures written { OnOk result (out.new.items ≡ out.old.items ++ canonical_status order (outcome (Some text.now))) }
+    ensures can { OnOk result (CanStatus (outcome (Some text.now))) }
 {
     let Ok(size) = u32::try_from(text.len()) else {
         return Err(NoMemory);
@@ -45,7 +46,8 @@ fn write_error(out: &mut Vec<u8>, order: Order, text: &str) -> Result<(), NoMemo
 
 /// Appends how a message went: OK, or ERROR with the text of the problem.
 fn write_outcome(out: &mut Vec<u8>, order: Order, problem: Option<&str>) -> Result<(), NoMemory>
-    ensures { OnOk result (out.new.items ≡ out.old.items ++ canonical_status order (outcome (option_map (λ t. t.now) problem.entry))) }
+    ensures written { OnOk result (out.new.items ≡ out.old.items ++ canonical_status order (outcome (option_map (λ t. t.now) problem.entry))) }
+    ensures can { OnOk result (CanStatus (outcome (option_map (λ t. t.now) problem.entry))) }
 {
     match problem {
         Some(text) => write_error(out, order, text),
@@ -62,7 +64,8 @@ pub(crate) fn write_validated(
     order: Order,
     problem: Option<&str>,
 ) -> Result<(), NoMemory>
-    ensures { OnOk result (out.new.items ≡ out.old.items ++ canonical order (field.status (outcome (option_map (λ t. t.now) problem.entry)) ∷ [])) }
+    ensures written { OnOk result (out.new.items ≡ out.old.items ++ canonical order (field.status (outcome (option_map (λ t. t.now) problem.entry)) ∷ [])) }
+    ensures can { OnOk result (CanEach CanField (field.status (outcome (option_map (λ t. t.now) problem.entry)) ∷ [])) }
 {
     write_outcome(out, order, problem)
 }
@@ -75,7 +78,8 @@ pub(crate) fn write_created(
     sid: u32,
     problem: Option<&str>,
 ) -> Result<(), NoMemory>
-    ensures { OnOk result (out.new.items ≡ out.old.items ++ canonical order (field.word cid ∷ field.word sid ∷ field.status (outcome (option_map (λ t. t.now) problem.entry)) ∷ [])) }
+    ensures written { OnOk result (out.new.items ≡ out.old.items ++ canonical order (field.word cid ∷ field.word sid ∷ field.status (outcome (option_map (λ t. t.now) problem.entry)) ∷ [])) }
+    ensures can { OnOk result (CanEach CanField (field.word cid ∷ field.word sid ∷ field.status (outcome (option_map (λ t. t.now) problem.entry)) ∷ [])) }
 {
     write_u32(out, order, cid)?;
     write_u32(out, order, sid)?;
@@ -89,7 +93,8 @@ pub(crate) fn write_destroyed(
     sid: u32,
     cid: u32,
 ) -> Result<(), NoMemory>
-    ensures { OnOk result (out.new.items ≡ out.old.items ++ canonical order (field.word sid ∷ field.word cid ∷ [])) }
+    ensures written { OnOk result (out.new.items ≡ out.old.items ++ canonical order (field.word sid ∷ field.word cid ∷ [])) }
+    ensures can { OnOk result (CanEach CanField (field.word sid ∷ field.word cid ∷ [])) }
 {
     write_u32(out, order, sid)?;
     write_u32(out, order, cid)?;
@@ -104,7 +109,8 @@ pub(crate) fn write_answer(
     sub: u8,
     problem: Option<&str>,
 ) -> Result<(), NoMemory>
-    ensures { OnOk result (out.new.items ≡ out.old.items ++ canonical order (field.word req ∷ field.byte sub ∷ field.status (outcome (option_map (λ t. t.now) problem.entry)) ∷ [])) }
+    ensures written { OnOk result (out.new.items ≡ out.old.items ++ canonical order (field.word req ∷ field.byte sub ∷ field.status (outcome (option_map (λ t. t.now) problem.entry)) ∷ [])) }
+    ensures can { OnOk result (CanEach CanField (field.word req ∷ field.byte sub ∷ field.status (outcome (option_map (λ t. t.now) problem.entry)) ∷ [])) }
 {
     write_u32(out, order, req)?;
     out.push(sub)?;
@@ -120,7 +126,8 @@ pub(crate) fn write_both_types(
     sub: u8,
     ty: &PvType,
 ) -> Result<(), NoMemory>
-    ensures { OnOk result (out.new.items ≡ out.old.items ++ canonical order (field.word req ∷ field.byte sub ∷ field.status good ∷ field.description (Some ty.now) ∷ field.description (Some ty.now) ∷ [])) }
+    ensures written { OnOk result (out.new.items ≡ out.old.items ++ canonical order (field.word req ∷ field.byte sub ∷ field.status good ∷ field.description (Some ty.now) ∷ field.description (Some ty.now) ∷ [])) }
+    ensures can { OnOk result (CanEach CanField (field.word req ∷ field.byte sub ∷ field.status good ∷ field.description (Some ty.now) ∷ field.description (Some ty.now) ∷ [])) }
 {
     put_good_head(out, order, req, sub)?;
     write_desc(out, order, Some(ty))?;
@@ -135,7 +142,8 @@ pub(crate) fn write_field_type(
     req: u32,
     ty: &PvType,
 ) -> Result<(), NoMemory>
-    ensures { OnOk result (out.new.items ≡ out.old.items ++ canonical order (field.word req ∷ field.status good ∷ field.description (Some ty.now) ∷ [])) }
+    ensures written { OnOk result (out.new.items ≡ out.old.items ++ canonical order (field.word req ∷ field.status good ∷ field.description (Some ty.now) ∷ [])) }
+    ensures can { OnOk result (CanEach CanField (field.word req ∷ field.status good ∷ field.description (Some ty.now) ∷ [])) }
 {
     write_u32(out, order, req)?;
     out.push(GOOD)?;
@@ -150,7 +158,8 @@ pub(crate) fn write_field_refusal(
     req: u32,
     text: &str,
 ) -> Result<(), NoMemory>
-    ensures { OnOk result (out.new.items ≡ out.old.items ++ canonical order (field.word req ∷ field.status (outcome (Some text.now)) ∷ [])) }
+    ensures written { OnOk result (out.new.items ≡ out.old.items ++ canonical order (field.word req ∷ field.status (outcome (Some text.now)) ∷ [])) }
+    ensures can { OnOk result (CanEach CanField (field.word req ∷ field.status (outcome (Some text.now)) ∷ [])) }
 {
     write_u32(out, order, req)?;
     write_error(out, order, text)
@@ -159,6 +168,7 @@ pub(crate) fn write_field_refusal(
 /// Appends the id of a request, the subcommand and the status OK.
 fn put_good_head(out: &mut Vec<u8>, order: Order, req: u32, sub: u8) -> Result<(), NoMemory>
     ensures written { OnOk result (out.new.items ≡ out.old.items ++ canonical order (field.word req ∷ field.byte sub ∷ field.status good ∷ [])) }
+    ensures can { OnOk result (CanEach CanField (field.word req ∷ field.byte sub ∷ field.status good ∷ [])) }
     ensures begins { OnErr result (Begins out.old.items out.new.items) }
 {
     write_u32(out, order, req)?;
@@ -179,8 +189,11 @@ fn put_value(
 ) -> Result<(), NoMemory>
     requires { FitsField (field.part (part_of ty.now mask.now value.now)) }
     ensures written { OnOk result (out.new.items ≡ out.old.items ++ canonical order (field.word req ∷ field.byte sub ∷ field.status good ∷ field.part (part_of ty.now mask.now value.now) ∷ [])) }
+    ensures can { OnOk result (CanEach CanField (field.word req ∷ field.byte sub ∷ field.status good ∷ field.part (part_of ty.now mask.now value.now) ∷ [])) }
     ensures begins { OnErr result (Begins out.old.items out.new.items) }
 {
+    // that the type is a checked one is what the proof takes from this
+    let _checked = ty.shape();
     put_good_head(out, order, req, sub)?;
     write_part(out, order, ty, mask, value)?;
     Ok(())
@@ -201,6 +214,7 @@ pub(crate) fn write_value(
     requires segment { 0 < segment }
     requires fits { FitsField (field.part (part_of ty.now mask.now value.now)) }
     ensures ok { OnOk result (out.new.items ≡ out.old.items ++ message_bytes order true (byte_of command) (canonical order (field.word req ∷ field.byte sub ∷ field.status good ∷ field.part (part_of ty.now mask.now value.now) ∷ [])) segment) }
+    ensures can { OnOk result (CanEach CanField (field.word req ∷ field.byte sub ∷ field.status good ∷ field.part (part_of ty.now mask.now value.now) ∷ [])) }
     ensures err { OnErr result (out.new.items ≡ out.old.items) }
 {
     let start = out.len();
@@ -225,6 +239,7 @@ fn put_result(
 ) -> Result<(), NoMemory>
     requires { fits_of 16 (view value.now) ty.now ≡ true }
     ensures written { OnOk result (out.new.items ≡ out.old.items ++ canonical order (field.word req ∷ field.byte sub ∷ field.status good ∷ field.valued (Some (ty.now, view value.now)) ∷ [])) }
+    ensures can { OnOk result (CanEach CanField (field.word req ∷ field.byte sub ∷ field.status good ∷ field.valued (Some (ty.now, view value.now)) ∷ [])) }
     ensures begins { OnErr result (Begins out.old.items out.new.items) }
 {
     put_good_head(out, order, req, sub)?;
@@ -236,6 +251,7 @@ fn put_result(
 fn put_valued(out: &mut Vec<u8>, order: Order, ty: &PvType, value: &PvValue) -> Result<(), NoMemory>
     requires { fits_of 16 (view value.now) ty.now ≡ true }
     ensures written { OnOk result (out.new.items ≡ out.old.items ++ canonical_valued order (Some (ty.now, view value.now))) }
+    ensures can { OnOk result (CanValued (Some (ty.now, view value.now))) }
     ensures begins { OnErr result (Begins out.old.items out.new.items) }
 {
     write_desc(out, order, Some(ty))?;
@@ -256,6 +272,7 @@ pub(crate) fn write_result(
     requires segment { 0 < segment }
     requires fits { fits_of 16 (view value.now) ty.now ≡ true }
     ensures ok { OnOk result (out.new.items ≡ out.old.items ++ message_bytes order true (byte_of Rpc) (canonical order (field.word req ∷ field.byte sub ∷ field.status good ∷ field.valued (Some (ty.now, view value.now)) ∷ [])) segment) }
+    ensures can { OnOk result (CanEach CanField (field.word req ∷ field.byte sub ∷ field.status good ∷ field.valued (Some (ty.now, view value.now)) ∷ [])) }
     ensures err { OnErr result (out.new.items ≡ out.old.items) }
 {
     let start = out.len();

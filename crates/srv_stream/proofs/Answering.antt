@@ -31,7 +31,7 @@ pub answered : (old new : Shown) (moment : Moment) (e : Event) (stream : Assembl
 answered old new moment e stream x = record {
   marks = x.marks;
   sent = x.sent;
-  rule = x.answers;
+  rule = (x.answers, x.sayable);
   state = x.state;
   adds = x.adds;
   moments = x.moments;

@@ -70,10 +70,10 @@ goes_nowhere : (site : SiteData) (s : State) (rest : List Step) (remaining later
 goes_nowhere site s [] remaining later left t u slots k l rules events ends marks p q =
     one_stands site s later left t u (subst (λ (z : List Event). Stands site s z left t) events p) q
 goes_nowhere site s (hears e m x ∷ rest) remaining later left t u slots k l rules events ends marks p q =
-    absurd (no_trouble site s e m x (events_of rest ++ later) left t rules.0 (subst (λ (z : List Event). Stands site s z left t) events p))
+    absurd (no_trouble site s e m x (events_of rest ++ later) left t rules.0.0 (subst (λ (z : List Event). Stands site s z left t) events p))
 goes_nowhere site s (pops r m x ∷ rest) remaining later left t u slots k l rules events ends marks p q =
-    let popped = rules.0.is_pop in
-    let mark : Mark = Popped popped.place popped.sub.slot rules.0.update in
+    let popped = rules.0.0.is_pop in
+    let mark : Mark = Popped popped.place popped.sub.slot rules.0.0.update in
     let first : k ≡ mark ∷ (marks_of rest ++ l) = marks ∙ ap (λ (ms : List Mark). (ms ++ marks_of rest) ++ l) popped.marks_are in
     absurd (false≢true (no_pop slots k (marks_of rest ++ l) mark ends first))
 

@@ -62,9 +62,9 @@ pops_told told site s [] (x ∷ xs) are rules = absurd are
 pops_told told site s (r ∷ reqs) [] are rules = absurd are
 pops_told told site s (r ∷ reqs) (hears e marks sent ∷ xs) are rules = absurd are
 pops_told told site s (r ∷ reqs) (pops req marks sent ∷ xs) are rules =
-    let p = rules.0.is_pop in
+    let p = rules.0.0.is_pop in
     subst (λ (ms : List Mark). HaveMoment told (ms ++ marks_of xs)) (sym p.marks_are)
-    (popped_told told p.place p.sub.slot rules.0.update, pops_told told site (after_pop s req marks) reqs xs are.1 rules.1)
+    (popped_told told p.place p.sub.slot rules.0.0.update, pops_told told site (after_pop s req marks) reqs xs are.1 rules.1)
 
 pub next_told : (told : Option Moment) (s : State) (next : List Mark) → PopPart s next → HaveMoment told next
 next_told told s next (req, (channel, update, p)) = subst (HaveMoment told) (sym p.marks_are) (popped_told told p.place p.sub.slot (Some update), tt)
@@ -85,7 +85,7 @@ pops_slots seat s [] (x ∷ xs) are rules = absurd are
 pops_slots seat s (r ∷ reqs) [] are rules = absurd are
 pops_slots seat s (r ∷ reqs) (hears e marks sent ∷ xs) are rules = absurd are
 pops_slots seat s (r ∷ reqs) (pops req marks sent ∷ xs) are rules =
-    pops_slots seat (after_pop s req marks) reqs xs are.1 rules.1 ∙ popped_slots seat seat s req marks sent rules.0
+    pops_slots seat (after_pop s req marks) reqs xs are.1 rules.1 ∙ popped_slots seat seat s req marks sent rules.0.0
 
 -- The marks of a pop whose update wasn't sent.
 pub next_slots : (site : SiteData) (s : State) (events : List Event) (next : List Mark) → PopPart s next → left_slots site s events next ≡ slots_of s.requests
@@ -133,7 +133,7 @@ sends_bytes site s (r ∷ reqs) [] are rules some = absurd are
 sends_bytes site s (r ∷ reqs) (hears e marks sent ∷ xs) are rules some = absurd are
 sends_bytes site s (r ∷ reqs) (pops req marks sent ∷ xs) are rules some =
     either_bytes (spelled_all s.order s.segment sent) (out_of site (after_pop s req marks) xs) (is_some_sent sent) (sends xs)
-    (pop_bytes site s req rules.0.channel rules.0.update sent rules.0.sent_is) (sends_bytes site (after_pop s req marks) reqs xs are.1 rules.1) some
+    (pop_bytes site s req rules.0.0.channel rules.0.0.update sent rules.0.0.sent_is) (sends_bytes site (after_pop s req marks) reqs xs are.1 rules.1) some
 
 -- A session begins without subscriptions.
 

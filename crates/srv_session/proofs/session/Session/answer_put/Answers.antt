@@ -46,6 +46,12 @@ returns-then-asks_back g c =
 pub put_part-requires-clause-there : goal.put_part-requires-clause-there
 put_part-requires-clause-there g c = there (state_of c.args.self.now) kinds.Put c.args.sid c.args.req c.in-Ok.found refl (c.in-Ok.ensures {u = tt})
 
+pub put_part-requires-clause-plain : goal.put_part-requires-clause-plain
+put_part-requires-clause-plain g c = sym c.asks_back.ensures ∙ c.if-asks_back.false
+
+pub get-requires-clause-kind : goal.get-requires-clause-kind
+get-requires-clause-kind g c = sym c.asks_back.ensures ∙ c.if-asks_back.true
+
 pub returns-in-Ok : goal.returns-in-Ok
 returns-in-Ok g c =
     let seat = g.D.Desk.seat c.args.desk.now in

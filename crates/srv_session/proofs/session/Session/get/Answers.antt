@@ -8,7 +8,7 @@ use Rattle.srv_session.proofs.session.Session.get.Goals as goal
 
 pub get_from-requires-clause-there : goal.get_from-requires-clause-there
 get_from-requires-clause-there g c =
-    there (state_of c.args.self.now) c.args.kind c.args.sid c.args.req c.in-Ok.found (part_call c.args.kind c.requires.kind) (c.in-Ok.ensures {u = tt})
+    there (state_of c.args.self.now) c.args.kind c.args.sid c.args.req c.in-Ok.found (part_call c.args.kind c.args.sub c.requires.kind) (c.in-Ok.ensures {u = tt})
 
 pub returns-in-Ok : goal.returns-in-Ok
 returns-in-Ok g c moment =

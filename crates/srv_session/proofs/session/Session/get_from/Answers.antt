@@ -63,10 +63,11 @@ returns g c ask here atomic moment =
     let s = state_of c.args.self.now in
     let got = c.in_ok-value.ensures {u = tt} in
     let said = c.in_ok-say_selected.ensures {u = tt} in
+    let ok = said.ok ask (is_on_it s c.args.sid c.args.req ask c.args.found.channel here).there in
     let same : c.type_on-ty.result.now ≡ type_of seat.seen.base.site c.args.found.channel = c.type_on-ty.ensures ∙ ap (λ (b : Base). type_of b.site c.args.found.channel) c.get.ensures.base in
     told seat there moment s (state_of c.end_behind.new.self) (output_of c.args.self.now) (output_of c.end_behind.new.self) c.args.kind c.args.req c.args.sub ask c.args.found.channel
     (view c.in_ok-value.value)
     (subst (λ (a : Option Bool). Calls seat there (IsGet seat.seen.base.site c.args.found.channel a (view c.in_ok-value.value))) atomic got.calls)
     c.type_on-ty.result.now same
     (c.end_behind.ensures.state ∙ ap (λ (z : State). record z { requests = behind c.args.req c.args.sub z.requests }) said.state)
-    (c.end_behind.ensures.output ∙ said.ok ask (is_on_it s c.args.sid c.args.req ask c.args.found.channel here).there)
+    (c.end_behind.ensures.output ∙ ok.0, ok.1)

@@ -6,7 +6,7 @@ use Rattle.desk_api.specs.Sites.{channel_named}
 use Rattle.desk_api.specs.declared.channel.Channel.{Channel}
 use Rattle.desk_api.specs.declared.sub.Sub.{Sub}
 use Rattle.srv_session.specs.State.{State, Channels}
-use Rattle.srv_session.specs.Replies.{spelled, said}
+use Rattle.srv_session.specs.Replies.{IsSayable, spelled, said}
 use Rattle.srv_session.specs.Views.{state_of, output_of}
 use Rattle.srv_session.proofs.Opening.{opens, opens_reply, opened_asks}
 use Rattle.srv_session.specs.Rising.{AreListed}
@@ -30,7 +30,7 @@ returns-in-Ok-clause-ok g c =
     let site = (g.D.Desk.seat c.args.desk.now).seen.base.site in
     let is : channel_named site c.args.name.now ≡ Some c.in-Some.channel = ap (channel_named site) (sym c.as_str.ensures.text) ∙ sym c.find.ensures ∙ c.in-Some.is in
     let added = c.in-Ok.ensures {u = tt} in
-    subst (λ (r : Reply). OnOk c.say_created-in-Ok.result (output_of c.say_created-in-Ok.new.self ≡ output_of c.args.self.now ++ spelled s.order s.segment (said r)))
+    subst (λ (r : Reply). OnOk c.say_created-in-Ok.result ((output_of c.say_created-in-Ok.new.self ≡ output_of c.args.self.now ++ spelled s.order s.segment (said r)) × IsSayable (said r)))
     (opens_reply s.channels c.args.cid c.in-Some.channel (channel_named site c.args.name.now) is c.in-Ok.sid added.few added.least) c.say_created-in-Ok.ensures.ok
 
 pub invariant_of-self : goal.invariant_of-self

@@ -1,6 +1,6 @@
 use Rattle.std.proofs.Common.{◌∙◌}
 use Rattle.srv_session.specs.Views.{state_of, output_of}
-use Rattle.srv_session.proofs.Opening.{next_state, next_channels, next_output, keeps_more}
+use Rattle.srv_session.proofs.Opening.{next_state, next_channels, next_output, next_sayable, keeps_more}
 use Rattle.srv_session.proofs.session.Session.open_all.Goals as goal
 
 pub loop-name-preserved : goal.loop-name-preserved
@@ -18,7 +18,8 @@ loop-name-preserved g c =
       state = next_state site names i x c.name-item.is c.loop-name-test.true s m n before.state done.state;
       channels = next_channels site names i x c.name-item.is c.loop-name-test.true s m n before.state done.state ∙ before.channels;
       output =
-          next_output site names i x c.name-item.is c.loop-name-test.true s m n before.state done.state (output_of c.loop-name.self) (output_of c.open.new.self) done.ok
+          next_output site names i x c.name-item.is c.loop-name-test.true s m n before.state done.state (output_of c.loop-name.self) (output_of c.open.new.self) done.ok.0
           ∙ before.output;
+      sayable = λ rest. before.sayable (next_sayable site names i x c.name-item.is c.loop-name-test.true s m n before.state done.state done.ok.1 rest);
       keeps = keeps_more c.args.self.now c.loop-name.self c.open.new.self before.keeps done.keeps;
     }

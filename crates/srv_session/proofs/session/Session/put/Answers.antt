@@ -45,4 +45,4 @@ returns g c ask here atomic =
     c.put-answer.result (subst (λ (a : Option Bool). Calls seat there (ArePut (with a) c.put-answer.result)) atomic c.put-answer.ensures.calls)
     (outcome (option_map (λ t. t.now) c.in_ok-problem.problem)) (c.in_ok-problem.ensures {u = tt})
     (c.end_behind.ensures.state ∙ ap (λ (z : State). record z { requests = behind c.args.req c.args.sub z.requests }) said.state)
-    (c.end_behind.ensures.output ∙ said.ok)
+    (c.end_behind.ensures.output ∙ said.ok.0, said.ok.1)

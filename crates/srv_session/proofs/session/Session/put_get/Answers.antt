@@ -13,7 +13,7 @@ use Rattle.desk_api.specs.Sites.{is_channel}
 use Rattle.desk_api.specs.Types.{type_of, HoldsLeaves}
 use Rattle.desk_api.specs.declared.history.Base.{Base}
 use Rattle.srv_session.specs.State.{State, Asked}
-use Rattle.srv_session.specs.Replies.{said, spelled, outcome, got, answered}
+use Rattle.srv_session.specs.Replies.{IsSayable, said, spelled, outcome, got, answered}
 use Rattle.pva_messages.specs.Replies.{Reply}
 use Rattle.srv_session.specs.Rows.{behind, put_get_reply}
 use Rattle.srv_session.specs.Views.{state_of, output_of}
@@ -90,15 +90,18 @@ returns-in_ok-write_got-in-Ok g c ask here atomic =
     let same : c.type_on-ty.result.now ≡ type_of site c.args.found.channel = c.type_on-ty.ensures ∙ ap (λ (b : Base). type_of b.site c.args.found.channel) c.put_get.ensures.base in
     let it : c.unwrap-ask.result.now ≡ ask = looked_up c.ask.result c.unwrap-ask.result _ ask c.unwrap-ask.ensures c.ask.ensures (is_on_it s c.args.sid c.args.req ask c.args.found.channel here).there in
     let told : Asked → Tree → Reply = λ (a : Asked) (t : Tree). got kinds.PutGet c.args.req c.args.sub t a.mask (view c.in-Ok.done.1) in
+    let written = c.in_ok-write_got-in-Ok.ensures {u = tt} in
     let bytes : Asked → Tree → List ℕ = λ (a : Asked) (t : Tree). spelled s.order s.segment (said (told a t)) in
     put_get_said seat there c.args.moment s (state_of c.end_behind.new.self) (output_of c.args.self.now) (output_of c.end_behind.new.self) c.args.req c.args.sub ask c.args.found.channel c.args.mask.now (view c.args.value.now)
     c.put_get.result (subst (λ (a : Option Bool). Calls seat there (ArePutGet (with a) c.put_get.result)) atomic c.put_get.ensures.calls)
     (told ask (type_of site c.args.found.channel)) (ap (put_get_reply site c.args.req c.args.sub ask c.args.found.channel) c.in-Ok.is)
-    c.end_behind.ensures.state
-    (c.end_behind.ensures.output ∙ ap (drop c.args.self.now.sent) (c.in_ok-write_got-in-Ok.ensures {u = tt}).ok
-    ∙ drop-append-le c.args.self.now.sent c.args.self.now.output.items (bytes c.unwrap-ask.result.now c.type_on-ty.result.now) c.args.self.now.within
-    ∙ ap (λ (a : Asked). output_of c.args.self.now ++ bytes a c.type_on-ty.result.now) it
-    ∙ ap (λ (t : Tree). output_of c.args.self.now ++ bytes ask t) same)
+    c.end_behind.ensures.state (
+      c.end_behind.ensures.output ∙ ap (drop c.args.self.now.sent) written.ok
+          ∙ drop-append-le c.args.self.now.sent c.args.self.now.output.items (bytes c.unwrap-ask.result.now c.type_on-ty.result.now) c.args.self.now.within
+          ∙ ap (λ (a : Asked). output_of c.args.self.now ++ bytes a c.type_on-ty.result.now) it
+          ∙ ap (λ (t : Tree). output_of c.args.self.now ++ bytes ask t) same,
+      subst (λ (x : Asked × Tree). IsSayable (said (told x.0 x.1))) (λ i. (it i, same i)) written.sayable,
+    )
 
 pub returns-in_err-problem-in-Err : goal.returns-in_err-problem-in-Err
 returns-in_err-problem-in-Err g c ask here atomic =
@@ -131,4 +134,4 @@ returns-in_ok-say_answer-in-Err g c ask here atomic =
     (answered kinds.PutGet c.args.req c.args.sub (outcome (option_map (λ t. t.now) c.in_ok-problem-in-Err.problem)))
     (ap (put_get_reply site c.args.req c.args.sub ask c.args.found.channel) c.in-Err.is ∙ ap (option_map (answered kinds.PutGet c.args.req c.args.sub)) (c.in_ok-problem-in-Err.ensures {u = tt}))
     (c.end_behind-in-Err.ensures.state ∙ ap (λ (z : State). record z { requests = behind c.args.req c.args.sub z.requests }) said_.state)
-    (c.end_behind-in-Err.ensures.output ∙ said_.ok)
+    (c.end_behind-in-Err.ensures.output ∙ said_.ok.0, said_.ok.1)

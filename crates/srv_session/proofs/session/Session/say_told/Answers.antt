@@ -20,4 +20,4 @@ returns c seat legal moment =
     let said_ = c.in_ok-say_result.ensures {u = tt} in
     said_one seat moment (state_of c.args.self.now) (state_of c.end_behind.new.self) (output_of c.args.self.now) (output_of c.end_behind.new.self) (respond c.args.req c.args.sub reply) (Ok tt) (said reply) legal (says_this _)
     (c.end_behind.ensures.state ∙ ap (λ (z : State). record z { requests = behind c.args.req c.args.sub z.requests }) said_.state)
-    (c.end_behind.ensures.output ∙ said_.ok) tt tt
+    (c.end_behind.ensures.output ∙ said_.ok.0, said_.ok.1) tt tt

@@ -13,7 +13,7 @@ returns-in_err-say_update-clause-sends c =
 pub returns-clause-sends : goal.returns-clause-sends
 returns-clause-sends c =
     let said_ = c.in_ok-say_update.ensures {u = tt} in (
-      c.spend.ensures.output ∙ said_.ok,
+      (c.spend.ensures.output ∙ said_.ok.0, said_.ok.1),
       c.spend.ensures.state ∙ ap (λ (z : State). let y : State = record z { requests = with_sent c.args.req (get z.requests c.args.req) z.requests } in y) said_.state,
     )
 
