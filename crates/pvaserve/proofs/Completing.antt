@@ -7,12 +7,13 @@ use Rattle.pva_outside.specs.Files.{FilesView}
 use Rattle.srv_stream.specs.declared.ended.Ended.{Ended}
 use Rattle.srv_stream.specs.declared.ended.Ended.TheVariants as ends
 use Rattle.db_text.specs.Macros.{Macros}
-use Rattle.pvaserve.specs.Words.{Asked, Source, single, file}
-use Rattle.pvaserve.specs.Opening.{Opens}
+use Rattle.pvaserve.specs.Words.{Asked}
+use Rattle.prog_source.specs.Words.{Source, single, file}
+use Rattle.prog_source.specs.Opening.{Opens}
 use Rattle.pvaserve.specs.Running.{Does, Outside, SiteServes, status_of}
 use Rattle.pvaserve.specs.Completeness.{Completes, IsDoneSmoothly, IsServedSmoothly}
-use Rattle.pvaserve.specs.declared.loading.SourceStop.{SourceStop}
-use Rattle.pvaserve.specs.declared.loading.SourceStop.TheVariants as stops
+use Rattle.prog_source.specs.declared.loading.SourceStop.{SourceStop}
+use Rattle.prog_source.specs.declared.loading.SourceStop.TheVariants as stops
 use Rattle.pvaserve.specs.declared.words.Task.{Task}
 use Rattle.pvaserve.specs.declared.words.Task.TheVariants.{Inetd, Check, Drill}
 

@@ -1,12 +1,7 @@
-mod Numbers
-mod Sources
 mod Making
 mod Outcomes
 mod Command
-mod Pairs
 mod Rows
-mod Opened
-mod Told
 mod Completing
 mod Pumping
 mod Uncounted

@@ -14,13 +14,13 @@ use Rattle.srv_stream.specs.declared.ended.Ended.{Ended}
 use Rattle.srv_stream.specs.declared.ended.Ended.TheVariants as ends
 use Rattle.srv_stream.proofs.Ending.{never_served}
 use Rattle.srv_stream.specs.Faults.{EndsAtFirstFault, FirstFault}
-use Rattle.pvaserve.specs.Opening.{AllMade, PortsAre}
+use Rattle.prog_source.specs.Opening.{AllMade, PortsAre}
 use Rattle.pvaserve.specs.Running.{Serves, SiteServes, status_of, status_of_stop, status_of_unmade}
 use Rattle.pvaserve.specs.Words.{Asked}
-use Rattle.pvaserve.specs.declared.loading.SourceStop.{SourceStop}
-use Rattle.pvaserve.specs.declared.loading.SourceStop.TheVariants as stops
-use Rattle.pvaserve.specs.declared.ports.PortsStop.{PortsStop}
-use Rattle.pvaserve.specs.declared.ports.PortsStop.TheVariants as unmade
+use Rattle.prog_source.specs.declared.loading.SourceStop.{SourceStop}
+use Rattle.prog_source.specs.declared.loading.SourceStop.TheVariants as stops
+use Rattle.prog_source.specs.declared.ports.PortsStop.{PortsStop}
+use Rattle.prog_source.specs.declared.ports.PortsStop.TheVariants as unmade
 
 served_first : (base : Base) (order : Order) (turns : ℕ) (start end : Wire) (told : Option (ℤ × ℕ)) (ended : Ended) (s : Seat)
     → Served (first_seat base) s start end (moment_told told) order turns ended

@@ -3,16 +3,17 @@ use Rattle.std.proofs.Common.{◌≡◌, ℕ, ℤ, List, Option, None, Some, Res
 use Rattle.std.proofs.lemmas.Bool.{false≢true}
 use Rattle.pva_outside.specs.Count.{Rose}
 use Rattle.desk_api.specs.declared.history.SiteData.{SiteData}
-use Rattle.pvaserve.specs.Opening.{Opens}
+use Rattle.prog_source.specs.Opening.{Opens}
 use Rattle.pvaserve.specs.Running.{Checking, Does, Drilling, Outside, Runs, Serving, Tells, status_by}
-use Rattle.pvaserve.specs.Telling.{IsPrinted}
+use Rattle.prog_source.specs.Printing.{IsPrinted}
 use Rattle.clap.specs.Words.{Text}
-use Rattle.pvaserve.specs.Words.{Asked, AreTaken, IsNamed, IsSourceOr, Source, given, needs_source, word_rows}
-use Rattle.pvaserve.specs.declared.loading.SourceStop.{SourceStop}
-use Rattle.pvaserve.specs.declared.loading.SourceStop.TheVariants as stops
-use Rattle.pvaserve.specs.declared.telling.Printed.{Printed}
-use Rattle.pvaserve.specs.declared.telling.Printed.TheVariants as printing
-use Rattle.pvaserve.proofs.Sources.{may_have_name}
+use Rattle.pvaserve.specs.Words.{Asked, AreTaken, IsSourceOr, given, needs_source, word_rows}
+use Rattle.prog_source.specs.Words.{IsNamed, Source}
+use Rattle.prog_source.specs.declared.loading.SourceStop.{SourceStop}
+use Rattle.prog_source.specs.declared.loading.SourceStop.TheVariants as stops
+use Rattle.prog_source.specs.declared.printing.Printed.{Printed}
+use Rattle.prog_source.specs.declared.printing.Printed.TheVariants as printing
+use Rattle.prog_source.proofs.Sources.{may_have_name}
 use Rattle.pvaserve.specs.declared.words.Task.{Task}
 use Rattle.pvaserve.specs.declared.words.Task.TheVariants.{Inetd, Check, Drill}
 

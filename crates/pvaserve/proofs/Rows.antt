@@ -7,16 +7,16 @@ use Rattle.clap.specs.Words.{HasKind, Row, Text, kind_of}
 use Rattle.clap.specs.declared.error.Error.{Error}
 use Rattle.clap.specs.declared.error.kind.ErrorKind.TheVariants.{OutOfMemory}
 use Rattle.db_text.specs.Macros.{Macros}
-use Rattle.pvaserve.specs.Words.{Asked, Asks, AreTaken, AreRead, RowsAreRead, IsSource, IsSourceIn, IsSourceNeeded, IsSourceOr, IsTask, IsTaskIn, AreMacrosIn, IsCount, IsCountOr, IsDrill, Source, asked_of, given, is_set, needs_source, task_by, word_faults, word_rows}
-use Rattle.pvaserve.specs.declared.source.Source.{Source as SourceRead}
+use Rattle.pvaserve.specs.Words.{Asked, Asks, AreTaken, AreRead, RowsAreRead, IsSourceIn, IsSourceNeeded, IsSourceOr, IsTask, IsTaskIn, AreMacrosIn, IsDrill, asked_of, given, is_set, needs_source, task_by, word_faults, word_rows}
+use Rattle.prog_source.specs.Words.{IsSource, IsCount, IsCountOr, Source}
 use Rattle.pvaserve.specs.declared.words.Asked.{Asked as AskedRead}
 use Rattle.pvaserve.specs.declared.words.Task.{Task}
 use Rattle.pvaserve.specs.declared.words.Task.TheVariants.{Inetd, Check, Drill}
 use Rattle.pvaserve.specs.declared.words.WordsStop.{WordsStop}
 use Rattle.pvaserve.specs.declared.words.WordsStop.TheVariants.{Refused, NoMemory}
 use Rattle.pvaserve.proofs.Command.{refused_faulty}
-use Rattle.pvaserve.proofs.Pairs.{one_macros}
-use Rattle.pvaserve.proofs.Sources.{one_source}
+use Rattle.prog_source.proofs.Pairs.{one_macros}
+use Rattle.prog_source.proofs.Sources.{one_source}
 
 -- why what is given asks for nothing
 

@@ -26,9 +26,9 @@ use Rattle.srv_stream.specs.Streams.{View}
 use Rattle.pvaserve.specs.Drilling.{AreFed, DrillRun, count_by, drill_lines, drill_messages, input_of, is_commit, is_update, pieces_in, pieces_of, sum_of, together}
 use Rattle.pvaserve.specs.Drives.{AllFed, AreTotals, IsBehind, IsDrillDesk, Played, SeatTotals, lines_of}
 use Rattle.pvaserve.specs.Running.{Drilling, status_by}
-use Rattle.pvaserve.specs.Telling.{IsPrinted}
+use Rattle.prog_source.specs.Printing.{IsPrinted}
 use Rattle.pvaserve.specs.declared.drilling.Totals.{Totals}
-use Rattle.pvaserve.specs.declared.telling.Printed.{Printed}
+use Rattle.prog_source.specs.declared.printing.Printed.{Printed}
 use Rattle.pvaserve.proofs.Drawing.{length_messages}
 use Rattle.pvaserve.proofs.Pumping.{FedBy}
 

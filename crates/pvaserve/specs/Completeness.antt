@@ -10,8 +10,8 @@ use Rattle.desk_api.specs.declared.history.SiteData.{SiteData}
 use Rattle.srv_stream.specs.Served.{IsSmooth}
 use Rattle.pvaserve.specs.Running.{Does, IsDone, SiteServes, Outside}
 use Rattle.pvaserve.specs.Words.{Asked}
-use Rattle.pvaserve.specs.declared.loading.SourceStop.{SourceStop}
-use Rattle.pvaserve.specs.declared.loading.SourceStop.TheVariants.{Fault}
+use Rattle.prog_source.specs.declared.loading.SourceStop.{SourceStop}
+use Rattle.prog_source.specs.declared.loading.SourceStop.TheVariants.{Fault}
 use Rattle.pvaserve.specs.declared.words.Task.{Task}
 use Rattle.pvaserve.specs.declared.words.Task.TheVariants.{Inetd, Check, Drill}
 

@@ -1,5 +1,4 @@
 pub mod Words
-pub mod Opening
 pub mod Telling
 pub mod Drilling
 pub mod Drives

@@ -15,16 +15,18 @@ use Rattle.srv_stream.specs.Streams.{moment_told}
 use Rattle.srv_stream.specs.declared.ended.Ended.{Ended}
 use Rattle.srv_stream.specs.declared.ended.Ended.TheVariants as ends
 use Rattle.pvaserve.specs.Drilling.{DrillRun, drill_lines}
-use Rattle.pvaserve.specs.Opening.{Opens, AllMade, OneUnmade, SomeMade}
-use Rattle.pvaserve.specs.Telling.{IsPrinted, counts_line, fault_line}
+use Rattle.prog_source.specs.Opening.{Opens, AllMade, OneUnmade, SomeMade}
+use Rattle.pvaserve.specs.Telling.{counts_line, fault_line}
+use Rattle.prog_source.specs.Printing.{IsPrinted}
 use Rattle.clap.specs.Words.{Text}
-use Rattle.pvaserve.specs.Words.{Asked, AreTaken, Source}
-use Rattle.pvaserve.specs.declared.loading.SourceStop.{SourceStop}
-use Rattle.pvaserve.specs.declared.loading.SourceStop.TheVariants.{Unread, Fault, NoMemory}
-use Rattle.pvaserve.specs.declared.ports.PortsStop.{PortsStop}
-use Rattle.pvaserve.specs.declared.ports.PortsStop.TheVariants as unmade
-use Rattle.pvaserve.specs.declared.telling.Printed.{Printed}
-use Rattle.pvaserve.specs.declared.telling.Printed.TheVariants as printing
+use Rattle.pvaserve.specs.Words.{Asked, AreTaken}
+use Rattle.prog_source.specs.Words.{Source}
+use Rattle.prog_source.specs.declared.loading.SourceStop.{SourceStop}
+use Rattle.prog_source.specs.declared.loading.SourceStop.TheVariants.{Unread, Fault, NoMemory}
+use Rattle.prog_source.specs.declared.ports.PortsStop.{PortsStop}
+use Rattle.prog_source.specs.declared.ports.PortsStop.TheVariants as unmade
+use Rattle.prog_source.specs.declared.printing.Printed.{Printed}
+use Rattle.prog_source.specs.declared.printing.Printed.TheVariants as printing
 use Rattle.pvaserve.specs.declared.words.Task.{Task}
 use Rattle.pvaserve.specs.declared.words.Task.TheVariants.{Inetd, Check, Drill}
 

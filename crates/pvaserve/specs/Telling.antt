@@ -1,8 +1,6 @@
 -- What `--check` prints.
-use Rattle.std.specs.Prelude.{◌≡◌, ℕ, List, ◌++◌, Option, codes}
+use Rattle.std.specs.Prelude.{ℕ, List, ◌++◌, codes}
 use Rattle.std.specs.Fmt.{decimal}
-use Rattle.std.specs.Io.KnownBytes.{Appends}
-use Rattle.pva_outside.specs.Count.{Rose}
 use Rattle.db_text.specs.declared.fault.TextFault.{TextFault}
 use Rattle.db_text.specs.declared.fault.TextFault.TheVariants as texts
 use Rattle.db_load.specs.declared.fault.LoadFault.{LoadFault}
@@ -16,8 +14,6 @@ use Rattle.group_defs.specs.declared.fault.GroupFault.TheVariants as definitions
 use Rattle.desk_api.specs.declared.fault.SiteFault.{SiteFault}
 use Rattle.desk_api.specs.declared.fault.SiteFault.TheVariants as faults
 use Rattle.pvaserve.specs.declared.telling.Place.{Place as PlaceRead}
-use Rattle.pvaserve.specs.declared.telling.Printed.{Printed}
-use Rattle.pvaserve.specs.declared.telling.Printed.TheVariants.{Whole, Failed, NoMemory}
 
 -- A fault by its line, 0 where it has none, and the name of its innermost variant.
 
@@ -80,16 +76,3 @@ counts_line records groups = decimal records ++ (codes " records, " ++ (decimal 
 -- the line about a fault
 abbrev pub fault_line : SiteFault → List ℕ
 fault_line fault = codes "line " ++ (decimal (place_of fault).0 ++ (codes ": " ++ ((place_of fault).1 ++ codes "\n")))
-
--- A front of the text was printed.
-pub record IsPart (old new : Option (List ℕ)) (text : List ℕ) : Type 0 where
-  pub front : List ℕ
-  pub rest : List ℕ
-  pub whole : text ≡ front ++ rest
-  pub printed : Appends old new front
-
--- What became of a text: what was printed, and how often printing failed.
-abbrev pub IsPrinted : Option (List ℕ) → Option (List ℕ) → ℕ → ℕ → List ℕ → Printed → Type 0
-IsPrinted old new faults faults' text Whole = Appends old new text × (faults' ≡ faults)
-IsPrinted old new faults faults' text Failed = IsPart old new text × Rose faults faults'
-IsPrinted old new faults faults' text NoMemory = IsPart old new text × (faults' ≡ faults)

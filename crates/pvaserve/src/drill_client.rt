@@ -33,6 +33,9 @@ pub(crate) const MESSAGES: u32 = 10_026;
 /// How many of them are puts.
 const PUTS: u32 = 10_000;
 
+/// Room for all of their bytes, of which a put has 23.
+const ROOM: usize = 240_000;
+
 /// The others come first: a validation, the creation of a channel of each name, the beginning of puts to each record and of a monitor of
 /// each group, and the starts of the monitors.
 const OPENING: &[u8] = b"\
@@ -116,7 +119,7 @@ fn add_puts(out: &mut Vec<u8>, start: u32) -> Result<(), NoMemory>
 pub(crate) fn input(alloc: Global, number: u64) -> Result<Vec<u8>, NoMemory>
     ensures { IfOk result (λ bytes. bytes.items ≡ input_of (drill_messages number)) }
 {
-    let mut out = Vec::new(alloc);
+    let mut out = Vec::with_capacity(alloc, ROOM)?;
     out.extend_from_slice(OPENING)?;
     add_puts(&mut out, first_number(number))?;
     Ok(out)

@@ -10,12 +10,11 @@ ghost use Rattle.srv_stream.specs.Views.{view_of};
 
 use crate::counting::Counting;
 use crate::drill_client::{MESSAGES, TEXT, input};
-use crate::ports::make_ports;
 use crate::program::{Status, status_by};
-use crate::telling::print;
 use crate::words::JOURNAL;
 use desk_api::{Desk, Moment, NoMemory, Site};
 use desk_core::SoloDesk;
+use prog_source::{make_ports, print};
 use pva_outside::{Clock, MemoryPorts, Sink};
 use pva_wire::Order;
 use rec_kinds::{Datum, RecState};
@@ -241,7 +240,10 @@ fn run_drill(alloc: Global, number: u64, moment: Moment) -> Result<Totals, NoMem
     let Ok(mut counting) = desk_of(alloc) else {
         return Err(NoMemory);
     };
-    run_on(alloc, number, &mut counting, moment)
+    let totals = run_on(alloc, number, &mut counting, moment);
+    // the program ends behind the drill, so that its history isn't let go entry by entry
+    std::mem::forget(counting);
+    totals
 }
 
 /// The lines that tell them.
@@ -265,5 +267,5 @@ pub(crate) fn drill<C: Clock, S: Sink>(alloc: Global, number: u64, clock: &C, si
     let Ok(lines) = lines_of(alloc, totals) else {
         return Status::NoMemory as u8;
     };
-    status_by(Status::Done as u8, print(sink, lines.as_str()))
+    status_by(Status::Done as u8, print(sink, lines.as_bytes()))
 }

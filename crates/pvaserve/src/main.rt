@@ -4,11 +4,7 @@
 mod counting;
 mod drill_client;
 mod drilling;
-mod loading;
-mod macros;
-mod ports;
 mod program;
-mod source;
 mod telling;
 #[cfg(test)]
 mod tests;

@@ -10,12 +10,11 @@ ghost use Rattle.pvaserve.specs.Words as words;
 ghost use Rattle.srv_stream.specs.Faults.{EndsAtFirstFault, FirstFault};
 
 use crate::drilling::drill;
-use crate::loading::{SourceStop, read_site};
-use crate::ports::{PortsStop, make_ports};
-use crate::telling::{Printed, line_of_fault, line_of_site, print};
+use crate::telling::{line_of_fault, line_of_site};
 use crate::words::{Asked, Task, WordsStop, read_words};
 use desk_api::{Site, SiteFault};
 use desk_core::SoloDesk;
+use prog_source::{PortsStop, Printed, SourceStop, make_ports, print, read_site};
 use pva_outside::{Clock, Kinds, Link, Port, PortMaker, Sink, World};
 use srv_stream::{Ended, serve_connection};
 use std::alloc::Global;
@@ -82,7 +81,10 @@ fn serve_with<P: Port + Drop, L: Link, C: Clock>(
     let Ok(mut desk) = SoloDesk::new(alloc, site, ports, asked.journal) else {
         return Ended::NoMemory;
     };
-    serve_connection(alloc, &mut desk, link, clock, asked.order, asked.turns)
+    let ended = serve_connection(alloc, &mut desk, link, clock, asked.order, asked.turns);
+    // the program ends behind its connection, so that its history isn't let go entry by entry
+    std::mem::forget(desk);
+    ended
 }
 
 /// Makes the ports of this site, and serves the link from its desk.
@@ -122,7 +124,7 @@ fn tell_site<S: Sink>(alloc: Global, site: &Site, sink: &mut S) -> u8
     let Ok(line) = line_of_site(alloc, site) else {
         return Status::NoMemory as u8;
     };
-    status_by(Status::Done as u8, print(sink, line.as_str()))
+    status_by(Status::Done as u8, print(sink, line.as_bytes()))
 }
 
 /// Prints where a text is wrong.
@@ -132,7 +134,7 @@ fn tell_fault<S: Sink>(alloc: Global, fault: &SiteFault, sink: &mut S) -> u8
     let Ok(line) = line_of_fault(alloc, fault) else {
         return Status::NoMemory as u8;
     };
-    status_by(Status::Site as u8, print(sink, line.as_str()))
+    status_by(Status::Site as u8, print(sink, line.as_bytes()))
 }
 
 /// Prints what a source has, or where it is wrong.

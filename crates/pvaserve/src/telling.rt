@@ -1,13 +1,13 @@
 // What `--check` says of a source.
 ghost use Rattle.std.specs.Prelude.{◌≡◌, IfOk, codes, length};
 ghost use Rattle.std.specs.String.{string_bytes};
-ghost use Rattle.pvaserve.specs.Telling.{IsPrinted, counts_line, fault_line, place_in_build, place_in_group, place_in_load, place_in_text, place_in_type, place_of, place_told};
+ghost use Rattle.pvaserve.specs.Telling.{counts_line, fault_line, place_in_build, place_in_group, place_in_load, place_in_text, place_in_type, place_of, place_told};
+ghost use Rattle.prog_source.specs.Printing.{IsPrinted};
 
 use db_load::LoadFault;
 use db_text::TextFault;
 use desk_api::{Site, SiteFault};
 use group_defs::GroupFault;
-use pva_outside::{Sink, SinkStep};
 use pvd_type::TypeFault;
 use rec_kinds::BuildFault;
 use std::alloc::{AllocError, Global};
@@ -168,30 +168,4 @@ pub fn line_of_fault(alloc: Global, fault: &SiteFault) -> Result<String, AllocEr
 {
     let place = place_of(fault);
     format!(in alloc; "line {}: {}\n", place.line, place.name)
-}
-
-/// What a print came to.
-#[derive(Clone, Copy, Debug, PartialEq, Eq)]
-pub enum Printed {
-    /// All bytes were taken.
-    Whole,
-    /// The sink failed.
-    Failed,
-    /// Memory ran out in the sink.
-    NoMemory,
-}
-
-/// Prints a text, in as many writes as the sink wants.
-pub fn print<S: Sink>(sink: &mut S, text: &str) -> Printed
-    ensures { IsPrinted (S.written sink.old) (S.written sink.new) (S.faults sink.old) (S.faults sink.new) text.now result }
-{
-    let mut rest = text.as_bytes();
-    while !rest.is_empty() {
-        match sink.write(rest) {
-            SinkStep::Took(count) => rest = &rest[count..],
-            SinkStep::Failed => return Printed::Failed,
-            SinkStep::NoMemory => return Printed::NoMemory,
-        }
-    }
-    Printed::Whole
 }

@@ -1,15 +1,15 @@
 // The words of the command line.
 ghost use Rattle.std.specs.Prelude.{◌≡◌, ◌≢◌, ◌<◌, ◌^◌, ℕ, List, Option, false, IfOk, MatchOption, codes, is_some, map, option_map, ◌||◌};
-ghost use Rattle.std.specs.Fmt.{decimal};
 ghost use Rattle.clap.specs.Words.{FailsBy, app_of, found_of, is_broken, kind_of, rows_of, with_rule};
-ghost use Rattle.pvaserve.specs.Words.{AreRead, AreMacrosIn, IsDrill, IsSourceIn, IsSourceNeeded, IsTask, IsTaskIn, needs_source, source_of, IsCount, IsCountOr, RowsAreRead, bare_app, flag_rule, given, is_plain_count, is_set, option_rule, order_by, server_app, task_by, word_faults, word_rows};
+ghost use Rattle.pvaserve.specs.Words.{AreRead, AreMacrosIn, IsDrill, IsSourceIn, IsSourceNeeded, IsTask, IsTaskIn, needs_source, RowsAreRead, bare_app, flag_rule, given, is_set, option_rule, order_by, server_app, task_by, word_faults, word_rows};
+ghost use Rattle.prog_source.specs.Words.{IsCountOr, source_of};
 ghost use Rattle.db_text.specs.Macros.{Macros};
 ghost use Rattle.pvaserve.specs.Words as specs;
+ghost use Rattle.prog_source.specs.Words as source;
 
-use crate::macros::read_macros;
-use crate::source::{Source, read_source};
 use clap::error::ErrorKind;
 use clap::{Arg, ArgAction, ArgMatches, Command, Error};
+use prog_source::{Source, count_within, read_macros, read_source};
 use pva_wire::Order;
 use pvd_type::{Name, NoMemory};
 use std::alloc::{AllocError, Global};
@@ -145,38 +145,6 @@ fn task_by(inetd: bool, check: bool) -> Option<Task>
     }
 }
 
-/// Whether bytes begin as a number does that has no sign: not with a zero before another digit.
-fn is_plain_count(bytes: &[u8]) -> bool
-    ensures { result ≡ is_plain_count bytes.now }
-{
-    matches!(bytes, [b'0'] | [b'1'..=b'9', ..])
-}
-
-/// Reads a number: decimal digits, without a sign and without a zero in front (`0` itself is one). None also where it doesn't
-/// fit.
-fn read_count(text: &str) -> Option<u64>
-    ensures { MatchOption result ((n : ℕ) → n < 2 ^ 64 → text.now ≢ decimal n) (λ n. text.now ≡ decimal n) }
-{
-    if !is_plain_count(text.as_bytes()) {
-        return None;
-    }
-    text.parse::<u64>().ok()
-}
-
-/// The number that a text says, from the least to the most that it may be.
-fn count_within(text: &str, least: u64, most: u64) -> Option<u64>
-    ensures { MatchOption result ((n : ℕ) → ¬ (IsCount text.now least most n)) (IsCount text.now least most) }
-{
-    let count = read_count(text)?;
-    if count < least {
-        return None;
-    }
-    if count > most {
-        return None;
-    }
-    Some(count)
-}
-
 /// The number that an option was given, from the least to the most that it may be, or what stands in its place.
 fn count_of(
     matches: &ArgMatches<'_>,
@@ -257,7 +225,7 @@ fn order_of(matches: &ArgMatches<'_>) -> Order
 /// The source that the argument names, if it is given. An outer None where it isn't of its form, or is needed and not given.
 #[tactic(auto, using(crate::proofs::Rows::no_source_by, crate::proofs::Rows::source_there, crate::proofs::Rows::no_source_needed, crate::proofs::Rows::source_needed))]
 fn source_by<'a>(text: Option<&'a str>, needed: bool) -> Option<Option<Source<'a>>>
-    ensures { MatchOption result ((s : Option specs.Source) → ¬ (IsSourceNeeded (option_map (λ s. s.now) text.entry) needed s)) (λ s. IsSourceNeeded (option_map (λ s. s.now) text.entry) needed (option_map source_of s)) }
+    ensures { MatchOption result ((s : Option source.Source) → ¬ (IsSourceNeeded (option_map (λ s. s.now) text.entry) needed s)) (λ s. IsSourceNeeded (option_map (λ s. s.now) text.entry) needed (option_map source_of s)) }
 {
     let Some(text) = text else {
         return if needed { None } else { Some(None) };
@@ -270,7 +238,7 @@ fn source_by<'a>(text: Option<&'a str>, needed: bool) -> Option<Option<Source<'a
 
 /// The same of what the words give.
 fn source_in<'a>(matches: &ArgMatches<'a>, needed: bool) -> Option<Option<Source<'a>>>
-    ensures { MatchOption result ((s : Option specs.Source) → ¬ (IsSourceIn (rows_of (found_of matches.now)) needed s)) (λ s. IsSourceIn (rows_of (found_of matches.now)) needed (option_map source_of s)) }
+    ensures { MatchOption result ((s : Option source.Source) → ¬ (IsSourceIn (rows_of (found_of matches.now)) needed s)) (λ s. IsSourceIn (rows_of (found_of matches.now)) needed (option_map source_of s)) }
 {
     source_by(given(matches, "source"), needed)
 }

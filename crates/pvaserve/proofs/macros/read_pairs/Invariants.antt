@@ -1,6 +1,0 @@
-use Rattle.std.proofs.Common.{map}
-use Rattle.pvaserve.proofs.Pairs.{SoFar}
-use Rattle.pvaserve.proofs.macros.read_pairs.Given as goal
-
-abbrev pub invariant-loop-piece : goal.invariant-loop-piece
-invariant-loop-piece l = SoFar (map (λ t. t.now) l.texts) l.piece-index l.macros.items
