@@ -15,4 +15,5 @@ pub mod Opened
 pub mod Footprints
 pub mod Entered
 pub mod Together
-mod Places
+pub mod Places
+pub mod Crossing

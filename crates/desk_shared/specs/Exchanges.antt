@@ -1,5 +1,5 @@
 -- How the states in hand are exchanged with those that a desk keeps of all records.
-use Rattle.std.specs.Prelude.{◌≡◌, ◌==◌, ℕ, false, List, length, set, Some, slice_get}
+use Rattle.std.specs.Prelude.{◌≡◌, ◌==◌, ℕ, false, List, length, set, Option, Some, slice_get}
 use Rattle.std.specs.List.{list_any}
 use Rattle.rec_kinds.specs.declared.state.RecState.{RecState}
 use Rattle.desk_api.specs.Views.{AreStatesOf}
@@ -12,6 +12,11 @@ pub record IsExchanged (at rec : ℕ) (hand more states after : List RecState) :
   pub theirs_is : slice_get states rec ≡ Some theirs
   pub hand_is : more ≡ set hand at theirs
   pub states_are : after ≡ set states rec mine
+
+-- the port of one of these in hand was exchanged with that of a record, where the record has one
+abbrev pub IsPortExchanged : {X : Type 0} → ℕ → ℕ → List X → List X → List (Option X) → List (Option X) → Type 0
+IsPortExchanged at rec hand more ports after = (mine theirs : _) → slice_get hand at ≡ Some mine
+    → slice_get ports rec ≡ Some (Some theirs) → (more ≡ set hand at theirs) × (after ≡ set ports rec (Some mine))
 
 -- Those in hand were exchanged with the states of these records, and no other state was changed.
 pub record AreExchanged (recs : List ℕ) (hand more states after : List RecState) : Type 0 where

@@ -25,11 +25,16 @@ use Rattle.desk_hub.specs.Steps.{SeenAsAfter}
 use Rattle.desk_shared.specs.Exchanges.{AreExchanged}
 use Rattle.desk_shared.specs.Records.{Sight, base_of, records, seat_of}
 use Rattle.desk_shared.specs.declared.books.Books.{Books}
+use Rattle.desk_shared.specs.declared.lent.LentPort.{LentPort}
 use Rattle.desk_shared.specs.declared.records.RecCell.{RecCell}
 
 -- the states in these cells
 abbrev pub states_of : {P : Type 0} → List (RecCell P) → List RecState
 states_of cells = map (λ cell. cell.state) cells
+
+-- the places of ports in them
+abbrev pub places_of : {P : Type 0} → List (RecCell P) → List (LentPort P)
+places_of cells = map (λ cell. cell.port) cells
 
 -- these records have the same states in both
 abbrev pub AgreeAt : List ℕ → List RecState → List RecState → Type 0

@@ -8,3 +8,8 @@ use Rattle.desk_shared.specs.declared.lent.LentPort.TheVariants.{Away, Here}
 abbrev pub lent_port : {P : Type 0} → (P → PortView) → LentPort P → PortView
 lent_port port (Here p) = port p
 lent_port port Away = record { faults = 0; drives = None }
+
+-- where a port stands that a record may have
+abbrev pub place_of : {P : Type 0} → Option P → LentPort P
+place_of None = Away
+place_of (Some p) = Here p

@@ -3,8 +3,8 @@ ghost use Rattle.std.specs.Prelude.{◌≡◌, ◌<◌, Some, length, set, slice
 ghost use Rattle.std.specs.List.{AllByRecursion};
 ghost use Rattle.std.specs.List.Sorted.{IsStrictlyIncreasing};
 ghost use Rattle.desk_core.specs.Ports.{ports_there};
-ghost use Rattle.desk_shared.specs.Exchanges.{AreExchanged, IsExchanged};
-ghost use Rattle.desk_shared.specs.Hands.{states_of};
+ghost use Rattle.desk_shared.specs.Exchanges.{AreExchanged, IsExchanged, IsPortExchanged};
+ghost use Rattle.desk_shared.specs.Hands.{places_of, states_of};
 ghost use Rattle.desk_shared.specs.declared.lent.LentPort.{LentPort};
 
 use crate::lent::LentPort;
@@ -38,6 +38,7 @@ fn exchange_at<P>(hand: &mut Vec<RecCell<P>>, at: usize, cells: &mut Cells<LentP
     requires state { rec < length cells.old.states.items }
     requires port { rec < length cells.old.ports.items }
     ensures states { IsExchanged at rec (states_of hand.old.items) (states_of hand.new.items) cells.old.states.items cells.new.states.items }
+    ensures port { IsPortExchanged at rec (places_of hand.old.items) (places_of hand.new.items) cells.old.ports.items cells.new.ports.items }
     ensures many { length hand.new.items ≡ length hand.old.items }
     ensures ports { ports_there cells.new.ports.items ≡ ports_there cells.old.ports.items }
     ensures before { cells.new.before ≡ cells.old.before }

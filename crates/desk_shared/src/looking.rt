@@ -42,6 +42,7 @@ fn get_at_once<R: Wait, P: Port + Drop>(
     requires channel { IsTrue (is_channel site.now channel) }
     requires whole { IsTrue (sites.is_atomic site.now channel atomic) }
     ensures stands { Stands hall.now.table.shared.table_id hall.now.count site.now cells.new.states.items (ports_there cells.new.ports.items) result.0.seat.table_id result.0.seat.me.0 }
+    ensures others { result.0.seat.me.0.others ≡ pass.seat.me.0.others }
     ensures calls { Calls (seat_of pass.seat.me.0) (seat_of result.0.seat.me.0) (AreGet pass.seat.me.0.seen.base.site channel atomic result.1) }
     ensures ends { OnOk result.1 (EndsAtItsMarks (seat_of pass.seat.me.0) (seat_of result.0.seat.me.0)) }
     ensures fits { IfOk result.1 (λ v. fits_of 16 (view v) (type_of pass.seat.me.0.seen.base.site channel) ≡ true) }
@@ -94,6 +95,7 @@ fn look_at<R: Wait, P: Port + Drop>(
     requires valid { AreValid site.now.configs cells.old.states.items }
     requires restorable { IsRestorable site.now.opening cells.old.states.items cells.old.before.items }
     ensures own { result.0.seat.table_id ≡ pass.seat.table_id }
+    ensures others { result.0.seat.me.0.others ≡ pass.seat.me.0.others }
     ensures calls { Calls (seat_of pass.seat.me.0) (seat_of result.0.seat.me.0) (AreLook channel rec cells.old.states.items cells.new.states.items result.1) }
     ensures ends { OnOk result.1 (EndsAtItsMarks (seat_of pass.seat.me.0) (seat_of result.0.seat.me.0)) }
     ensures valid { AreValid site.now.configs cells.new.states.items }
@@ -141,6 +143,7 @@ fn look_at_each<R: Wait, P: Port + Drop>(
     requires valid { AreValid site.now.configs cells.old.states.items }
     requires restorable { IsRestorable site.now.opening cells.old.states.items cells.old.before.items }
     ensures own { result.0.seat.table_id ≡ pass.seat.table_id }
+    ensures others { result.0.seat.me.0.others ≡ pass.seat.me.0.others }
     ensures calls { Calls (seat_of pass.seat.me.0) (seat_of result.0.seat.me.0) (AreLookedAt channel recs.now cells.old.states.items cells.new.states.items result.1) }
     ensures ends { OnOk result.1 (EndsAtItsMarks (seat_of pass.seat.me.0) (seat_of result.0.seat.me.0)) }
     ensures valid { AreValid site.now.configs cells.new.states.items }
@@ -174,6 +177,7 @@ fn get_one_by_one<R: Wait, P: Port + Drop>(
     requires channel { IsTrue (is_channel site.now channel) }
     requires apart { sites.is_atomic site.now channel atomic ≡ false }
     ensures stands { Stands hall.now.table.shared.table_id hall.now.count site.now cells.new.states.items (ports_there cells.new.ports.items) result.0.seat.table_id result.0.seat.me.0 }
+    ensures others { result.0.seat.me.0.others ≡ pass.seat.me.0.others }
     ensures calls { Calls (seat_of pass.seat.me.0) (seat_of result.0.seat.me.0) (AreGet pass.seat.me.0.seen.base.site channel atomic result.1) }
     ensures ends { OnOk result.1 (EndsAtItsMarks (seat_of pass.seat.me.0) (seat_of result.0.seat.me.0)) }
     ensures fits { IfOk result.1 (λ v. fits_of 16 (view v) (type_of pass.seat.me.0.seen.base.site channel) ≡ true) }
@@ -211,6 +215,7 @@ pub(crate) fn get_in<R: Wait, P: Port + Drop>(
     requires stands { Stands hall.now.table.shared.table_id hall.now.count site.now cells.old.states.items (ports_there cells.old.ports.items) pass.seat.table_id pass.seat.me.0 }
     requires channel { IsTrue (is_channel site.now channel) }
     ensures stands { Stands hall.now.table.shared.table_id hall.now.count site.now cells.new.states.items (ports_there cells.new.ports.items) result.0.seat.table_id result.0.seat.me.0 }
+    ensures others { result.0.seat.me.0.others ≡ pass.seat.me.0.others }
     ensures calls { Calls (seat_of pass.seat.me.0) (seat_of result.0.seat.me.0) (AreGet pass.seat.me.0.seen.base.site channel atomic result.1) }
     ensures ends { OnOk result.1 (EndsAtItsMarks (seat_of pass.seat.me.0) (seat_of result.0.seat.me.0)) }
     ensures fits { IfOk result.1 (λ v. fits_of 16 (view v) (type_of pass.seat.me.0.seen.base.site channel) ≡ true) }
@@ -232,6 +237,7 @@ pub(crate) fn snapshot_in<R: Wait, P: Port + Drop>(
 ) -> (Pass<Records<P>>, Result<Vec<RecRow>, NoMemory>)
     requires stands { Stands hall.now.table.shared.table_id hall.now.count site.now cells.old.states.items (ports_there cells.old.ports.items) pass.seat.table_id pass.seat.me.0 }
     ensures stands { Stands hall.now.table.shared.table_id hall.now.count site.now cells.new.states.items (ports_there cells.new.ports.items) result.0.seat.table_id result.0.seat.me.0 }
+    ensures others { result.0.seat.me.0.others ≡ pass.seat.me.0.others }
     ensures calls { Calls (seat_of pass.seat.me.0) (seat_of result.0.seat.me.0) (AreSnapshot pass.seat.me.0.seen.base.site result.1) }
     ensures ends { OnOk result.1 (EndsAtItsMarks (seat_of pass.seat.me.0) (seat_of result.0.seat.me.0)) }
 {

@@ -34,6 +34,7 @@ pub(crate) fn look_read<P: Port + Drop, B: Notes>(
     requires may { MayLook records held.seat.me.0 held.hub held.cells.items (Some (marks.Read (now (seat_of held.seat.me.0)) _channel held.footprint.items (states_of held.cells.items))) }
     requires mark { B.mark ≡ marks.Read (now (seat_of held.seat.me.0)) _channel held.footprint.items (states_of held.cells.items) }
     ensures own { result.seat.table_id ≡ held.seat.table_id }
+    ensures others { result.seat.me.0.others ≡ held.seat.me.0.others }
     ensures marked { seat_of result.seat.me.0 ≡ with_mark (seat_of held.seat.me.0) (λ at. marks.Read at _channel held.footprint.items (states_of held.cells.items)) }
 {
     hall.look::<Noted<B>>(held)
@@ -52,6 +53,7 @@ pub(crate) fn look_overweight<P: Port + Drop, B: Notes>(
     requires may { MayLook records held.seat.me.0 held.hub held.cells.items (Some (marks.Overweight (now (seat_of held.seat.me.0)) _entry.now.footprint _entry.now.actions _kept _weight _limit)) }
     requires mark { B.mark ≡ marks.Overweight (now (seat_of held.seat.me.0)) _entry.now.footprint _entry.now.actions _kept _weight _limit }
     ensures own { result.seat.table_id ≡ held.seat.table_id }
+    ensures others { result.seat.me.0.others ≡ held.seat.me.0.others }
     ensures marked { seat_of result.seat.me.0 ≡ with_mark (seat_of held.seat.me.0) (λ at. marks.Overweight at _entry.now.footprint _entry.now.actions _kept _weight _limit) }
 {
     hall.look::<Noted<B>>(held)
@@ -70,6 +72,7 @@ pub(crate) fn look_begun<P: Port + Drop, B: Notes>(
     requires may { MayLook records held.seat.me.0 held.hub held.cells.items (Some (begun_in (seat_of held.seat.me.0) _slot _channel _mask.now _size (now (seat_of held.seat.me.0)))) }
     requires mark { B.mark ≡ begun_in (seat_of held.seat.me.0) _slot _channel _mask.now _size (now (seat_of held.seat.me.0)) }
     ensures own { result.seat.table_id ≡ held.seat.table_id }
+    ensures others { result.seat.me.0.others ≡ held.seat.me.0.others }
     ensures marked { seat_of result.seat.me.0 ≡ with_mark (seat_of held.seat.me.0) (begun_in (seat_of held.seat.me.0) _slot _channel _mask.now _size) }
 {
     hall.look::<Noted<B>>(held)
@@ -85,6 +88,7 @@ pub(crate) fn look_crowded<P: Port + Drop, B: Notes>(
     requires may { MayLook records held.seat.me.0 held.hub held.cells.items (Some (crowded (seat_of held.seat.me.0) _count (now (seat_of held.seat.me.0)))) }
     requires mark { B.mark ≡ crowded (seat_of held.seat.me.0) _count (now (seat_of held.seat.me.0)) }
     ensures own { result.seat.table_id ≡ held.seat.table_id }
+    ensures others { result.seat.me.0.others ≡ held.seat.me.0.others }
     ensures marked { seat_of result.seat.me.0 ≡ with_mark (seat_of held.seat.me.0) (crowded (seat_of held.seat.me.0) _count) }
 {
     hall.look::<Noted<B>>(held)
@@ -101,6 +105,7 @@ pub(crate) fn look_popped<P: Port + Drop, B: Notes>(
     requires may { MayLook records held.seat.me.0 held.hub held.cells.items (Some (popped _slot _update.now (now (seat_of held.seat.me.0)))) }
     requires mark { B.mark ≡ popped _slot _update.now (now (seat_of held.seat.me.0)) }
     ensures own { result.seat.table_id ≡ held.seat.table_id }
+    ensures others { result.seat.me.0.others ≡ held.seat.me.0.others }
     ensures marked { seat_of result.seat.me.0 ≡ with_mark (seat_of held.seat.me.0) (popped _slot _update.now) }
 {
     hall.look::<Noted<B>>(held)
@@ -116,6 +121,7 @@ pub(crate) fn look_dropped<P: Port + Drop, B: Notes>(
     requires may { MayLook records held.seat.me.0 held.hub held.cells.items (Some (dropped (seat_of held.seat.me.0) _slot (now (seat_of held.seat.me.0)))) }
     requires mark { B.mark ≡ dropped (seat_of held.seat.me.0) _slot (now (seat_of held.seat.me.0)) }
     ensures own { result.seat.table_id ≡ held.seat.table_id }
+    ensures others { result.seat.me.0.others ≡ held.seat.me.0.others }
     ensures marked { seat_of result.seat.me.0 ≡ with_mark (seat_of held.seat.me.0) (dropped (seat_of held.seat.me.0) _slot) }
 {
     hall.look::<Noted<B>>(held)
@@ -141,6 +147,7 @@ pub(crate) fn commit_entered<P: Port + Drop, B: Notes>(
     requires ports { length cells.old.ports.items ≡ length cells.old.states.items }
     requires mark { B.mark ≡ marks.Entered (now (seat_of held.seat.me.0)) entry _looked.now (found_in cells.old.states.items _looked.now) }
     ensures own { result.seat.table_id ≡ held.seat.table_id }
+    ensures others { result.seat.me.0.others ≡ held.seat.me.0.others }
     ensures marked { seat_of result.seat.me.0 ≡ with_mark (seat_of held.seat.me.0) (λ at. marks.Entered at entry _looked.now (found_in cells.old.states.items _looked.now)) }
     ensures given { IsGivenBack recs.now (states_of held.cells.items) cells.old.states.items cells.new.states.items }
     ensures ports { ports_there cells.new.ports.items ≡ ports_there cells.old.ports.items }

@@ -1,7 +1,8 @@
 // A hall of records is opened.
-ghost use Rattle.std.specs.Prelude.{◌≡◌, ◌<◌, IfOk, length};
+ghost use Rattle.std.specs.Prelude.{◌≡◌, IfOk, length, map};
 ghost use Rattle.desk_core.specs.Ports.{ports_there, ports_wanted};
-ghost use Rattle.desk_shared.specs.Hands.{states_of};
+ghost use Rattle.desk_shared.specs.Hands.{places_of, states_of};
+ghost use Rattle.desk_shared.specs.Lent.{place_of};
 ghost use Rattle.hall_locks.specs.Hall.{first_view};
 
 use crate::books::Books;
@@ -16,7 +17,9 @@ use std::alloc::Global;
 use std::snapshot::Snapshot;
 
 /// The place of a port that a record may have.
-fn lent<P>(port: Option<P>) -> LentPort<P> {
+fn lent<P>(port: Option<P>) -> LentPort<P>
+    ensures { result ≡ place_of port }
+{
     match port {
         Some(port) => LentPort::Here(port),
         None => LentPort::Away,
@@ -29,13 +32,16 @@ fn cells_of<P: Drop>(
     states: Vec<RecState>,
     ports: Vec<Option<P>>,
 ) -> Result<Vec<RecCell<P>>, NoMemory>
-    ensures { IfOk result (λ cells. states_of cells.items ≡ states.items) }
+    requires { length ports.items ≡ length states.items }
+    ensures states { IfOk result (λ cells. states_of cells.items ≡ states.items) }
+    ensures ports { IfOk result (λ cells. places_of cells.items ≡ map place_of ports.items) }
 {
     let mut cells = Vec::with_capacity(alloc, states.len())?;
-    let mut ports = ports.into_iter();
-    for state in states {
-        let port = lent(ports.next().flatten());
-        cells.push(RecCell { state, port })?;
+    for (state, port) in states.into_iter().zip(ports) {
+        cells.push(RecCell {
+            state,
+            port: lent(port),
+        })?;
     }
     Ok(cells)
 }
@@ -49,8 +55,7 @@ pub fn open_hall<P: Port + Drop>(
     ports: Vec<Option<P>>,
     limit: u64,
 ) -> Result<(Hall<Records<P>>, Pass<Records<P>>), NoMemory>
-    requires ports { ports_there ports.items ≡ ports_wanted site.now.configs }
-    requires some { 0 < length site.now.names }
+    requires { ports_there ports.items ≡ ports_wanted site.now.configs }
     ensures own { IfOk result (λ r. r.1.seat.table_id ≡ r.0.table.shared.table_id) }
     ensures count { IfOk result (λ r. r.0.count ≡ length site.now.names) }
     ensures first { IfOk result (λ r. r.1.seat.me.0 ≡ first_view (record { site = site.now; limit = limit })) }

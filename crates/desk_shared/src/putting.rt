@@ -59,6 +59,7 @@ fn give_up<P: Port + Drop>(
     requires many { length held.cells.items ≡ length recs.now }
     requires ports { length cells.old.ports.items ≡ length cells.old.states.items }
     ensures own { result.seat.table_id ≡ held.seat.table_id }
+    ensures others { result.seat.me.0.others ≡ held.seat.me.0.others }
     ensures same { seat_of result.seat.me.0 ≡ seat_of held.seat.me.0 }
     ensures states { cells.new.states.items ≡ site.now.opening }
     ensures ports { ports_there cells.new.ports.items ≡ ports_there cells.old.ports.items }
@@ -88,6 +89,7 @@ fn enter<P: Port + Drop>(
     requires many { length held.cells.items ≡ length recs.now }
     requires ports { length cells.old.ports.items ≡ length cells.old.states.items }
     ensures own { result.0.seat.table_id ≡ held.seat.table_id }
+    ensures others { result.0.seat.me.0.others ≡ held.seat.me.0.others }
     ensures calls { Calls (seat_of held.seat.me.0) (seat_of result.0.seat.me.0) (AreEntered entry looked.now (found_in cells.old.states.items looked.now) done result.1) }
     ensures ends { OnTold result.1 (EndsAtItsMarks (seat_of held.seat.me.0) (seat_of result.0.seat.me.0)) }
     ensures states { cells.new.states.items ≡ site.now.opening }
@@ -149,6 +151,7 @@ fn put_entry<R: Wait, P: Port + Drop>(
     requires may { AllByRecursion (MayBeDoneBy site.now.configs) actions.items }
     requires few { length actions.items ≤ 256 }
     ensures stands { Stands hall.now.table.shared.table_id hall.now.count site.now cells.new.states.items (ports_there cells.new.ports.items) result.0.seat.table_id result.0.seat.me.0 }
+    ensures others { result.0.seat.me.0.others ≡ pass.seat.me.0.others }
     ensures calls { Calls (seat_of pass.seat.me.0) (seat_of result.0.seat.me.0) (AreEntry site.now moment actions.items [] [] done result.1) }
     ensures ends { OnTold result.1 (EndsAtItsMarks (seat_of pass.seat.me.0) (seat_of result.0.seat.me.0)) }
 {
@@ -190,6 +193,7 @@ fn put_whole<R: Wait, P: Port + Drop>(
     requires may { AllByRecursion (MayBeDoneBy site.now.configs) actions.items }
     requires few { length actions.items ≤ 256 }
     ensures stands { Stands hall.now.table.shared.table_id hall.now.count site.now cells.new.states.items (ports_there cells.new.ports.items) result.0.seat.table_id result.0.seat.me.0 }
+    ensures others { result.0.seat.me.0.others ≡ pass.seat.me.0.others }
     ensures calls { Calls (seat_of pass.seat.me.0) (seat_of result.0.seat.me.0) (ArePutInTurn site.now moment (entries_by true actions.items) result.1) }
     ensures ends { OnTold result.1 (EndsAtItsMarks (seat_of pass.seat.me.0) (seat_of result.0.seat.me.0)) }
 {
@@ -223,6 +227,7 @@ fn put_each<R: Wait, P: Port + Drop>(
     requires may { AllByRecursion (MayBeDoneBy site.now.configs) actions.items }
     requires few { length actions.items ≤ 256 }
     ensures stands { Stands hall.now.table.shared.table_id hall.now.count site.now cells.new.states.items (ports_there cells.new.ports.items) result.0.seat.table_id result.0.seat.me.0 }
+    ensures others { result.0.seat.me.0.others ≡ pass.seat.me.0.others }
     ensures calls { Calls (seat_of pass.seat.me.0) (seat_of result.0.seat.me.0) (ArePutInTurn site.now moment (entries_by false actions.items) result.1) }
     ensures ends { OnTold result.1 (EndsAtItsMarks (seat_of pass.seat.me.0) (seat_of result.0.seat.me.0)) }
 {
@@ -264,6 +269,7 @@ pub(crate) fn put_in<R: Wait, P: Port + Drop>(
     requires channel { IsTrue (is_channel site.now channel) }
     requires fits { fits_of 16 (view value.now) (type_of site.now channel) ≡ true }
     ensures stands { Stands hall.now.table.shared.table_id hall.now.count site.now cells.new.states.items (ports_there cells.new.ports.items) result.0.seat.table_id result.0.seat.me.0 }
+    ensures others { result.0.seat.me.0.others ≡ pass.seat.me.0.others }
     ensures calls { Calls (seat_of pass.seat.me.0) (seat_of result.0.seat.me.0) (ArePut (record { site = pass.seat.me.0.seen.base.site; channel = channel; mask = mask.now; value = view value.now; moment = moment; atomic = atomic }) result.1) }
     ensures ends { OnTold result.1 (EndsAtItsMarks (seat_of pass.seat.me.0) (seat_of result.0.seat.me.0)) }
 {
@@ -295,6 +301,7 @@ fn put_and_show<R: Wait, P: Port + Drop>(
     requires may { AllByRecursion (MayBeDoneBy site.now.configs) actions.items }
     requires few { length actions.items ≤ 256 }
     ensures stands { Stands hall.now.table.shared.table_id hall.now.count site.now cells.new.states.items (ports_there cells.new.ports.items) result.0.seat.table_id result.0.seat.me.0 }
+    ensures others { result.0.seat.me.0.others ≡ pass.seat.me.0.others }
     ensures calls { Calls (seat_of pass.seat.me.0) (seat_of result.0.seat.me.0) (ArePutGot site.now channel moment actions.items result.1) }
     ensures ends { OnTold result.1 (EndsAtItsMarks (seat_of pass.seat.me.0) (seat_of result.0.seat.me.0)) }
     ensures fits { IfOk result.1 (λ r. fits_of 16 (view r.1) (type_of site.now channel) ≡ true) }
@@ -350,6 +357,7 @@ fn put_then_get<R: Wait, P: Port + Drop>(
     requires fits { fits_of 16 (view value.now) (type_of site.now channel) ≡ true }
     requires apart { sites.is_atomic site.now channel atomic ≡ false }
     ensures stands { Stands hall.now.table.shared.table_id hall.now.count site.now cells.new.states.items (ports_there cells.new.ports.items) result.0.seat.table_id result.0.seat.me.0 }
+    ensures others { result.0.seat.me.0.others ≡ pass.seat.me.0.others }
     ensures calls { Calls (seat_of pass.seat.me.0) (seat_of result.0.seat.me.0) (ArePutGet (record { site = pass.seat.me.0.seen.base.site; channel = channel; mask = mask.now; value = view value.now; moment = moment; atomic = atomic }) result.1) }
     ensures ends { OnTold result.1 (EndsAtItsMarks (seat_of pass.seat.me.0) (seat_of result.0.seat.me.0)) }
     ensures fits { IfOk result.1 (λ r. fits_of 16 (view r.1) (type_of site.now channel) ≡ true) }
@@ -386,6 +394,7 @@ pub(crate) fn put_get_in<R: Wait, P: Port + Drop>(
     requires channel { IsTrue (is_channel site.now channel) }
     requires fits { fits_of 16 (view value.now) (type_of site.now channel) ≡ true }
     ensures stands { Stands hall.now.table.shared.table_id hall.now.count site.now cells.new.states.items (ports_there cells.new.ports.items) result.0.seat.table_id result.0.seat.me.0 }
+    ensures others { result.0.seat.me.0.others ≡ pass.seat.me.0.others }
     ensures calls { Calls (seat_of pass.seat.me.0) (seat_of result.0.seat.me.0) (ArePutGet (record { site = pass.seat.me.0.seen.base.site; channel = channel; mask = mask.now; value = view value.now; moment = moment; atomic = atomic }) result.1) }
     ensures ends { OnTold result.1 (EndsAtItsMarks (seat_of pass.seat.me.0) (seat_of result.0.seat.me.0)) }
     ensures fits { IfOk result.1 (λ r. fits_of 16 (view r.1) (type_of site.now channel) ≡ true) }

@@ -1,9 +1,10 @@
 // A desk on a pass of a hall of records.
 ghost use Rattle.std.proofs.Props.{props};
 ghost use Rattle.std.specs.Prelude.{◌≡◌, [], IfErr, IfOk, IsSomeAnd, Some, is_some, length, option_map};
-ghost use Rattle.histories.specs.History.{Begins};
+ghost use Rattle.histories.specs.History.{Begins, deeds_by};
 ghost use Rattle.journal_core.proofs.Facts.{are_legal_prop};
 ghost use Rattle.pvd_type.specs.contracts.set.BitSet as bits;
+ghost use Rattle.pvd_value.specs.contracts.value.PvValue as values;
 ghost use Rattle.desk_api.specs.Calls.{Adds, first_seat};
 ghost use Rattle.desk_api.specs.History.{IsLegal, commits};
 ghost use Rattle.desk_core.specs.Ports.{ports_there, ports_wanted};
@@ -18,8 +19,8 @@ use crate::records::Records;
 use crate::subscribing::{pop_in, subscribe_in, unsubscribe_in};
 use crate::visiting::catch_up;
 use desk_api::{
-    Base, Channel, Desk, Done, Moment, NoMemory, PutAnswer, PvType, PvValue, RecRow, Site, Sub,
-    SubAnswer, Update,
+    Base, Channel, Desk, Done, Mark, Moment, NoMemory, PutAnswer, PvType, PvValue, RecRow, Site,
+    Sub, SubAnswer, Update,
 };
 use desk_core::{Cells, Port, names_and_configs, opening_of};
 use hall_core::Law;
@@ -38,7 +39,7 @@ pub struct SharedDesk<
     'a,
     R: Wait,
     P: Port + Drop,
-    T: Law<Base = Base, Entry = Entry, RollItem = RollItem<Channel>>,
+    T: Law<Base = Base, Entry = Entry, Mark = Mark, RollItem = RollItem<Channel>>,
     K: Home,
 > {
     rt: &'a R,
@@ -54,9 +55,10 @@ pub struct SharedDesk<
     ghost hall_is: { hall.now.table.shared.table_id ≡ K.table },
     ghost site_is: { site.now ≡ K.base.site } by { Prim.hlevel (props, bits.the_row.coded) },
     ghost furnished: { IsFurnished hall.now.count site.now cells.states.items (ports_there cells.ports.items) } by { Prim.hlevel (props, bits.the_row.coded) },
-    /// The pass is of this hall, and the history that it has seen begins with this site and is legal.
+    /// The pass is of this hall, the history that it has seen begins with this site and is legal, and it took in these logs.
     ghost own: { option_map (λ p. p.seat.table_id) pass ≡ Some K.table },
     ghost based: { option_map (λ p. p.seat.me.0.seen.base) pass ≡ Some K.base } by { Prim.hlevel (props, bits.the_row.coded) },
+    ghost keeps: { option_map (λ p. p.seat.me.0.others) pass ≡ Some K.others } by { Prim.hlevel (props, bits.the_row.coded, values.the_row.coded) },
     ghost legal: { IsLegal (shown_of pass (first_history K.base) (λ p. p.seat.me.0.seen)) } by { are_legal_prop (shown_of pass (first_history K.base) (λ p. p.seat.me.0.seen)).base.site.configs (shown_of pass (first_history K.base) (λ p. p.seat.me.0.seen)).base.site.opening (commits (shown_of pass (first_history K.base) (λ p. p.seat.me.0.seen))) },
 }
 
@@ -95,6 +97,7 @@ impl<'a, R: Wait, P: Port + Drop, K: Home> SharedDesk<'a, R, P, Records<P>, K> {
         requires count { hall.now.count ≡ length site.now.names }
         requires own { pass.seat.table_id ≡ hall.now.table.shared.table_id }
         requires base { pass.seat.me.0.seen.base ≡ K.base }
+        requires others { pass.seat.me.0.others ≡ K.others }
         ensures desk { IfOk result (λ desk. IsSomeAnd desk.pass (λ p. Adds (seat_of pass.seat.me.0) (seat_of p.seat.me.0) [])) }
         ensures back { IfErr result (λ e. e.0 ≡ pass) }
     {
@@ -126,19 +129,23 @@ impl<'a, R: Wait, P: Port + Drop, K: Home> SharedDesk<'a, R, P, Records<P>, K> {
         ensures pass { self.entry.pass ≡ Some result }
         ensures own { result.seat.table_id ≡ K.table }
         ensures base { result.seat.me.0.seen.base ≡ K.base }
+        ensures others { result.seat.me.0.others ≡ K.others }
     {
         let SharedDesk { pass, .. } = self;
         let Some(pass) = pass else { unreachable!() };
         pass
     }
 
-    /// What the other desk has seen begins what this one has seen then. Both keep what they had. It may wait.
-    pub fn meet(&mut self, other: &mut Self)
-        ensures one { Begins (shown_of other.new.pass (first_seat K.base) (λ p. seat_of p.seat.me.0)).seen (shown_of self.new.pass (first_seat K.base) (λ p. seat_of p.seat.me.0)).seen }
+    /// What the other desk has seen begins what this one has seen then, which has nothing more of this one's own. Both keep what they had.
+    /// It may wait.
+    pub fn meet<L: Home>(&mut self, other: &mut SharedDesk<'a, R, P, Records<P>, L>)
+        requires { L.table ≡ K.table }
+        ensures one { Begins (shown_of other.new.pass (first_seat L.base) (λ p. seat_of p.seat.me.0)).seen (shown_of self.new.pass (first_seat K.base) (λ p. seat_of p.seat.me.0)).seen }
         ensures number { (shown_of self.new.pass (first_seat K.base) (λ p. seat_of p.seat.me.0)).number ≡ (shown_of self.old.pass (first_seat K.base) (λ p. seat_of p.seat.me.0)).number }
         ensures log { (shown_of self.new.pass (first_seat K.base) (λ p. seat_of p.seat.me.0)).log ≡ (shown_of self.old.pass (first_seat K.base) (λ p. seat_of p.seat.me.0)).log }
         ensures goes_on { Begins (shown_of self.old.pass (first_seat K.base) (λ p. seat_of p.seat.me.0)).seen (shown_of self.new.pass (first_seat K.base) (λ p. seat_of p.seat.me.0)).seen }
-        ensures kept { shown_of other.new.pass (first_seat K.base) (λ p. seat_of p.seat.me.0) ≡ shown_of other.old.pass (first_seat K.base) (λ p. seat_of p.seat.me.0) }
+        ensures did { deeds_by (shown_of self.old.pass (first_seat K.base) (λ p. seat_of p.seat.me.0)).number (shown_of self.new.pass (first_seat K.base) (λ p. seat_of p.seat.me.0)).seen.deeds ≡ deeds_by (shown_of self.old.pass (first_seat K.base) (λ p. seat_of p.seat.me.0)).number (shown_of self.old.pass (first_seat K.base) (λ p. seat_of p.seat.me.0)).seen.deeds }
+        ensures kept { shown_of other.new.pass (first_seat L.base) (λ p. seat_of p.seat.me.0) ≡ shown_of other.old.pass (first_seat L.base) (λ p. seat_of p.seat.me.0) }
     {
         let (Some(mut mine), Some(mut theirs)) = (self.pass.take(), other.pass.take()) else {
             unreachable!()

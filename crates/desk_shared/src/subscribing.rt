@@ -39,6 +39,7 @@ pub(crate) fn subscribe_in<R: Wait, P: Port + Drop>(
     requires leaves { types.HoldsLeaves (types.type_of site.now channel) mask.now }
     requires size { (1 ≤ size) × (size ≤ 64) }
     ensures stands { Stands hall.now.table.shared.table_id hall.now.count site.now cells.new.states.items (ports_there cells.new.ports.items) result.0.seat.table_id result.0.seat.me.0 }
+    ensures others { result.0.seat.me.0.others ≡ pass.seat.me.0.others }
     ensures calls { Calls (seat_of pass.seat.me.0) (seat_of result.0.seat.me.0) (AreSubscribe channel mask.now size result.1) }
     ensures rolled { OnSubscribed result.1 (EndsAtLastRoll (seat_of result.0.seat.me.0)) }
     ensures ends { OnSubscribed result.1 (EndsAtItsMarks (seat_of pass.seat.me.0) (seat_of result.0.seat.me.0)) }
@@ -88,6 +89,7 @@ pub(crate) fn pop_in<R: Wait, P: Port + Drop>(
     requires own { pass.seat.table_id ≡ hall.now.table.shared.table_id }
     requires lives { lives pass.seat.me.0.log slot ≡ true }
     ensures own { result.0.seat.table_id ≡ pass.seat.table_id }
+    ensures others { result.0.seat.me.0.others ≡ pass.seat.me.0.others }
     ensures calls { Calls (seat_of pass.seat.me.0) (seat_of result.0.seat.me.0) (IsPop slot result.1) }
     ensures ends { EndsAtItsMarks (seat_of pass.seat.me.0) (seat_of result.0.seat.me.0) }
     ensures fits { IfSome result.1 (FitsSubscribed (seat_of pass.seat.me.0) slot) }
@@ -115,6 +117,7 @@ pub(crate) fn unsubscribe_in<R: Wait, P: Port + Drop>(
     requires site { pass.seat.me.0.seen.base.site ≡ site.now }
     requires lives { lives pass.seat.me.0.log slot ≡ true }
     ensures own { result.seat.table_id ≡ pass.seat.table_id }
+    ensures others { result.seat.me.0.others ≡ pass.seat.me.0.others }
     ensures calls { Calls (seat_of pass.seat.me.0) (seat_of result.seat.me.0) (IsEnding slot) }
     ensures rolled { EndsAtLastRoll (seat_of result.seat.me.0) }
     ensures ends { EndsAtItsMarks (seat_of pass.seat.me.0) (seat_of result.seat.me.0) }

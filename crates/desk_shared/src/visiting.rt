@@ -34,6 +34,7 @@ pub(crate) fn visit_records<R: Wait, P: Port + Drop>(
     requires rises { IsStrictlyIncreasing recs.items }
     requires inside { AllByRecursion (λ rec. rec < hall.now.count) recs.items }
     ensures own { IfOk result (λ v. v.seat.table_id ≡ pass.seat.table_id) }
+    ensures others { IfOk result (λ v. v.seat.me.0.others ≡ pass.seat.me.0.others) }
     ensures recs { IfOk result (λ v. v.footprint.items ≡ recs.items) }
     ensures visits { IfOk result (λ v. Visits pass.seat.me.0 v.seat.me.0 recs.items (states_of v.cells.items)) }
     ensures back { IfErr result (λ e. e.0 ≡ pass) }
@@ -56,6 +57,7 @@ pub(crate) fn visit_these<R: Wait, P: Port + Drop>(
     requires rises { IsStrictlyIncreasing recs.now }
     requires inside { AllByRecursion (λ rec. rec < hall.now.count) recs.now }
     ensures own { IfOk result (λ v. v.seat.table_id ≡ pass.seat.table_id) }
+    ensures others { IfOk result (λ v. v.seat.me.0.others ≡ pass.seat.me.0.others) }
     ensures recs { IfOk result (λ v. v.footprint.items ≡ recs.now) }
     ensures visits { IfOk result (λ v. Visits pass.seat.me.0 v.seat.me.0 recs.now (states_of v.cells.items)) }
     ensures back { IfErr result (λ e. e.0 ≡ pass) }
@@ -79,6 +81,7 @@ pub(crate) fn visit_channel<R: Wait, P: Port + Drop>(
     requires count { hall.now.count ≡ length site.now.names }
     requires channel { IsTrue (is_channel site.now channel) }
     ensures own { IfOk result (λ v. v.seat.table_id ≡ pass.seat.table_id) }
+    ensures others { IfOk result (λ v. v.seat.me.0.others ≡ pass.seat.me.0.others) }
     ensures recs { IfOk result (λ v. v.footprint.items ≡ footprint_of site.now channel) }
     ensures visits { IfOk result (λ v. Visits pass.seat.me.0 v.seat.me.0 (footprint_of site.now channel) (states_of v.cells.items)) }
     ensures back { IfErr result (λ e. e.0 ≡ pass) }
@@ -101,6 +104,7 @@ pub(crate) fn catch_up<R: Wait, P: Port + Drop>(
 ) -> Pass<Records<P>>
     requires own { pass.seat.table_id ≡ hall.now.table.shared.table_id }
     ensures own { result.seat.table_id ≡ pass.seat.table_id }
+    ensures others { result.seat.me.0.others ≡ pass.seat.me.0.others }
     ensures adds { Adds (seat_of pass.seat.me.0) (seat_of result.seat.me.0) [] }
 {
     let Ok(visit) = hall.visit(rt, alloc, pass, Vec::new(alloc)) else {

@@ -292,3 +292,12 @@ returns-in-Err-shown-clause-calls g c =
 pub returns-in-Ok-shown-clause-fits : goal.returns-in-Ok-shown-clause-fits
 returns-in-Ok-shown-clause-fits g c =
     ap (λ (k : SiteData). fits_of 16 (view c.in-Ok-shown.value) (type_of k c.args.channel)) c.requires.stands.site_is ∙ (c.in-Ok-shown.ensures {u = tt}).fits
+
+pub returns-in-Err-clause-others : goal.returns-in-Err-clause-others
+returns-in-Err-clause-others g c = ap (λ p. p.seat.me.0.others) (c.in-Err.ensures {u = tt}).back
+
+pub returns-in-Ok-shown-clause-others : goal.returns-in-Ok-shown-clause-others
+returns-in-Ok-shown-clause-others g c = c.look_read.ensures.others ∙ c.hub-held.ensures.others ∙ (c.in-Ok.ensures {u = tt}).others
+
+pub returns-in-Err-shown-clause-others : goal.returns-in-Err-shown-clause-others
+returns-in-Err-shown-clause-others g c = c.leave.ensures.others ∙ (c.in-Ok.ensures {u = tt}).others

@@ -128,3 +128,9 @@ returns-in-Err-clause-calls g c =
     let call = subst (λ (z : SiteData). Calls (seat_of c.args.pass.seat.me.0) (seat_of c.look_at_each-pass.result.0.seat.me.0) (AreGet z c.args.channel c.args.atomic (Err c.in-Err.no_memory))) (sym st.site_is)
     (stopped_apart s c.args.channel c.args.atomic c.requires.apart (seat_of c.args.pass.seat.me.0) (seat_of c.look_at_each-pass.result.0.seat.me.0) c.args.cells.now.states.items c.look_at_each-pass.new.cells.states.items st.furnished.states_are (Unit {0}) c.in-Err.no_memory c.in-Err.no_memory all) in
     call
+
+pub returns-in-Ok-clause-others : goal.returns-in-Ok-clause-others
+returns-in-Ok-clause-others g c = c.look_at_each-pass.ensures.others
+
+pub returns-in-Err-clause-others : goal.returns-in-Err-clause-others
+returns-in-Err-clause-others g c = c.look_at_each-pass.ensures.others

@@ -165,3 +165,9 @@ returns-in-Err-write-clause-restorable g c =
 pub returns-in-Err-write-clause-valid : goal.returns-in-Err-write-clause-valid
 returns-in-Err-write-clause-valid g c =
     subst (AreValid c.args.site.now.configs) (sym (c.in-Err-write.ensures {u = tt}).states) c.requires.valid
+
+pub returns-in-Err-clause-others : goal.returns-in-Err-clause-others
+returns-in-Err-clause-others g c = ap (λ p. p.seat.me.0.others) (c.in-Err.ensures {u = tt}).back
+
+pub returns-in-Ok-write-clause-others : goal.returns-in-Ok-write-clause-others
+returns-in-Ok-write-clause-others g c = c.look_read.ensures.others ∙ c.hub-held.ensures.others ∙ (c.in-Ok-visit_records.ensures {u = tt}).others

@@ -11,6 +11,7 @@ use Rattle.desk_shared.proofs.looking.look_at_each.Goals as goal
 pub loop-rec-init : goal.loop-rec-init
 loop-rec-init g c = record {
   own = refl;
+  others = refl;
   calls = record { marks = []; adds = adds_nothing (seat_of c.args.pass.seat.me.0) c.requires.legal; named = none_looked c.args.channel c.args.cells.now.states.items };
   ends = inl refl;
   valid = c.requires.valid;
@@ -42,6 +43,7 @@ loop-rec-preserved g c =
     let more = look_so_far (seat_of c.args.pass.seat.me.0) (seat_of c.loop-rec.pass.seat.me.0) (seat_of c.look_at-next.result.0.seat.me.0) c.args.channel (take n recs) c.args.cells.now.states.items c.loop-rec.cells.states.items i.calls r
     c.look_at-next.new.cells.states.items c.look_at-next.result.1 _ c.in-Ok.is c.look_at-next.ensures.calls c.look_at-next.ensures.ends in record {
       own = c.look_at-next.ensures.own ∙ i.own;
+      others = c.look_at-next.ensures.others ∙ i.others;
       calls = subst (λ (l : List ℕ). Calls (seat_of c.args.pass.seat.me.0) (seat_of c.look_at-next.result.0.seat.me.0) (AreAll c.args.channel l c.args.cells.now.states.items c.look_at-next.new.cells.states.items)) (sym (take_more recs n r (got_at recs n c.loop-rec-test.true))) more.0;
       ends = more.1;
       valid = c.look_at-next.ensures.valid;
@@ -64,3 +66,6 @@ pub returns-clause-calls : goal.returns-clause-calls
 returns-clause-calls g c =
     let past : length c.args.recs.now ≤ c.loop-rec.rec-index = omega arith in
     subst (λ (l : List ℕ). Calls (seat_of c.args.pass.seat.me.0) (seat_of c.loop-rec.pass.seat.me.0) (AreAll c.args.channel l c.args.cells.now.states.items c.loop-rec.cells.states.items)) (take_whole c.args.recs.now c.loop-rec.rec-index past) c.loop-rec.invariant.calls
+
+pub returns-in-Err-clause-others : goal.returns-in-Err-clause-others
+returns-in-Err-clause-others g c = c.look_at-next.ensures.others ∙ c.loop-rec.invariant.others

@@ -268,3 +268,12 @@ returns-in-Err-told-clause-calls g c =
     let left = left_alone c.args.pass.seat.me.0 v.seat.me.0 c.leave.result.seat.me.0 _ _ made.visits c.leave.ensures.same in
     let call = subst (λ (z : Seat). Calls (seat_of c.args.pass.seat.me.0) z (AreSnapshot {Z = Global} c.args.pass.seat.me.0.seen.base.site (Err c.in-Err-told.no_memory))) (sym left) (no_snapshot Global c.args.pass.seat.me.0.seen.base.site (seat_of c.args.pass.seat.me.0) st.legal c.in-Err-told.no_memory) in
     call
+
+pub returns-in-Err-clause-others : goal.returns-in-Err-clause-others
+returns-in-Err-clause-others g c = ap (λ p. p.seat.me.0.others) (c.in-Err.ensures {u = tt}).back
+
+pub returns-in-Ok-told-clause-others : goal.returns-in-Ok-told-clause-others
+returns-in-Ok-told-clause-others g c = c.look_read.ensures.others ∙ c.hub-held.ensures.others ∙ (c.in-Ok.ensures {u = tt}).others
+
+pub returns-in-Err-told-clause-others : goal.returns-in-Err-told-clause-others
+returns-in-Err-told-clause-others g c = c.leave.ensures.others ∙ (c.in-Ok.ensures {u = tt}).others

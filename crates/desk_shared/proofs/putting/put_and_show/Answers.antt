@@ -313,3 +313,12 @@ returns-clause-calls g c =
     let call = behind (seat_of c.args.pass.seat.me.0) (seat_of h.seat.me.0) (seat_of t) b.others _
     (entry_calls s e.states.items d.states.items _ _ c.args.actions.items looks c.args.moment entry d.before.items done found (seat_of h.seat.me.0) (seat_of t) 0 (Err c.in-Err-entered.answer) (subst (λ (z : Result ℕ PutAnswer). Calls (seat_of h.seat.me.0) (seat_of t) (AreEntered entry looks found 0 z)) c.in-Err-entered.is entered)) in
     shown_not s c.args.channel c.args.moment c.args.actions.items found (seat_of c.args.pass.seat.me.0) (seat_of t) c.in-Err-entered.answer call
+
+pub returns-in_default-draft_shown-clause-others : goal.returns-in_default-draft_shown-clause-others
+returns-in_default-draft_shown-clause-others g c = c.leave.ensures.others ∙ (c.in-Ok-visit_these.ensures {u = tt}).others
+
+pub returns-in-Ok-entered-clause-others : goal.returns-in-Ok-entered-clause-others
+returns-in-Ok-entered-clause-others g c = c.enter-pass.ensures.others ∙ c.hub-held.ensures.others ∙ (c.in-Ok-visit_these.ensures {u = tt}).others
+
+pub returns-clause-others : goal.returns-clause-others
+returns-clause-others g c = c.enter-pass.ensures.others ∙ c.hub-held.ensures.others ∙ (c.in-Ok-visit_these.ensures {u = tt}).others

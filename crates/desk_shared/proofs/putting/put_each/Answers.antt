@@ -17,6 +17,7 @@ use Rattle.desk_shared.proofs.putting.put_each.Goals as goal
 pub loop-action-init : goal.loop-action-init
 loop-action-init g c = record {
   stands = c.requires.stands;
+  others = refl;
   calls = none_so_far c.args.site.now c.args.moment (seat_of c.args.pass.seat.me.0) c.requires.stands.legal;
   ends = inl refl;
   count = refl;
@@ -104,6 +105,7 @@ loop-action-preserved g c =
     let t = seat_of c.put_entry-next.result.0.seat.me.0 in
     let entry = subst (λ (x : List (ℕ × Action) × Result ℕ PutAnswer). Calls m t (AreEntry c.args.site.now c.args.moment x.0 [] [] count x.1)) (λ i. ((c.in-Ok.ensures {u = tt}) i, c.in-Ok-entered.is i)) c.put_entry-next.ensures.calls in record {
       stands = c.put_entry-next.ensures.stands;
+      others = c.put_entry-next.ensures.others ∙ c.loop-action.invariant.others;
       calls = subst (λ (x : List (List (ℕ × Action)) × ℕ). Calls s t (AreSoFar c.args.site.now c.args.moment x.0 (count + 1) x.1)) (λ i. (sym (map-append alone done actions) i, sym c.first_of-first.ensures i))
           (more_so_far c.args.site.now c.args.moment (map alone done) count c.loop-action.first s m t c.loop-action.invariant.calls actions place entry);
       ends = entry_ends c.args.site.now c.args.moment actions count s m t place entry (subst (λ (r : Result ℕ PutAnswer). OnTold r (EndsAtItsMarks m t)) c.in-Ok-entered.is c.put_entry-next.ensures.ends);
@@ -127,3 +129,12 @@ returns-clause-calls g c =
 
 pub returns-clause-ends : goal.returns-clause-ends
 returns-clause-ends g c = c.loop-action.invariant.ends
+
+pub returns-in_default-clause-others : goal.returns-in_default-clause-others
+returns-in_default-clause-others g c = c.loop-action.invariant.others
+
+pub returns-in-Err-clause-others : goal.returns-in-Err-clause-others
+returns-in-Err-clause-others g c = c.put_entry-next.ensures.others ∙ c.loop-action.invariant.others
+
+pub returns-clause-others : goal.returns-clause-others
+returns-clause-others g c = c.loop-action.invariant.others

@@ -10,6 +10,7 @@ use Rattle.desk_shared.proofs.putting.put_each.Given as goal
 abbrev pub invariant-loop-action : goal.invariant-loop-action
 invariant-loop-action g l = record {
   stands : Stands l.hall.table.shared.table_id l.hall.count l.site l.cells.states.items (ports_there l.cells.ports.items) l.pass.seat.table_id l.pass.seat.me.0;
+  others : l.pass.seat.me.0.others ≡ l.fn.pass.seat.me.0.others;
   calls : Calls (seat_of l.fn.pass.seat.me.0) (seat_of l.pass.seat.me.0) (AreSoFar l.site l.moment (map (λ action. action ∷ []) l.yielded) l.count l.first);
   ends : EndsAtItsMarks (seat_of l.fn.pass.seat.me.0) (seat_of l.pass.seat.me.0);
   count : l.count ≡ length l.yielded;

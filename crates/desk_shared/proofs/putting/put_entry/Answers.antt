@@ -236,3 +236,9 @@ returns-clause-calls g c =
     let call = behind (seat_of c.args.pass.seat.me.0) (seat_of h.seat.me.0) (seat_of t) b.others _
     (entry_calls s e.states.items d.states.items _ _ c.args.actions.items [] c.args.moment entry d.before.items done [] (seat_of h.seat.me.0) (seat_of t) c.args.done c.enter.result.1 c.enter.ensures.calls) in
     call
+
+pub returns-in_default-draft-clause-others : goal.returns-in_default-draft-clause-others
+returns-in_default-draft-clause-others g c = c.leave.ensures.others ∙ (c.in-Ok-visit_these.ensures {u = tt}).others
+
+pub returns-clause-others : goal.returns-clause-others
+returns-clause-others g c = c.enter.ensures.others ∙ c.hub-held.ensures.others ∙ (c.in-Ok-visit_these.ensures {u = tt}).others

@@ -456,3 +456,15 @@ returns-in-Err-NoMemory-clause-calls g c =
     let told : IsNotBegunNow (seat_of h.seat.me.0) (seat_of u) NoMemory answers.NoMemory = (refl, unmarked h.seat.me.0 c.look.result.seat.me.0 c.look.ensures.number c.look.ensures.seen c.look.ensures.log) in
     let call = unbegun c.args.pass.seat.me.0 h.seat.me.0 u h.hub _ _ w.behind c.begin-begun.new.subs stand NoMemory (answers.NoMemory) told c.args.channel c.args.mask.now c.args.size starts_not in
     call
+
+pub returns-in-Err-clause-others : goal.returns-in-Err-clause-others
+returns-in-Err-clause-others g c = ap (λ p. p.seat.me.0.others) (c.in-Err.ensures {u = tt}).back
+
+pub returns-in-Ok-begun-clause-others : goal.returns-in-Ok-begun-clause-others
+returns-in-Ok-begun-clause-others g c = c.look_begun-pass.ensures.others ∙ c.hub-held.ensures.others ∙ (c.in-Ok-visit_channel.ensures {u = tt}).others
+
+pub returns-in-Err-TooMany-clause-others : goal.returns-in-Err-TooMany-clause-others
+returns-in-Err-TooMany-clause-others g c = c.look_crowded-pass.ensures.others ∙ c.hub-held.ensures.others ∙ (c.in-Ok-visit_channel.ensures {u = tt}).others
+
+pub returns-in-Err-NoMemory-clause-others : goal.returns-in-Err-NoMemory-clause-others
+returns-in-Err-NoMemory-clause-others g c = c.look.ensures.others ∙ c.hub-held.ensures.others ∙ (c.in-Ok-visit_channel.ensures {u = tt}).others
