@@ -1,0 +1,124 @@
+// A port is driven by the desk that puts to its record.
+ghost use Rattle.std.specs.Prelude.{◌≡◌, ◌<◌};
+
+use crate::halls::{opened, with_desk_here};
+use crate::scenes::{Answer, Doing, entered, got, int, put_number};
+use desk_api::{Desk, PvValue};
+use desk_core::discard;
+use desk_shared::{Hall, LentPort, Pass, Records};
+use pva_outside::MemoryPort;
+use std::alloc::Global;
+use std::sync::Wait;
+use std::test::Fail;
+
+/// A number, and the severity and status of its alarm.
+type Row = [i32; 3];
+
+/// What a record's structure shows.
+fn row(value: &PvValue) -> Option<Row> {
+    let members = value.members();
+    let alarm = members.get(1)?.members();
+    Some([int(members.get(0))?, int(alarm.get(0))?, int(alarm.get(1))?])
+}
+
+/// Whether the alarm of a record's structure has this message.
+fn has_message(value: &PvValue, message: &str) -> bool {
+    let Some(alarm) = value.members().get(1) else {
+        return false;
+    };
+    match alarm.members().get(2) {
+        Some(PvValue::Text(text)) => text.as_str() == message,
+        _ => false,
+    }
+}
+
+/// Puts this number to A, and gets A, whose alarm is to have this message.
+#[derive(Drop)]
+struct PutAndGet {
+    number: i32,
+    message: &'static str,
+}
+
+impl Doing for PutAndGet {
+    type Told = (Answer, Option<(Row, bool)>);
+
+    fn with<D: Desk>(&self, alloc: Global, desk: &mut D) -> Self::Told {
+        let answer = put_number(alloc, desk, "A", self.number);
+        let Some(value) = got(alloc, desk, "A", None) else {
+            return (answer, None);
+        };
+        let shown = row(&value);
+        let message = has_message(&value, self.message);
+        discard(value);
+        match shown {
+            Some(row) => (answer, Some((row, message))),
+            None => (answer, None),
+        }
+    }
+}
+
+/// How often the port of A was driven, and whether this was the last text. The pass comes back, but where memory ran out.
+fn driven<R: Wait>(
+    rt: &R,
+    alloc: Global,
+    hall: &Hall<Records<MemoryPort>>,
+    pass: Pass<Records<MemoryPort>>,
+    text: &str,
+) -> (Pass<Records<MemoryPort>>, Option<(u64, bool)>)
+    requires own { pass.seat.table_id ≡ hall.now.table.shared.table_id }
+    requires some { 0 < hall.now.count }
+    ensures own { result.0.seat.table_id ≡ pass.seat.table_id }
+    ensures base { result.0.seat.me.0.seen.base ≡ pass.seat.me.0.seen.base }
+{
+    let Ok(first) = vec![in alloc; 0u32] else {
+        return (pass, None);
+    };
+    let visit = match hall.visit(rt, alloc, pass, first) {
+        Ok(visit) => visit,
+        Err((pass, _)) => return (pass, None),
+    };
+    let told = match &visit.cell(0).port {
+        LentPort::Here(port) => Some((port.drives(), port.last() == text.as_bytes())),
+        LentPort::Away => None,
+    };
+    (hall.leave(visit), told)
+}
+
+/// What a put to a record with a port comes to: its answer, what the record shows, whether its alarm has the message; how often its port
+/// was driven, and whether with the number last.
+type Put = (Option<(Answer, Option<(Row, bool)>)>, Option<(u64, bool)>);
+
+/// Puts 7 and 8 to A, whose port fails once.
+fn put_twice<R: Wait>(rt: &R, alloc: Global) -> Option<[Put; 2]> {
+    let Some((site, hall, pass)) = opened(alloc, 1_000_000) else {
+        return None;
+    };
+    if site.records() == 0 {
+        return None;
+    }
+    let first = PutAndGet {
+        number: 7,
+        message: "WRITE",
+    };
+    let (pass, seven) = with_desk_here(rt, alloc, &hall, &site, pass, &first);
+    let (pass, once) = driven(rt, alloc, &hall, pass, "7");
+    let second = PutAndGet {
+        number: 8,
+        message: "",
+    };
+    let (pass, eight) = with_desk_here(rt, alloc, &hall, &site, pass, &second);
+    let (_pass, twice) = driven(rt, alloc, &hall, pass, "8");
+    Some([(seven, once), (eight, twice)])
+}
+
+#[test]
+fn a_port_is_driven_with_each_put_and_its_fault_is_an_alarm(rt: HostRuntime) -> Result<(), Fail> {
+    let told = put_twice(&rt, rt.alloc());
+    let seven = Some((entered(0), Some(([7, 3, 2], true))));
+    let eight = Some((entered(1), Some(([8, 0, 0], true))));
+    assert_eq!(rt;
+        told,
+        Some([(seven, Some((1, true))), (eight, Some((2, true)))])
+    );
+    Ok(())
+}
