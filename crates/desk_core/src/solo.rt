@@ -27,7 +27,7 @@ use desk_api::{
     looks_show_states,
 };
 use desk_hub::{
-    NotBegun, Subscriptions, a_new_desk_keeps, begin, end, logs_tell_slots, marks_keep, pop,
+    NotBegun, Subscriptions, a_new_desk_keeps, begin, end, logs_tell_slots, marks_keep, pop, ready,
 };
 use journal_core::History;
 use pva_outside::Port;
@@ -520,16 +520,12 @@ impl<P: Port> Desk for SoloDesk<P> {
             return Err(SubAnswer::NoMemory);
         };
         marks_keep();
+        let site = &self.terms.site;
         let cells = self.cells.states.as_slice();
-        match begin(
-            alloc,
-            &self.terms.site,
-            &mut self.subs,
-            channel,
-            requested,
-            cells,
-            size,
-        ) {
+        let Ok(watching) = ready(alloc, site, channel, requested, cells, size) else {
+            return Err(SubAnswer::NoMemory);
+        };
+        match begin(alloc, site, &mut self.subs, watching) {
             Ok(slot) => {
                 note_begun::<Brand>(&mut self.log, slot, channel, mask, size);
                 Ok(Sub { slot })

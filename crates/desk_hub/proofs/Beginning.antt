@@ -13,7 +13,7 @@ use Rattle.mon_shown.specs.Answers.{IsCause}
 use Rattle.mon_shown.specs.Channels.{watch, SeenAlike}
 use Rattle.mon_shown.specs.Keeping.{Begins}
 use Rattle.mon_shown.specs.Rolls.{holder_with, holder, is_held, alive, IsLeastFree, Follows}
-use Rattle.mon_shown.specs.Slots.{slot_in, is_filled, Stand, SlotBegins, OtherSlotsStay, SlotsStay, IsFirstFree, IsFull}
+use Rattle.mon_shown.specs.Slots.{slot_in, is_filled, Stand, OtherSlotsStay, SlotsStay, IsFirstFree, IsFull}
 use Rattle.mon_shown.specs.declared.roll.RollItem.TheVariants as items
 use Rattle.mon_shown.specs.declared.slots.NotBegun.{NotBegun}
 use Rattle.mon_shown.specs.declared.slots.NotBegun.TheVariants.{TooMany, NoMemory}
@@ -29,7 +29,7 @@ use Rattle.desk_api.specs.declared.history.SiteData.{SiteData}
 use Rattle.desk_api.specs.declared.mark.Mark.{Mark}
 use Rattle.desk_api.specs.declared.mark.Mark.TheVariants.{Begun}
 use Rattle.desk_hub.specs.Seats.{Subs, now, only, is_holder, own_slot, KeepsLiving, KeepsSlot, SlotsStand, KeepsSeat}
-use Rattle.desk_hub.specs.Steps.{KeepsAll, Rolls, Starts, StartsNot}
+use Rattle.desk_hub.specs.Steps.{KeepsAll, Rolls, StartsAsItBegins, StartsNot}
 use Rattle.desk_hub.proofs.Logs.{at_each, if_here, if_else, living_more, free_of, lives_where_held}
 use Rattle.desk_hub.proofs.Living.{within, living_begun}
 use Rattle.desk_hub.proofs.Rolling.{base_same, now_same, item_there, before_item, holder_now, stand_rolled, slot_else, seat_rolled}
@@ -125,25 +125,19 @@ module _ (law : BeginsFollow) (subs more : Subs) (slot size : ℕ) (channel : Ch
     },
   )
 
-pub starts_all : BeginsFollow → (site : SiteData) (subs more : Subs) (slot size : ℕ) (channel : Channel) (mask : FinSet nat_cmp) (states : List RecState) → (1 ≤ size) × (size ≤ 64)
-    → IsFirstFree subs slot → slot < 1024 → SlotBegins (may_be_watched site) (channel_view site) channel mask size states (slot_in more slot) → OtherSlotsStay subs slot more
-    → Stand (may_be_watched site) (channel_view site) more → Starts site subs slot channel mask size states more
-starts_all law site subs more slot size channel mask states some first few begins others stand h k seat log is r alike t = step (slot_in more slot) refl begins
-  where
-    step : (o : Option (Watching Channel)) → slot_in more slot ≡ o → SlotBegins (may_be_watched site) (channel_view site) channel mask size states o
-        → KeepsAll h k subs more seat log (Begun (now h) (length (roll h)) slot channel mask size ∷ []) × IsTrueBegun k seat log (now h) (length (roll h)) slot channel mask size
-    step None there b = absurd b
-    step (Some x) there b = begun_all law subs more slot size channel mask states some first few others h k seat r (subst (λ (z : SiteData). Stand (may_be_watched z) (channel_view z) more) (sym is) stand)
-        (subst (λ (z : SiteData). SeenAlike (watch (channel_view z channel) mask) mask states (state_at h (now h))) (sym is) alike) x there
-        (subst (λ (z : SiteData). Begins (may_be_watched z) (channel_view z) channel mask size states x) (sym is) b) log t
+pub starts_all : BeginsFollow → (site : SiteData) (subs more : Subs) (slot : ℕ) (x : Watching Channel) → IsFirstFree subs slot → slot < 1024 → slot_in more slot ≡ Some x → OtherSlotsStay subs slot more
+    → Stand (may_be_watched site) (channel_view site) more → StartsAsItBegins site subs slot x more
+starts_all law site subs more slot x first few there others stand channel mask size states some begins h k seat log is r alike t =
+    begun_all law subs more slot size channel mask states some first few others h k seat r (subst (λ (z : SiteData). Stand (may_be_watched z) (channel_view z) more) (sym is) stand)
+    (subst (λ (z : SiteData). SeenAlike (watch (channel_view z channel) mask) mask states (state_at h (now h))) (sym is) alike) x there
+    (subst (λ (z : SiteData). Begins (may_be_watched z) (channel_view z) channel mask size states x) (sym is) begins) log t
 
 -- what a call of the subscriptions answers
 
-pub started : BeginsFollow → (site : SiteData) (subs more : Subs) (size : ℕ) (channel : Channel) (mask : FinSet nat_cmp) (states : List RecState) → (1 ≤ size) × (size ≤ 64) → Stand (may_be_watched site) (channel_view site) more
-    → (r : Result ℕ NotBegun) → IfOk r (IsFirstFree subs) → IfOk r (λ slot. slot < 1024) → IfOk r (λ slot. SlotBegins (may_be_watched site) (channel_view site) channel mask size states (slot_in more slot))
-    → IfOk r (λ slot. OtherSlotsStay subs slot more) → IfOk r (λ slot. Starts site subs slot channel mask size states more)
-started law site subs more size channel mask states some stand (Ok slot) first few begins others = starts_all law site subs more slot size channel mask states some first few begins others stand
-started law site subs more size channel mask states some stand (Err e) first few begins others = tt
+pub started : BeginsFollow → (site : SiteData) (subs more : Subs) (x : Watching Channel) → Stand (may_be_watched site) (channel_view site) more → (r : Result ℕ NotBegun) → IfOk r (IsFirstFree subs) → IfOk r (λ slot. slot < 1024)
+    → IfOk r (λ slot. slot_in more slot ≡ Some x) → IfOk r (λ slot. OtherSlotsStay subs slot more) → IfOk r (λ slot. StartsAsItBegins site subs slot x more)
+started law site subs more x stand (Ok slot) first few there others = starts_all law site subs more slot x first few there others stand
+started law site subs more x stand (Err e) first few there others = tt
 
 pub not_started : BeginsFollow → (subs more : Subs) (r : Result ℕ NotBegun) → OnErr r (SlotsStay subs more) → IfErr r (IsCause subs) → IfErr r (StartsNot subs more)
 not_started law subs more (Ok slot) stay cause = tt

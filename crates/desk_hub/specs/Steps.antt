@@ -1,5 +1,5 @@
 -- What a step of one seat does for all seats.
-use Rattle.std.specs.Prelude.{◌≡◌, ◌≢◌, ℕ, true, List, [], ◌∷◌, ◌++◌, length, Option, Some}
+use Rattle.std.specs.Prelude.{◌≡◌, ◌≢◌, ◌≤◌, ℕ, true, List, [], ◌∷◌, ◌++◌, length, Option, Some}
 use Rattle.std.specs.FinSet.{FinSet}
 use Rattle.std.specs.Ordering.{nat_cmp}
 use Rattle.histories.specs.History.{Begins as GoesOn}
@@ -9,7 +9,7 @@ use Rattle.journal_core.specs.declared.entry.Entry.{Entry}
 use Rattle.mon_queue.specs.Shown.{anew}
 use Rattle.mon_queue.specs.declared.update.Update.{Update}
 use Rattle.mon_shown.specs.Channels.{watch, SeenAlike}
-use Rattle.mon_shown.specs.Keeping.{watch_of}
+use Rattle.mon_shown.specs.Keeping.{watch_of, Begins}
 use Rattle.mon_shown.specs.Rolls.{alive}
 use Rattle.mon_shown.specs.Slots.{slot_in, SlotsStay}
 use Rattle.mon_shown.specs.declared.roll.RollItem.TheVariants as items
@@ -19,7 +19,7 @@ use Rattle.mon_shown.specs.declared.watching.Watching.{Watching}
 use Rattle.desk_api.specs.History.{History, Item, commits, roll, state_at}
 use Rattle.desk_api.specs.Living.{lives}
 use Rattle.desk_api.specs.Marks.{IsTrueBegun, IsTruePopped, IsTrueDropped}
-use Rattle.desk_api.specs.Triggers.{channel_view}
+use Rattle.desk_api.specs.Triggers.{channel_view, may_be_watched}
 use Rattle.desk_api.specs.declared.channel.Channel.{Channel}
 use Rattle.desk_api.specs.declared.history.SiteData.{SiteData}
 use Rattle.desk_api.specs.declared.mark.Mark.{Mark}
@@ -62,6 +62,13 @@ Starts site subs slot channel mask size states more =
     → SeenAlike (watch (channel_view site channel) mask) mask states (state_at h (now h)) → KeepsSeat h subs seat log
     → KeepsAll h k subs more seat log (Begun (now h) (length (roll h)) slot channel mask size ∷ [])
     × IsTrueBegun k seat log (now h) (length (roll h)) slot channel mask size
+
+-- One begins in this slot, with whatever channel, leaves and size it begins, and in whatever states.
+abbrev pub StartsAsItBegins : SiteData → Subs → ℕ → Watching Channel → Subs → Type 0
+StartsAsItBegins site subs slot x more =
+    (channel : Channel) (mask : FinSet nat_cmp) (size : ℕ) (states : List RecState) → (1 ≤ size) × (size ≤ 64)
+    → Begins (may_be_watched site) (channel_view site) channel mask size states x
+    → Starts site subs slot channel mask size states more
 
 -- None begins, and nothing changes: because 1,024 live, or memory ran out.
 abbrev pub StartsNot : Subs → Subs → NotBegun → Type 0

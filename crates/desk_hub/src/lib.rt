@@ -6,5 +6,5 @@ mod steps;
 
 pub use desk_api::{Channel, Site};
 pub use laws::{a_new_desk_keeps, logs_tell_slots, marks_keep};
-pub use mon_shown::{NotBegun, Readied, Subscriptions};
-pub use steps::{begin, end, make_ready, pop, post};
+pub use mon_shown::{NotBegun, Readied, Subscriptions, Watching};
+pub use steps::{begin, end, make_ready, pop, post, ready};

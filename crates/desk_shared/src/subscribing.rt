@@ -15,14 +15,14 @@ use crate::records::Records;
 use crate::visiting::{opening_is_valid, visit_channel};
 use desk_api::{Channel, Site, Sub, SubAnswer, Update, footprints_rise, looks_show_states};
 use desk_core::{Cells, MOST, Port, discard, groups_over_records, names_and_configs};
-use desk_hub::{NotBegun, begin, end, logs_tell_slots, pop};
+use desk_hub::{NotBegun, begin, end, logs_tell_slots, pop, ready};
 use hall_locks::{Hall, NoMark, Pass};
 use pvd_type::BitSet;
 use std::alloc::Global;
 use std::marker::Brand;
 use std::sync::Wait;
 
-/// Begins a subscription to the marked leaves of what the channel shows.
+/// Begins a subscription to the marked leaves of what the channel shows. What it is shown, and its queue, are made before the hub is taken.
 pub(crate) fn subscribe_in<R: Wait, P: Port + Drop>(
     rt: &R,
     alloc: Global,
@@ -60,12 +60,15 @@ pub(crate) fn subscribe_in<R: Wait, P: Port + Drop>(
         }
     };
     exchange(&mut visit.cells, site.footprint_of(channel), cells);
+    let states = cells.states.as_slice();
+    let first = ready(alloc, site, channel, requested, states, size);
+    exchange(&mut visit.cells, site.footprint_of(channel), cells);
+    let Ok(watching) = first else {
+        return (hall.leave(visit), Err(SubAnswer::NoMemory));
+    };
     let mut held = hall.hub(rt, visit);
     let hub = &mut held.hub;
-    let states = cells.states.as_slice();
-    let begun = begin(alloc, site, &mut hub.subs, channel, requested, states, size);
-    exchange(&mut held.cells, site.footprint_of(channel), cells);
-    match begun {
+    match begin(alloc, site, &mut hub.subs, watching) {
         Ok(slot) => {
             let pass = look_begun::<P, Brand>(hall, held, slot, channel, mask, size);
             (pass, Ok(Sub { slot }))

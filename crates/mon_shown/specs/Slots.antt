@@ -1,13 +1,11 @@
 -- The slots of the living subscriptions, and what is done with all of them.
 use Rattle.std.specs.Prelude.{◌≡◌, ◌==◌, ◌&&◌, ◌<◌, ℕ, Bool, true, false, List, [], ◌∷◌, Option, None, Some, is_some, is_none, slice_index_or, if◌then◌else◌}
-use Rattle.std.specs.Ordering.{nat_cmp}
-use Rattle.std.specs.FinSet.{FinSet}
 use Rattle.rec_kinds.specs.declared.state.RecState.{RecState}
 use Rattle.journal_core.specs.declared.entry.Entry.{Entry}
 use Rattle.mon_queue.specs.Unread.{type_of}
 use Rattle.mon_queue.specs.declared.update.Update.{Update}
 use Rattle.mon_shown.specs.Channels.{ChannelView}
-use Rattle.mon_shown.specs.Keeping.{IsOf, IsReady, MayTake, MayChange, Took, Begins, Popped}
+use Rattle.mon_shown.specs.Keeping.{IsOf, IsReady, MayTake, MayChange, Took, Popped}
 use Rattle.mon_shown.specs.Noting.{names, wants}
 use Rattle.mon_shown.specs.Readies.{found_for}
 use Rattle.mon_shown.specs.declared.watching.Watching.{Watching}
@@ -77,10 +75,6 @@ module _ {C : Type 0} where
   SlotPopped None u y = (u ≡ None) × (y ≡ None)
   SlotPopped (Some x) u None = ⊥
   SlotPopped (Some x) u (Some y) = Popped x u y
-
-  abbrev pub SlotBegins : (C → Bool) → (C → ChannelView) → C → FinSet nat_cmp → ℕ → List RecState → Option (Watching C) → Type 0
-  SlotBegins has shows channel mask size states None = ⊥
-  SlotBegins has shows channel mask size states (Some x) = Begins has shows channel mask size states x
 
   -- the least slot that is free
   pub record IsFirstFree (subs : Subscriptions C) (slot : ℕ) : Type 0 where

@@ -1,11 +1,11 @@
 // Subscriptions that begin, are read, and end.
 ghost use Rattle.std.specs.Prelude.{◌≡◌, ◌≢◌, ◌==◌, ◌<◌, ◌≤◌, ◌&&◌, ◌||◌, ℕ, Bool, true, false, is_some, None, Some, length, IfOk, IfErr, IfSome, OnOk, OnErr};
 ghost use Rattle.std.specs.FinSet.{empty};
-ghost use Rattle.mon_queue.specs.Told.{are_leaves, IsUpdateOf};
+ghost use Rattle.mon_queue.specs.Told.{IsUpdateOf};
 ghost use Rattle.mon_shown.specs.Channels.{ChannelView, is_one_of};
 ghost use Rattle.mon_shown.specs.Keeping.{tree_of, IsOf};
 ghost use Rattle.mon_shown.specs.Noting.{names, wants, OthersStay};
-ghost use Rattle.mon_shown.specs.Slots.{slot_of, slot_in, is_filled, Stand, OtherSlotsStay, SlotsStay, SlotPopped, SlotBegins, IsFirstFree};
+ghost use Rattle.mon_shown.specs.Slots.{slot_of, slot_in, is_filled, Stand, OtherSlotsStay, SlotsStay, SlotPopped, IsFirstFree};
 ghost use Rattle.mon_shown.specs.Answers.{IsCause};
 
 use crate::index::Index;
@@ -14,7 +14,6 @@ use crate::views::Views;
 use crate::watching::Watching;
 use mon_queue::Update;
 use pvd_type::{BitSet, NoMemory};
-use rec_kinds::RecState;
 use std::alloc::Global;
 
 /// Why a subscription didn't begin.
@@ -38,25 +37,18 @@ impl<C: Copy> Subscriptions<C> {
         }
     }
 
-    /// Begins a subscription to a channel in the least free slot, where the records have these states. What it is shown is its
-    /// first post. Where it doesn't begin, nothing changes.
-    pub fn subscribe<V: Views<C>>(
+    /// Puts a subscription that begins into the least free slot. Where that fails it is let go, and nothing changes.
+    pub fn add<V: Views<C>>(
         &mut self,
         alloc: Global,
         views: &V,
-        channel: C,
-        requested: BitSet,
-        states: &[RecState],
-        size: u32,
+        watching: Watching<C>,
     ) -> Result<u32, NotBegun>
         requires stand { Stand (V.has views.now) (V.shows views.now) self.old }
-        requires there { V.has views.now channel ≡ true }
-        requires leaves { are_leaves (V.shows views.now channel).ty requested ≡ true }
-        requires ready { V.ready views.now channel requested states.now }
-        requires size { (1 ≤ size) × (size ≤ 64) }
+        requires is_of { IsOf (V.has views.now) (V.shows views.now) watching }
         ensures least { IfOk result (IsFirstFree self.old) }
         ensures few { IfOk result (λ slot. slot < 1024) }
-        ensures begins { IfOk result (λ slot. SlotBegins (V.has views.now) (V.shows views.now) channel requested size states.now (slot_in self.new slot)) }
+        ensures there { IfOk result (λ slot. slot_in self.new slot ≡ Some watching) }
         ensures others { IfOk result (λ slot. OtherSlotsStay self.old slot self.new) }
         ensures err { OnErr result (SlotsStay self.old self.new) }
         ensures cause { IfErr result (IsCause self.old) }
@@ -66,9 +58,6 @@ impl<C: Copy> Subscriptions<C> {
         if slot >= LIMIT {
             return Err(NotBegun::TooMany);
         }
-        let Ok(watching) = Watching::begin(alloc, views, channel, requested, states, size) else {
-            return Err(NotBegun::NoMemory);
-        };
         match self.fill(alloc, views, slot as u16, watching) {
             Ok(()) => Ok(slot as u32),
             Err(_) => Err(NotBegun::NoMemory),

@@ -6,7 +6,7 @@ ghost use Rattle.mon_shown.specs.Slots.{Stand};
 ghost use Rattle.mon_shown.specs.Tags.{shown_tag, tags_shown};
 ghost use Rattle.pvd_value.specs.View.{view};
 
-use crate::{NoMemory, NotBegun, Subscriptions, Views};
+use crate::{NoMemory, NotBegun, Subscriptions, Views, Watching};
 use journal_core::{Entry, Few, Moment};
 use mon_queue::Update;
 use pvd_type::{BitSet, Member, Name, Node, PvType, Scalar, Shape};
@@ -176,7 +176,8 @@ fn subscribe(
 {
     let mut mask = tags.ty.leaves(alloc)?;
     mask.meet(&bits(alloc, numbers)?);
-    match subs.subscribe(alloc, tags, 0, mask, states, size) {
+    let watching = Watching::begin(alloc, tags, 0, mask, states, size)?;
+    match subs.add(alloc, tags, watching) {
         Ok(slot) => Ok(Some(slot)),
         Err(NotBegun::TooMany) => Ok(None),
         Err(NotBegun::NoMemory) => Err(NoMemory),
