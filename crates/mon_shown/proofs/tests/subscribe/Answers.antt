@@ -6,8 +6,8 @@ use Rattle.mon_queue.specs.Told.{are_leaves}
 use Rattle.mon_queue.proofs.Rings.{both_leaves, all_leaves}
 use Rattle.mon_shown.proofs.tests.subscribe.Goals as goal
 
-pub begin-watching-requires-clause-leaves : goal.subscribe-requires-clause-leaves
-begin-watching-requires-clause-leaves c =
+pub begin-requires-clause-leaves : goal.begin-requires-clause-leaves
+begin-requires-clause-leaves c =
     let t = c.args.tags.now.ty in
     let others = c.in_ok-bits.field-0 in
     ap (are_leaves t) (c.meet.ensures ∙ ap (λ (s : FinSet nat_cmp). intersection s others) (c.in_ok-mask.ensures {u = tt}))
