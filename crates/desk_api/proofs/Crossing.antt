@@ -5,7 +5,7 @@ use Rattle.std.proofs.MapsCrossing as maps
 use Rattle.indexmap.proofs.map.IndexMap.TheSendSync as index_map
 use Rattle.indexmap.proofs.set.IndexSet.TheSendSync as index_set
 use Rattle.pvd_type.proofs.Crossing.{type_field_send, type_field_sync}
-use Rattle.group_view.proofs.Crossing.{group_send, group_sync}
+use Rattle.desk_api.proofs.GroupsCrossing.{group_send, group_sync}
 use Rattle.pvd_type.proofs.set.BitSet.TheSendSync as set
 use Rattle.rec_kinds.proofs.config.RecConfig.TheSendSync as config
 use Rattle.desk_api.specs.contracts.site.Site as Site

@@ -16,4 +16,5 @@ pub mod Telling
 pub mod Lasting
 pub mod Folding
 pub mod Staying
+pub mod GroupsCrossing
 pub mod Crossing

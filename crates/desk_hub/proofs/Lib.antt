@@ -7,3 +7,4 @@ pub mod Beginning
 pub mod Ending
 pub mod Posting
 pub mod Props
+pub mod SubscriptionsCrossing

@@ -8,7 +8,7 @@ use Rattle.desk_api.specs.contracts.channel.Channel as Channel
 use Rattle.desk_api.specs.contracts.site.Site as Site
 use Rattle.journal_core.proofs.history.History.TheSendSync as history
 use Rattle.journal_core.specs.contracts.history.History as History
-use Rattle.mon_shown.proofs.Crossing.{subscriptions_send}
+use Rattle.desk_hub.proofs.SubscriptionsCrossing.{subscriptions_send}
 use Rattle.desk_shared.specs.contracts.books.Books as Books
 
 -- The site as it was takes no bytes, so that it crosses whatever a site is.

@@ -17,4 +17,3 @@ pub mod Heads
 pub mod Ready
 pub mod Keeping
 pub mod Putting
-pub mod Crossing

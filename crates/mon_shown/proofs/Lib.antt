@@ -4,4 +4,3 @@ mod Least
 mod Listing
 mod Standing
 mod Taking
-pub mod Crossing
