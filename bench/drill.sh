@@ -1,13 +1,15 @@
 #!/usr/bin/env bash
 # Serves the drill's sixteen records and four groups from a file to a file: a client as that of `--drill`, with a monitor of each group and
 # so many thousands of puts of drawn numbers in place of ten. Shows messages per second; and of `--drill` itself, which serves its 10,026
-# messages in memory, those of as many runs one after another, less the starts of the program. It is no part of the gate.
+# messages in memory, those of as many runs one after another, less the starts of the program. Each is the best of thirty runs of a
+# tenth of a second: a virtual machine of which others take their share seldom has a whole second to itself. It is no part of the gate.
 # Usage: bench/drill.sh [THOUSANDS] [NUMBER]
 set -euo pipefail
 cd "$(dirname "$0")/.."
 . bench/serving.sh
-tens=$((${1:-1000} / 10))
+tens=$((${1:-100} / 10))
 first=${2:-7}
+runs=30
 
 for number in {0..15}; do
     letters=abcd

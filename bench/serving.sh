@@ -41,12 +41,12 @@ make_input() {
     { opening "$1" "${4:-X}"; for _ in $(seq "$2"); do cat "$thousand"; done; } > "$work/input"
 }
 
-# The least processor time of three runs of a command over the input, in nanoseconds. Other work on the machine disturbs it less
-# than the time that passes.
+# The least processor time of so many runs of a command over the input (three unless `runs` says more), in nanoseconds. Other
+# work on the machine disturbs it less than the time that passes.
 best() {
     local least=0 spent
     local TIMEFORMAT='%U %S'
-    for _ in 1 2 3; do
+    for _ in $(seq "${runs:-3}"); do
         spent=$({ time "$@" < "$work/input" > "$work/output"; } 2>&1 | awk '{ printf "%.0f", ($1 + $2) * 1e9 }')
         if [ "$least" -eq 0 ] || [ "$spent" -lt "$least" ]; then least=$spent; fi
     done
