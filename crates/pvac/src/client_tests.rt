@@ -6,7 +6,7 @@ use std::collections::VecDeque;
 use std::test::Fail;
 
 /// The network in memory: one server, whose links end at once, and datagrams that bring nothing.
-fn network(alloc: Global) -> Result<Network<MemoryDatagrams, MemoryDialer>, AllocError> {
+fn make_network(alloc: Global) -> Result<Network<MemoryDatagrams, MemoryDialer>, AllocError> {
     let mut servers = Vec::new(alloc);
     servers.push(MemoryServer {
         input: Vec::new(alloc),
@@ -59,15 +59,21 @@ static ROWS: &[Row] = &[
     (&["--macros", "A", "get", "X"], 2, 0, 0),
 ];
 
+/// Runs these words, and answers the status, how often it dials and how many datagrams it sends or waits for.
+fn ran(alloc: Global, words: &[&str]) -> Result<(u8, usize, usize), AllocError> {
+    let mut world = world(alloc, &[], &[], &[])?;
+    let mut network = make_network(alloc)?;
+    let status = run(alloc, words, &mut world, &mut network);
+    let dials = network.dialer.dials().len();
+    let calls = network.datagrams.traffic().len();
+    Ok((status, dials, calls))
+}
+
 #[test]
 fn words_say_where_the_server_is(rt: HostRuntime) -> Result<(), Fail> {
     let alloc = rt.alloc();
     for (words, status, dials, calls) in ROWS {
-        let mut world = world(alloc, &[], &[], &[])?;
-        let mut network = network(alloc)?;
-        assert_eq!(rt; run(alloc, words, &mut world, &mut network), *status);
-        assert_eq!(rt; network.dialer.dials().len(), *dials);
-        assert_eq!(rt; network.datagrams.traffic().len(), *calls);
+        assert_eq!(rt; ran(alloc, words)?, (*status, *dials, *calls), "{words:?}");
     }
     Ok(())
 }

@@ -1,16 +1,12 @@
-ghost use Rattle.std.specs.Prelude.{◌≡◌, ◌≤◌, length, vec_len, IfOk};
-ghost use Rattle.pvac.specs.Networking.{CanSeek};
+ghost use Rattle.std.specs.Prelude.{◌≤◌, vec_len};
 
-use crate::networking::{Route, run_over_network};
-use crate::outcome::{Outcome, Patience, status_of_outcome};
-use crate::stop::Ending;
-use cli_session::{Ask, Operation};
+use crate::client::{Network, run};
+use crate::tests::{Memory, world};
 use pva_outside::{
-    Datagram, DialStep, Dialer, Link, MemoryDatagrams, MemoryDialer, MemoryServer, MemorySink,
-    MemoryTraffic, NoMemory as OutsideNoMemory, Peer, ReadStep, Turn, WriteStep, raise, raise_by,
+    Datagram, DialStep, Dialer, Link, MemoryDatagrams, MemoryDialer, MemoryServer, MemoryTraffic,
+    NoMemory, Peer, ReadStep, Turn, World, WriteStep, raise, raise_by,
 };
-use pvd_type::{Name, NoMemory};
-use std::alloc::Global;
+use std::alloc::{AllocError, Global};
 use std::collections::VecDeque;
 use std::test::Fail;
 
@@ -32,15 +28,6 @@ const SERVER: Peer = Peer {
     port: 5_075,
 };
 
-const BY_SERVER: Route = Route::Known(SERVER);
-
-const BY_SEARCH: Route = Route::Sought(SEARCHED, 3);
-
-const PATIENCE: Patience = Patience {
-    idle: 200,
-    turns: 1 << 62,
-};
-
 /// A response that the channel is at the sender's address, at the port 5075.
 const RESPONSE: [u8; 53] = [
     0xCA, 2, 0x40, 4, 0x2D, 0, 0, 0, 0, 0, 0, 0, 0, 0, 0, 0, 0, 0, 0, 0, 0, 0, 0, 0, 0, 0, 0, 0, 0,
@@ -59,6 +46,13 @@ const GREETING: &[u8] =
 const VALIDATED: &[u8] = b"\xCA\x02\x40\x09\x01\x00\x00\x00\xFF";
 
 const CREATED: &[u8] = b"\xCA\x02\x40\x07\x09\x00\x00\x00\x01\x00\x00\x00\x00\x00\x00\x00\xFF";
+
+/// The server has no such channel.
+const REFUSED: &[u8] =
+    b"\xCA\x02\x40\x07\x1C\x00\x00\x00\x01\x00\x00\x00\x00\x00\x00\x00\x02\x11channel not found\x00";
+
+/// What begins no header.
+const WRONG: &[u8] = b"\xCB";
 
 const BEGUN: &[u8] = b"\xCA\x02\x40\x0A\x8B\x00\x00\x00\x01\x00\x00\x00\x08\xFF";
 
@@ -92,13 +86,29 @@ const SENT_DOUBLE: &[&[u8]] = &[
     b"\xCA\x02\x40\x0A\x10\x00\x00\x00\x01\x00\x00\x00\x00\xFF\x01\x01\x00\x00\x00\x00\x00\x00\xF0\x3F",
 ];
 
+/// The client's validation.
+const VALIDATES: &[u8] =
+    b"\xCA\x02\x00\x01\x13\x00\x00\x00\x00\x00\x01\x00\xFF\x7F\x00\x00\x09anonymous\xFF";
+
+/// It asks for the channel X.
+const CREATES: &[u8] = b"\xCA\x02\x00\x07\x08\x00\x00\x00\x01\x00\x01\x00\x00\x00\x01X";
+
 /// What the client says to the server of X=42.
 const SAID: &[&[u8]] = &[
-    b"\xCA\x02\x00\x01\x13\x00\x00\x00\x00\x00\x01\x00\xFF\x7F\x00\x00\x09anonymous\xFF",
-    b"\xCA\x02\x00\x07\x08\x00\x00\x00\x01\x00\x01\x00\x00\x00\x01X",
+    VALIDATES,
+    CREATES,
     b"\xCA\x02\x00\x0A\x15\x00\x00\x00\x00\x00\x00\x00\x01\x00\x00\x00\x08\x80\x00\x01\x05field\x80\x00\x00",
     b"\xCA\x02\x00\x0A\x09\x00\x00\x00\x00\x00\x00\x00\x01\x00\x00\x00\x00",
     b"\xCA\x02\x00\x0F\x08\x00\x00\x00\x00\x00\x00\x00\x01\x00\x00\x00",
+];
+
+/// The same in big endian.
+const SAID_BIG: &[&[u8]] = &[
+    b"\xCA\x02\x80\x01\x00\x00\x00\x13\x00\x01\x00\x00\x7F\xFF\x00\x00\x09anonymous\xFF",
+    b"\xCA\x02\x80\x07\x00\x00\x00\x08\x00\x01\x00\x00\x00\x01\x01X",
+    b"\xCA\x02\x80\x0A\x00\x00\x00\x15\x00\x00\x00\x00\x00\x00\x00\x01\x08\x80\x00\x01\x05field\x80\x00\x00",
+    b"\xCA\x02\x80\x0A\x00\x00\x00\x09\x00\x00\x00\x00\x00\x00\x00\x01\x00",
+    b"\xCA\x02\x80\x0F\x00\x00\x00\x08\x00\x00\x00\x00\x00\x00\x00\x01",
 ];
 
 /// What a get of X=42 prints.
@@ -112,7 +122,7 @@ timeStamp.nanoseconds 0
 timeStamp.userTag 0
 ";
 
-fn joined(alloc: Global, parts: &[&[u8]]) -> Result<Vec<u8>, NoMemory> {
+fn joined(alloc: Global, parts: &[&[u8]]) -> Result<Vec<u8>, AllocError> {
     let mut bytes = Vec::new(alloc);
     for part in parts {
         bytes.extend_from_slice(part)?;
@@ -120,66 +130,473 @@ fn joined(alloc: Global, parts: &[&[u8]]) -> Result<Vec<u8>, NoMemory> {
     Ok(bytes)
 }
 
-/// A get of X.
-fn get(alloc: Global) -> Result<Ask, NoMemory>
-    ensures { IfOk result (λ ask. length ask.name ≤ 200) }
-{
-    Ok(Ask {
-        name: Name::of(alloc, "X")?,
-        operation: Operation::Get,
-        fields: Vec::new(alloc),
-        atomic: None,
-        user: None,
-    })
+/// What the server sends to a get.
+#[derive(Clone, Copy)]
+enum Sends {
+    /// It has X=42.
+    FortyTwo,
+    /// The same in big endian.
+    BigEndian,
+    /// Its channel is a double, 1.0.
+    Double,
+    /// It has no such channel.
+    Refusal,
+    /// The stream ends before a channel is created.
+    Greeting,
+    /// What follows the greeting begins no message.
+    Wrong,
+    /// It has X=42, and behind that comes what is no message.
+    WrongBehind,
 }
 
-/// What a run of a get meets: nothing so often and then a response, one server and the script of the link to it, and the
-/// numbers of the calls of datagrams, dialer and sink that fail.
+fn sent(sends: Sends) -> &'static [&'static [u8]] {
+    match sends {
+        Sends::FortyTwo => SENT,
+        Sends::BigEndian => SENT_BIG,
+        Sends::Double => SENT_DOUBLE,
+        Sends::Refusal => &[GREETING, VALIDATED, REFUSED],
+        Sends::Greeting => &[GREETING, VALIDATED],
+        Sends::Wrong => &[GREETING, WRONG],
+        Sends::WrongBehind => &[GREETING, VALIDATED, CREATED, BEGUN, DESCRIPTION, GOT, WRONG],
+    }
+}
+
+/// What the client says.
+#[derive(Clone, Copy)]
+enum Says {
+    Nothing,
+    /// Its validation, and that it wants the channel.
+    Channel,
+    /// All of a get.
+    Get,
+    /// The same in big endian.
+    BigEndian,
+}
+
+fn said(says: Says) -> &'static [&'static [u8]] {
+    match says {
+        Says::Nothing => &[],
+        Says::Channel => &[VALIDATES, CREATES],
+        Says::Get => SAID,
+        Says::BigEndian => SAID_BIG,
+    }
+}
+
+/// What is printed.
+#[derive(Clone, Copy)]
+enum Prints {
+    Nothing,
+    /// The name of the channel.
+    Name,
+    /// That X is 42.
+    FortyTwo,
+    /// That X is 1.0.
+    Double,
+}
+
+fn printed(prints: Prints) -> &'static str {
+    match prints {
+        Prints::Nothing => "",
+        Prints::Name => "X\n",
+        Prints::FortyTwo => FORTY_TWO,
+        Prints::Double => "X\nbits:0x3ff0000000000000\n",
+    }
+}
+
+/// The response to searches.
+#[derive(Clone, Copy)]
+enum Answers {
+    Nothing,
+    /// The channel is at the sender's address.
+    Here,
+    /// It is at another one.
+    Elsewhere,
+}
+
+fn response(answers: Answers) -> Option<&'static [u8]> {
+    match answers {
+        Answers::Nothing => None,
+        Answers::Here => Some(&RESPONSE),
+        Answers::Elsewhere => Some(&RESPONSE_ELSEWHERE),
+    }
+}
+
+/// What a run meets: so many receives that bring nothing, and then a response; what the server sends, and the script of the link
+/// to it; and the numbers of the calls of datagrams, dialer and sink that fail.
 #[derive(Clone, Copy)]
 struct Case {
-    route: Route,
-    patience: Patience,
     idles: u32,
-    response: &'static [u8],
-    server: &'static [&'static [u8]],
+    answers: Answers,
+    sends: Sends,
     script: &'static [Turn],
     failing: [&'static [u64]; 3],
 }
 
-/// A server of X=42 that is known, and nothing fails.
-const KNOWN: Case = Case {
-    route: BY_SERVER,
-    patience: PATIENCE,
+/// A server of X=42 that answers at once, and nothing fails.
+const SERVED: Case = Case {
     idles: 0,
-    response: &[],
-    server: SENT,
+    answers: Answers::Here,
+    sends: Sends::FortyTwo,
     script: &[],
     failing: [&[], &[], &[]],
 };
 
-/// The same server, which is searched and answers at once.
-const SOUGHT: Case = Case {
-    route: BY_SEARCH,
-    response: &RESPONSE,
-    ..KNOWN
-};
-
-/// The outside of a run, in memory.
-#[derive(Drop)]
-struct Outside {
-    datagrams: MemoryDatagrams,
-    dialer: MemoryDialer,
-    sink: MemorySink,
+/// What a run came to: its status, where the first dial went, how many links were taken back, how many datagrams were sent or
+/// waited for, and how many searches went to where they should go.
+#[derive(Clone, Copy, PartialEq, Eq)]
+struct Told {
+    status: u8,
+    dialed: Option<Peer>,
+    back: usize,
+    calls: usize,
+    searches: usize,
 }
 
-fn datagrams(alloc: Global, case: &Case) -> Result<MemoryDatagrams, NoMemory> {
+/// A get by a server that is known.
+const DONE: Told = Told {
+    status: 0,
+    dialed: Some(SERVER),
+    back: 1,
+    calls: 0,
+    searches: 0,
+};
+
+/// A get by a server that is searched and answers at once.
+const FOUND: Told = Told {
+    calls: 2,
+    searches: 1,
+    ..DONE
+};
+
+/// No dial was made.
+const UNDIALED: Told = Told {
+    status: 4,
+    dialed: None,
+    back: 0,
+    calls: 0,
+    searches: 0,
+};
+
+/// A run: what it shows, its words, what it meets and comes to, what it prints, and what is written to the link taken back.
+#[derive(Clone, Copy)]
+struct Row {
+    shows: &'static str,
+    words: &'static [&'static str],
+    case: Case,
+    told: Told,
+    prints: Prints,
+    says: Says,
+}
+
+/// The server is known.
+const BY_SERVER: &[&str] = &["--server", "10.0.0.7:5075", "get", "X"];
+
+/// It is searched, in three rounds of 200 receives.
+const BY_SEARCH: &[&str] = &["get", "X"];
+
+static ROWS: &[Row] = &[
+    Row {
+        shows: "a get over a link",
+        words: BY_SERVER,
+        case: SERVED,
+        told: DONE,
+        prints: Prints::FortyTwo,
+        says: Says::Get,
+    },
+    Row {
+        shows: "no answer in three rounds",
+        words: BY_SEARCH,
+        case: Case {
+            answers: Answers::Nothing,
+            ..SERVED
+        },
+        told: Told {
+            status: 3,
+            calls: 603,
+            searches: 3,
+            ..UNDIALED
+        },
+        prints: Prints::Name,
+        says: Says::Nothing,
+    },
+    Row {
+        shows: "an answer in the third round",
+        words: BY_SEARCH,
+        case: Case {
+            idles: 450,
+            ..SERVED
+        },
+        told: Told {
+            calls: 454,
+            searches: 3,
+            ..FOUND
+        },
+        prints: Prints::FortyTwo,
+        says: Says::Get,
+    },
+    Row {
+        shows: "a response that names an address is dialed there",
+        words: BY_SEARCH,
+        case: Case {
+            answers: Answers::Elsewhere,
+            ..SERVED
+        },
+        told: Told {
+            dialed: Some(Peer {
+                address: HERE,
+                port: 5_075,
+            }),
+            ..FOUND
+        },
+        prints: Prints::FortyTwo,
+        says: Says::Get,
+    },
+    Row {
+        shows: "a double is printed by its bits",
+        words: BY_SERVER,
+        case: Case {
+            sends: Sends::Double,
+            ..SERVED
+        },
+        told: DONE,
+        prints: Prints::Double,
+        says: Says::Get,
+    },
+    Row {
+        shows: "a server in big endian",
+        words: BY_SERVER,
+        case: Case {
+            sends: Sends::BigEndian,
+            ..SERVED
+        },
+        told: DONE,
+        prints: Prints::FortyTwo,
+        says: Says::BigEndian,
+    },
+    Row {
+        shows: "a channel that is refused",
+        words: BY_SERVER,
+        case: Case {
+            sends: Sends::Refusal,
+            ..SERVED
+        },
+        told: Told { status: 1, ..DONE },
+        prints: Prints::Name,
+        says: Says::Channel,
+    },
+    Row {
+        shows: "pieces and idles change nothing",
+        words: &["--server", "10.0.0.7:5075", "--idle", "2", "get", "X"],
+        case: Case {
+            script: &[
+                Turn::Idle,
+                Turn::Give(1),
+                Turn::Idle,
+                Turn::Give(7),
+                Turn::Idle,
+                Turn::Give(30),
+                Turn::Idle,
+                Turn::Give(1),
+                Turn::Idle,
+                Turn::Give(2),
+            ],
+            ..SERVED
+        },
+        told: DONE,
+        prints: Prints::FortyTwo,
+        says: Says::Get,
+    },
+    Row {
+        shows: "a link that idles as often as ends a run",
+        words: &["--server", "10.0.0.7:5075", "--idle", "2", "get", "X"],
+        case: Case {
+            script: &[Turn::Give(5), Turn::Idle, Turn::Idle],
+            ..SERVED
+        },
+        told: Told { status: 6, ..DONE },
+        prints: Prints::Name,
+        says: Says::Nothing,
+    },
+    Row {
+        shows: "a link that ends early",
+        words: BY_SERVER,
+        case: Case {
+            sends: Sends::Greeting,
+            ..SERVED
+        },
+        told: Told { status: 4, ..DONE },
+        prints: Prints::Name,
+        says: Says::Channel,
+    },
+    Row {
+        shows: "a link whose read fails",
+        words: BY_SERVER,
+        case: Case {
+            script: &[Turn::Fail],
+            ..SERVED
+        },
+        told: Told { status: 4, ..DONE },
+        prints: Prints::Name,
+        says: Says::Nothing,
+    },
+    Row {
+        shows: "a link whose write fails",
+        words: BY_SERVER,
+        case: Case {
+            script: &[Turn::Give(4096), Turn::Fail],
+            ..SERVED
+        },
+        told: Told { status: 4, ..DONE },
+        prints: Prints::FortyTwo,
+        says: Says::Nothing,
+    },
+    Row {
+        shows: "datagrams that can't be bound",
+        words: BY_SEARCH,
+        case: Case {
+            failing: [&[1], &[], &[]],
+            ..SERVED
+        },
+        told: UNDIALED,
+        prints: Prints::Name,
+        says: Says::Nothing,
+    },
+    Row {
+        shows: "a search that can't be sent",
+        words: BY_SEARCH,
+        case: Case {
+            failing: [&[2], &[], &[]],
+            ..SERVED
+        },
+        told: Told {
+            calls: 1,
+            searches: 1,
+            ..UNDIALED
+        },
+        prints: Prints::Name,
+        says: Says::Nothing,
+    },
+    Row {
+        shows: "a response that can't be received",
+        words: BY_SEARCH,
+        case: Case {
+            failing: [&[3], &[], &[]],
+            ..SERVED
+        },
+        told: Told {
+            calls: 2,
+            searches: 1,
+            ..UNDIALED
+        },
+        prints: Prints::Name,
+        says: Says::Nothing,
+    },
+    Row {
+        shows: "a dial that fails",
+        words: BY_SEARCH,
+        case: Case {
+            failing: [&[], &[1], &[]],
+            ..SERVED
+        },
+        told: Told {
+            status: 4,
+            back: 0,
+            ..FOUND
+        },
+        prints: Prints::Name,
+        says: Says::Nothing,
+    },
+    Row {
+        shows: "the channel's name can't be printed",
+        words: BY_SEARCH,
+        case: Case {
+            failing: [&[], &[], &[1]],
+            ..SERVED
+        },
+        told: UNDIALED,
+        prints: Prints::Nothing,
+        says: Says::Nothing,
+    },
+    Row {
+        shows: "the value can't be printed",
+        words: BY_SEARCH,
+        case: Case {
+            failing: [&[], &[], &[2]],
+            ..SERVED
+        },
+        told: Told { status: 4, ..FOUND },
+        prints: Prints::Name,
+        says: Says::Nothing,
+    },
+    Row {
+        shows: "the search takes a turn",
+        words: &["--turns", "1", "get", "X"],
+        case: SERVED,
+        told: Told {
+            status: 9,
+            calls: 1,
+            searches: 1,
+            ..UNDIALED
+        },
+        prints: Prints::Name,
+        says: Says::Nothing,
+    },
+    Row {
+        shows: "the response takes a turn",
+        words: &["--turns", "2", "get", "X"],
+        case: SERVED,
+        told: Told { status: 9, ..FOUND },
+        prints: Prints::Name,
+        says: Says::Nothing,
+    },
+    Row {
+        shows: "the server's bytes take a turn",
+        words: &["--turns", "3", "get", "X"],
+        case: SERVED,
+        told: Told { status: 9, ..FOUND },
+        prints: Prints::FortyTwo,
+        says: Says::Nothing,
+    },
+    Row {
+        shows: "the five messages of the client take a turn, in one write",
+        words: &["--turns", "4", "get", "X"],
+        case: SERVED,
+        told: FOUND,
+        prints: Prints::FortyTwo,
+        says: Says::Get,
+    },
+    Row {
+        shows: "bytes that are wrong",
+        words: BY_SERVER,
+        case: Case {
+            sends: Sends::Wrong,
+            ..SERVED
+        },
+        told: Told { status: 5, ..DONE },
+        prints: Prints::Name,
+        says: Says::Nothing,
+    },
+    Row {
+        shows: "bytes that are wrong behind the end of the operation",
+        words: BY_SERVER,
+        case: Case {
+            sends: Sends::WrongBehind,
+            ..SERVED
+        },
+        told: DONE,
+        prints: Prints::FortyTwo,
+        says: Says::Get,
+    },
+];
+
+fn datagrams(alloc: Global, case: &Case) -> Result<MemoryDatagrams, AllocError> {
     let mut coming = VecDeque::new(alloc);
     for _ in 0..case.idles {
         coming.push_back(None)?;
     }
-    if !case.response.is_empty() {
+    if let Some(bytes) = response(case.answers) {
         coming.push_back(Some(Datagram {
-            bytes: Vec::from_slice(alloc, case.response)?,
+            bytes: Vec::from_slice(alloc, bytes)?,
             from: Peer {
                 address: THERE,
                 port: 40_000,
@@ -189,328 +606,87 @@ fn datagrams(alloc: Global, case: &Case) -> Result<MemoryDatagrams, NoMemory> {
     Ok(MemoryDatagrams::new(alloc, coming, Vec::from_slice(alloc, case.failing[0])?))
 }
 
-fn dialer(alloc: Global, case: &Case) -> Result<MemoryDialer, NoMemory> {
+fn dialer(alloc: Global, case: &Case) -> Result<MemoryDialer, AllocError> {
     let mut servers = Vec::new(alloc);
     servers.push(MemoryServer {
-        input: joined(alloc, case.server)?,
+        input: joined(alloc, sent(case.sends))?,
         script: Vec::from_slice(alloc, case.script)?,
     })?;
     Ok(MemoryDialer::new(alloc, servers, Vec::from_slice(alloc, case.failing[1])?))
 }
 
-fn make_outside(alloc: Global, case: &Case) -> Result<Outside, NoMemory> {
-    Ok(Outside {
+fn make_network(
+    alloc: Global,
+    case: &Case,
+) -> Result<Network<MemoryDatagrams, MemoryDialer>, AllocError> {
+    Ok(Network {
         datagrams: datagrams(alloc, case)?,
         dialer: dialer(alloc, case)?,
-        sink: MemorySink::new(alloc, Vec::from_slice(alloc, case.failing[2])?),
     })
 }
 
-/// Runs a get of X.
-fn run(alloc: Global, case: &Case, outside: &mut Outside) -> Result<Outcome, NoMemory>
-    requires { CanSeek case.now.route }
-{
-    Ok(run_over_network(
-        alloc,
-        get(alloc)?,
-        case.route,
-        case.patience,
-        &mut outside.datagrams,
-        &mut outside.dialer,
-        &mut outside.sink,
-    ))
+/// Whether this is a datagram to where searches go.
+fn is_search(one: &MemoryTraffic) -> bool {
+    match one {
+        MemoryTraffic::Tried(_, to) => *to == SEARCHED,
+        MemoryTraffic::Got(_, _) | MemoryTraffic::Nothing => false,
+    }
 }
 
-/// What a run of a get of X comes to.
-fn ran(alloc: Global, case: &Case) -> Result<(Outcome, Outside), NoMemory>
-    requires { CanSeek case.now.route }
-{
-    let mut outside = make_outside(alloc, case)?;
-    let outcome = run(alloc, case, &mut outside)?;
-    Ok((outcome, outside))
+/// A run's status, and what it leaves.
+#[derive(Drop)]
+struct Left {
+    status: u8,
+    world: World<Memory>,
+    network: Network<MemoryDatagrams, MemoryDialer>,
 }
 
-/// The status of such a run.
-fn status(alloc: Global, case: &Case) -> Result<u8, NoMemory>
-    requires { CanSeek case.now.route }
-{
-    let (outcome, _) = ran(alloc, case)?;
-    Ok(status_of_outcome(outcome).number())
+fn ran(alloc: Global, row: &Row) -> Result<Left, AllocError> {
+    let mut world = world(alloc, &[], &[], row.case.failing[2])?;
+    let mut network = make_network(alloc, &row.case)?;
+    let status = run(alloc, row.words, &mut world, &mut network);
+    Ok(Left {
+        status,
+        world,
+        network,
+    })
 }
 
-#[test]
-fn no_answer_in_three_rounds_ends_with_3(rt: HostRuntime) -> Result<(), Fail> {
-    let alloc = rt.alloc();
-    let case = Case {
-        response: &[],
-        ..SOUGHT
-    };
-    let (outcome, outside) = ran(alloc, &case)?;
-    assert!(rt; outcome == Outcome::Unfound);
-    assert_eq!(rt; status_of_outcome(outcome).number(), 3);
-    assert_eq!(rt; outside.sink.written(), b"X\n".as_slice());
-    assert_eq!(rt; outside.datagrams.traffic().len(), 603);
-    assert!(rt; outside.dialer.dials().is_empty());
-    Ok(())
+/// What a run came to that left this.
+fn told_by(left: &Left) -> Told {
+    let traffic = left.network.datagrams.traffic();
+    Told {
+        status: left.status,
+        dialed: left.network.dialer.dials().first().map(|dial| dial.to),
+        back: left.network.dialer.back().len(),
+        calls: traffic.len(),
+        searches: traffic.iter().filter(|one| is_search(one)).count(),
+    }
 }
 
-#[test]
-fn a_get_over_a_link(rt: HostRuntime) -> Result<(), Fail> {
-    let alloc = rt.alloc();
-    let (outcome, outside) = ran(alloc, &KNOWN)?;
-    assert!(rt; outcome == Outcome::Told(Ending::Finished));
-    assert_eq!(rt; outside.sink.written(), FORTY_TWO.as_bytes());
-    assert_eq!(rt; outside.dialer.back().len(), 1);
-    assert_eq!(rt;
-        outside.dialer.back()[0].written(),
-        joined(alloc, SAID)?.as_slice()
-    );
-    assert!(rt; outside.datagrams.traffic().is_empty() && outside.datagrams.asked().is_empty());
-    Ok(())
-}
-
-#[test]
-fn a_double_is_printed_by_its_bits(rt: HostRuntime) -> Result<(), Fail> {
-    let case = Case {
-        server: SENT_DOUBLE,
-        ..KNOWN
-    };
-    let (outcome, outside) = ran(rt.alloc(), &case)?;
-    assert!(rt; outcome == Outcome::Told(Ending::Finished));
-    assert_eq!(rt;
-        outside.sink.written(),
-        b"X\nbits:0x3ff0000000000000\n".as_slice()
-    );
-    Ok(())
-}
-
-#[test]
-fn a_server_in_big_endian(rt: HostRuntime) -> Result<(), Fail> {
-    let case = Case {
-        server: SENT_BIG,
-        ..KNOWN
-    };
-    let (outcome, outside) = ran(rt.alloc(), &case)?;
-    assert!(rt; outcome == Outcome::Told(Ending::Finished));
-    assert_eq!(rt; outside.sink.written(), FORTY_TWO.as_bytes());
-    Ok(())
-}
-
-/// Where the one dial went.
-fn dialed(outside: &Outside) -> Option<Peer> {
-    match outside.dialer.dials() {
-        [one] => Some(one.to),
-        _ => None,
+/// What was written to the first link that was taken back.
+fn written(left: &Left) -> &[u8] {
+    match left.network.dialer.back().first() {
+        Some(link) => link.written(),
+        None => &[],
     }
 }
 
 #[test]
-fn the_third_round_is_answered(rt: HostRuntime) -> Result<(), Fail> {
-    let case = Case {
-        idles: 450,
-        ..SOUGHT
-    };
-    let (outcome, outside) = ran(rt.alloc(), &case)?;
-    assert!(rt; outcome == Outcome::Told(Ending::Finished));
-    assert!(rt; dialed(&outside) == Some(SERVER));
-    let sent = outside
-        .datagrams
-        .traffic()
-        .iter()
-        .filter(|one| matches!(one, MemoryTraffic::Tried(_, to) if *to == SEARCHED))
-        .count();
-    assert_eq!(rt; sent, 3);
-    Ok(())
-}
-
-#[test]
-fn a_response_that_names_an_address_is_dialed_there(rt: HostRuntime) -> Result<(), Fail> {
-    let case = Case {
-        response: &RESPONSE_ELSEWHERE,
-        ..SOUGHT
-    };
-    let (outcome, outside) = ran(rt.alloc(), &case)?;
-    assert!(rt; outcome == Outcome::Told(Ending::Finished));
-    assert!(rt;
-        dialed(&outside)
-            == Some(Peer {
-                address: HERE,
-                port: 5_075
-            })
-    );
-    Ok(())
-}
-
-#[test]
-fn pieces_and_idles_change_nothing(rt: HostRuntime) -> Result<(), Fail> {
-    let case = Case {
-        patience: Patience {
-            idle: 2,
-            turns: 1 << 62,
-        },
-        script: &[
-            Turn::Idle,
-            Turn::Give(1),
-            Turn::Idle,
-            Turn::Give(7),
-            Turn::Idle,
-            Turn::Give(30),
-            Turn::Idle,
-            Turn::Give(1),
-            Turn::Idle,
-            Turn::Give(2),
-        ],
-        ..KNOWN
-    };
-    let (outcome, outside) = ran(rt.alloc(), &case)?;
-    assert!(rt; outcome == Outcome::Told(Ending::Finished));
-    assert_eq!(rt; outside.sink.written(), FORTY_TWO.as_bytes());
-    Ok(())
-}
-
-#[test]
-fn links_that_idle_or_end_or_fail(rt: HostRuntime) -> Result<(), Fail> {
+fn runs_over_the_network(rt: HostRuntime) -> Result<(), Fail> {
     let alloc = rt.alloc();
-    let twice = Patience {
-        idle: 2,
-        turns: 1 << 62,
-    };
-    let idle = Case {
-        patience: twice,
-        script: &[Turn::Give(5), Turn::Idle, Turn::Idle],
-        ..KNOWN
-    };
-    assert_eq!(rt; status(alloc, &idle)?, 6);
-    let short = Case {
-        server: &[GREETING, VALIDATED],
-        ..KNOWN
-    };
-    let (outcome, outside) = ran(alloc, &short)?;
-    assert!(rt; outcome == Outcome::Closed);
-    assert_eq!(rt; status_of_outcome(outcome).number(), 4);
-    assert_eq!(rt; outside.sink.written(), b"X\n".as_slice());
-    assert_eq!(rt;
-        outside.dialer.back()[0].written(),
-        joined(alloc, &SAID[..2])?.as_slice()
-    );
-    let read = Case {
-        script: &[Turn::Fail],
-        ..KNOWN
-    };
-    assert_eq!(rt; status(alloc, &read)?, 4);
-    let write = Case {
-        script: &[Turn::Give(4096), Turn::Fail],
-        ..KNOWN
-    };
-    assert_eq!(rt; status(alloc, &write)?, 4);
-    Ok(())
-}
-
-#[test]
-fn each_call_that_fails_ends_with_4(rt: HostRuntime) -> Result<(), Fail> {
-    let alloc = rt.alloc();
-    for call in [1u64, 2, 3] {
-        let numbers = [call];
-        let failing = Case { idles: 1, ..SOUGHT };
-        let mut outside = make_outside(alloc, &failing)?;
-        outside.datagrams = failing_datagrams(alloc, &failing, &numbers)?;
-        assert!(rt; run(alloc, &failing, &mut outside)? == Outcome::Failed);
-        assert!(rt; outside.dialer.dials().is_empty());
+    for row in ROWS {
+        let left = ran(alloc, row)?;
+        let said = joined(alloc, said(row.says))?;
+        assert!(rt; told_by(&left) == row.told, "{}", row.shows);
+        assert_eq!(rt;
+            left.world.sink.written(),
+            printed(row.prints).as_bytes(),
+            "{}",
+            row.shows
+        );
+        assert_eq!(rt; written(&left), said.as_slice(), "{}", row.shows);
     }
-    let undialed = Case {
-        failing: [&[], &[1], &[]],
-        ..SOUGHT
-    };
-    assert!(rt; ran(alloc, &undialed)?.0 == Outcome::Failed);
-    let unnamed = Case {
-        failing: [&[], &[], &[1]],
-        ..SOUGHT
-    };
-    let (outcome, outside) = ran(alloc, &unnamed)?;
-    assert_eq!(rt; status_of_outcome(outcome).number(), 4);
-    assert!(rt; outside.datagrams.asked().is_empty() && outside.dialer.dials().is_empty());
-    let untold = Case {
-        failing: [&[], &[], &[2]],
-        ..SOUGHT
-    };
-    let (outcome, outside) = ran(alloc, &untold)?;
-    assert_eq!(rt; status_of_outcome(outcome).number(), 4);
-    assert_eq!(rt; outside.sink.written(), b"X\n".as_slice());
-    assert_eq!(rt; outside.dialer.back().len(), 1);
-    Ok(())
-}
-
-/// The datagrams of a case, of which other calls fail.
-fn failing_datagrams(
-    alloc: Global,
-    case: &Case,
-    failing: &[u64],
-) -> Result<MemoryDatagrams, NoMemory> {
-    let mut coming = VecDeque::new(alloc);
-    for _ in 0..case.idles {
-        coming.push_back(None)?;
-    }
-    Ok(MemoryDatagrams::new(alloc, coming, Vec::from_slice(alloc, failing)?))
-}
-
-#[test]
-fn turns_that_are_spent(rt: HostRuntime) -> Result<(), Fail> {
-    let alloc = rt.alloc();
-    // a search and its answer, the server's bytes, and the five messages of the client, which are taken at once
-    let turns: [(u64, u8); 5] = [(1, 9), (2, 9), (3, 9), (4, 0), (5, 0)];
-    for (turns, wanted) in turns {
-        let case = Case {
-            patience: Patience { idle: 200, turns },
-            ..SOUGHT
-        };
-        assert_eq!(rt; status(alloc, &case)?, wanted);
-    }
-    Ok(())
-}
-
-#[test]
-fn bytes_that_are_wrong_count_until_the_operation_has_ended(rt: HostRuntime) -> Result<(), Fail> {
-    let alloc = rt.alloc();
-    let wrong = Case {
-        server: &[GREETING, b"\xCB"],
-        ..KNOWN
-    };
-    assert_eq!(rt; status(alloc, &wrong)?, 5);
-    let late = Case {
-        server: &[
-            GREETING,
-            VALIDATED,
-            CREATED,
-            BEGUN,
-            DESCRIPTION,
-            GOT,
-            b"\xCB",
-        ],
-        ..KNOWN
-    };
-    let (outcome, outside) = ran(alloc, &late)?;
-    assert!(rt; outcome == Outcome::Told(Ending::Finished));
-    assert_eq!(rt; outside.sink.written(), FORTY_TWO.as_bytes());
-    assert_eq!(rt;
-        outside.dialer.back()[0].written(),
-        joined(alloc, SAID)?.as_slice()
-    );
-    Ok(())
-}
-
-#[test]
-fn a_channel_that_is_refused(rt: HostRuntime) -> Result<(), Fail> {
-    let case = Case {
-        server: &[
-            GREETING,
-            VALIDATED,
-            b"\xCA\x02\x40\x07\x1C\x00\x00\x00\x01\x00\x00\x00\x00\x00\x00\x00\x02\x11channel not found\x00",
-        ],
-        ..KNOWN
-    };
-    let (outcome, outside) = ran(rt.alloc(), &case)?;
-    assert_eq!(rt; status_of_outcome(outcome).number(), 1);
-    assert_eq!(rt; outside.sink.written(), b"X\n".as_slice());
     Ok(())
 }
 
@@ -531,7 +707,7 @@ impl WaitingLink {
     fn ready(&self) -> usize
         ensures { result ≤ vec_len self.now.input }
     {
-        if self.written.len() < SAID[0].len() {
+        if self.written.len() < VALIDATES.len() {
             return GREETING.len().min(self.input.len());
         }
         self.input.len()
@@ -598,7 +774,7 @@ impl Dialer for WaitingDialer {
         }
     }
 
-    fn retire(&mut self, link: WaitingLink) -> Result<(), OutsideNoMemory> {
+    fn retire(&mut self, link: WaitingLink) -> Result<(), NoMemory> {
         let WaitingLink {
             written,
             idles,
@@ -615,29 +791,19 @@ impl Dialer for WaitingDialer {
 #[test]
 fn a_link_that_idles_until_the_validation_was_written(rt: HostRuntime) -> Result<(), Fail> {
     let alloc = rt.alloc();
-    let mut datagrams = datagrams(alloc, &KNOWN)?;
-    let mut dialer = WaitingDialer {
-        alloc,
-        written: Vec::new(alloc),
-        idles: 0,
-        ends: 0,
+    let mut world = world(alloc, &[], &[], &[])?;
+    let said = joined(alloc, SAID)?;
+    let mut network = Network {
+        datagrams: MemoryDatagrams::new(alloc, VecDeque::new(alloc), Vec::new(alloc)),
+        dialer: WaitingDialer {
+            alloc,
+            written: Vec::new(alloc),
+            idles: 0,
+            ends: 0,
+        },
     };
-    let mut sink = MemorySink::new(alloc, Vec::new(alloc));
-    let patience = Patience {
-        idle: 1_000,
-        turns: 1 << 62,
-    };
-    let outcome = run_over_network(
-        alloc,
-        get(alloc)?,
-        BY_SERVER,
-        patience,
-        &mut datagrams,
-        &mut dialer,
-        &mut sink,
-    );
-    assert_eq!(rt; status_of_outcome(outcome).number(), 0);
-    assert_eq!(rt; sink.written(), FORTY_TWO.as_bytes());
-    assert_eq!(rt; dialer.written.as_slice(), joined(alloc, SAID)?.as_slice());
+    assert_eq!(rt; run(alloc, BY_SERVER, &mut world, &mut network), 0);
+    assert_eq!(rt; world.sink.written(), FORTY_TWO.as_bytes());
+    assert_eq!(rt; network.dialer.written.as_slice(), said.as_slice());
     Ok(())
 }
