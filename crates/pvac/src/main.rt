@@ -38,7 +38,7 @@ const HELP: &str = "\
 A pvAccess client (EPICS 7): gets, puts, monitors and calls channels, and prints what they show.
 
 Usage: pvac get     NAME [OPTIONS]               prints the channel's value, a line for each field
-       pvac put     NAME VALUE.. [OPTIONS]       writes a value
+       pvac put     NAME VALUE.. [OPTIONS]       writes a value, and prints the name alone
        pvac putget  NAME VALUE.. [OPTIONS]       writes a value, and prints what came of it
        pvac monitor NAME [OPTIONS]               prints the value, and then the fields that change
        pvac info    NAME [OPTIONS]               prints the channel's type, a line for each field
@@ -51,10 +51,11 @@ Usage: pvac get     NAME [OPTIONS]               prints the channel's value, a l
                  the file of a database text, or NAME=VALUE, one longout and the decimal value that it opens with.
                  Nobody else writes to them, so that a monitor of more than one update waits in vain
 --macros LIST    what $(A) and $(B) stand for in the text, as A=1,B=2
---fields LIST    the fields that a get, a putget or a monitor is for, as value,alarm.severity (all of them)
+--fields LIST    the fields that a get, a putget or a monitor is for, as value,alarm.severity (all of them): at most 64
+                 paths of at most 30 names. A path that isn't there is passed over beside one that is; alone it is refused
 --atomic B       true or false: whether a get, put or putget of a group is one step (as the group's definition says)
 --count N        after how many updates a monitor ends (1)
---queue N        how many updates the server keeps for a monitor (4)
+--queue N        how many updates the server keeps for a monitor (4); a server keeps 64 at most
 --pipeline N     how many updates the server may send before the first is acknowledged (all)
 --user U --host H   the user and the host that the server is told (none)
 --idle N         after how many calls in which nothing comes, of 50 ms each, a round of searches or a run ends; with
@@ -65,14 +66,18 @@ Usage: pvac get     NAME [OPTIONS]               prints the channel's value, a l
 -h, --help       shows this text, as the first word
 -V, --version    shows the version, as the first word
 
+A NAME has 1 to 200 bytes. An N is a decimal number from 1 to 2147483647, or of --turns to 4611686018427387904.
+
 The first line that is printed is the channel's name, and then comes a line for each field: its path, and its value. Texts
-stand in quotes, lists in [a, b], a number of floating point as its bits, a choice as its number (.index) beside the texts
-of all choices; ` overrun` behind a field says that it changed more than once since the update before. For info the value
+stand in quotes, in which a backslash comes before a quote and a backslash, and \\n, \\t and \\x with two digits stand for
+control characters; lists stand in [a, b], a number of floating point as its bits, a choice as its number (.index) beside the
+texts of all choices; ` overrun` behind a field says that it changed more than once since the update before. For info the value
 is the field's type, as int, string[] or structure alarm_t. A fault prints nothing: the status alone tells it.
 
-A VALUE is a number, true or false, a text, a choice of an enumeration or its number;
-several are the elements of a list. FIELD=VALUE writes other fields than `value`; then every VALUE has that form. A
-VALUE that begins with - stands behind the word --.
+A VALUE is a number, true or false, a text without quotes, a choice of an enumeration or its number; several are the elements
+of a list, before which no count stands. FIELD=VALUE writes other fields than `value`, as those of a group; then every VALUE
+has that form, and a choice is given by its number alone, as mode.value.index=1. A VALUE that begins with - stands behind the
+word --.
 
 Examples over the network:
 
@@ -91,6 +96,9 @@ Examples without it, with the file slide.db:
     pvac --within slide.db --macros P=BL:M1 get BL:M1:Pos.DESC --fields value
         BL:M1:Pos.DESC
         value \"Position of the slide\"
+    pvac --within examples/slide.db --macros P=BL:M1 putget BL:M1:G mode.value.index=1 pos=5500 --fields pos
+        BL:M1:G
+        pos 5500
     pvac --within X=42 info X
     pvac --within X=42 putget X 7 --fields value
     pvac --within X=42 put X -- -5
