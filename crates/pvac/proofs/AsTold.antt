@@ -80,11 +80,11 @@ part_longer p front = record {
 talked_whole : (site : SiteData) (given taken : List ℕ) (log : List Mark) (trouble : Option Ended) → Whole site Little given log taken trouble → HasTalked site given taken log
 talked_whole site given taken log trouble w = record { out = taken; trouble = trouble; whole = w; sent = record { rest = []; whole = sym (append-nil taken) } }
 
-module _ (ask : Ask) (idle turns : ℕ) (site : SiteData) (start now : Option (List ℕ)) (before after : ℕ) (given taken : List ℕ) (log : List Mark) (begins : Begins ask taken given) where
+module _ (ask : Ask) (idle piece turns : ℕ) (site : SiteData) (start now : Option (List ℕ)) (before after : ℕ) (given taken : List ℕ) (log : List Mark) (begins : Begins ask taken given) where
   told_front : HasTalked site given taken log → IsPrefixOf (text_for ask taken) (answer_text ask site log)
   told_front talked = let t = marks_are_told ask site given taken log talked begins in t.front
 
-  front_at : (end : End) → HasCause ask site idle turns start now before after given taken log end → IsPart start now (answer_text ask site log)
+  front_at : (end : End) → HasCause ask site idle piece turns start now before after given taken log end → IsPart start now (answer_text ask site log)
   front_at (ends.Told ending) cause = part_of_printed cause.printed (told_front cause.talked)
   front_at (ends.Stopped stops.NoMemory) cause =
       part_longer cause.stopped.stopped.0 (short_as_told ask (λ here. all_go ask here ask.operation refl) site start now before after given taken log cause begins)
@@ -97,7 +97,7 @@ module _ (ask : Ask) (idle turns : ℕ) (site : SiteData) (start now : Option (L
 
 pub prints_a_front : PrintsAFront
 prints_a_front ask idle piece turns told first last start now before after end x =
-    front_at ask idle turns first.seen.base.site start now before after x.given x.taken x.log x.begins end x.cause
+    front_at ask idle piece turns first.seen.base.site start now before after x.given x.taken x.log x.begins end x.cause
 
 -- The text of the first updates.
 pub record Front (ty : Tree) (updates : List Update) (text : List ℕ) : Type 0 where

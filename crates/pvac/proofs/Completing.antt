@@ -141,7 +141,8 @@ all_of site s [] left stands = refl
 all_of site s (e ∷ more) left stands = let clash : false ≡ true = ap is_some stands.0 ∙ stands.1 in absurd cc
 
 module _ (ask : Ask) (site : SiteData) (More : Standing) (own : OwnGo ask site More) (given taken : List ℕ) (log : List Mark) (begins : Begins ask taken given) (words : (text : PutText) → client_fault ask (events_in taken) ≡ Some (faults.Words text) → ⊥) where
-  module _ (talked : HasTalked site given taken log) (clear : AreEndsClear ask site taken talked.whole.dialogue.talk.steps) where
+  -- the client takes every event, whatever the lengths of the messages are
+  module _ (talked : HasTalked site given taken log) where
     abbrev steps : List Step
     steps = talked.whole.dialogue.talk.steps
 
@@ -151,16 +152,17 @@ module _ (ask : Ask) (site : SiteData) (More : Standing) (own : OwnGo ask site M
     faultless : client_fault ask (events_in taken) ≡ None
     faultless = none_wrong (client_fault ask (events_in taken)) goes.fault words
 
-    all_clear : CanEach IsSpokenClear (hello ask site given taken log talked begins ++ spoken site (opening Little) steps)
-    all_clear = speak_clear Little (segment_for 65536) greetings (spoken site (opening Little) steps) (segment_moderate 65536) greeting_sayable (spoken_clear site (opening Little) steps (segment_moderate 65536) talked.whole.dialogue.talk.rules)
+  module _ (talked : HasTalked site given taken log) (clear : AreEndsClear ask site taken talked.whole.dialogue.talk.steps) where
+    all_clear : CanEach IsSpokenClear (hello ask site given taken log talked begins ++ spoken site (opening Little) (steps talked))
+    all_clear = speak_clear Little (segment_for 65536) greetings (spoken site (opening Little) (steps talked)) (segment_moderate 65536) greeting_sayable (spoken_clear site (opening Little) (steps talked) (segment_moderate 65536) talked.whole.dialogue.talk.rules)
 
-    all_short : CanEach IsSpokenShort (hello ask site given taken log talked begins ++ spoken site (opening Little) steps)
-    all_short = speak_short Little (segment_for 65536) greetings (spoken site (opening Little) steps) greeting_short (spoken_short site (opening Little) steps clear.replies)
+    all_short : CanEach IsSpokenShort (hello ask site given taken log talked begins ++ spoken site (opening Little) (steps talked))
+    all_short = speak_short Little (segment_for 65536) greetings (spoken site (opening Little) (steps talked)) greeting_short (spoken_short site (opening Little) (steps talked) clear.replies)
 
     -- the server's bytes have no header that is refused
     said_well : result_err (left_from 0 None taken) ≡ None
     said_well =
-        said_sound (hello ask site given taken log talked begins ++ spoken site (opening Little) steps) taken
+        said_sound (hello ask site given taken log talked begins ++ spoken site (opening Little) (steps talked)) taken
         (record { rest = talked.sent.rest; whole = out_is ask site given taken log talked begins ∙ talked.sent.whole }) all_clear all_short
 
     -- nor have the client's
@@ -169,14 +171,14 @@ module _ (ask : Ask) (site : SiteData) (More : Standing) (own : OwnGo ask site M
 
     -- where all was taken
     module _ (all : talked.out ≡ taken) where
-      all_taken : length (events_in taken) ≡ length (hello ask site given taken log talked begins ++ spoken site (opening Little) steps)
-      all_taken = said_counted (hello ask site given taken log talked begins ++ spoken site (opening Little) steps) taken (sym all ∙ sym (out_is ask site given taken log talked begins)) all_clear all_short
+      all_taken : length (events_in taken) ≡ length (hello ask site given taken log talked begins ++ spoken site (opening Little) (steps talked))
+      all_taken = said_counted (hello ask site given taken log talked begins ++ spoken site (opening Little) (steps talked)) taken (sym all ∙ sym (out_is ask site given taken log talked begins)) all_clear all_short
 
       -- nothing that the server hears ends its connection
       pub no_trouble : (trouble : Ended) → talked.trouble ≡ Some trouble → ⊥
       no_trouble trouble is = by talked.whole.remaining refl
         where
-          heard_as : (remaining : List Event) → talked.whole.remaining ≡ remaining → AreRequests (events_of steps ++ remaining) (client_sent ask (events_in taken))
+          heard_as : (remaining : List Event) → talked.whole.remaining ≡ remaining → AreRequests (events_of (steps talked) ++ remaining) (client_sent ask (events_in taken))
           heard_as remaining same =
               subst (λ (es : List Event). AreRequests es (client_sent ask (events_in taken)))
               (talked.whole.all ∙ (λ i. sym talked.whole.dialogue.talk.events_are i ++ same i))
@@ -184,34 +186,34 @@ module _ (ask : Ask) (site : SiteData) (More : Standing) (own : OwnGo ask site M
 
           by : (remaining : List Event) → talked.whole.remaining ≡ remaining → ⊥
           by [] same =
-              let stands = subst (λ (es : List Event). Stands site (state_after site (opening Little) steps) es (left_from 0 None given) talked.trouble) same talked.whole.stands in
+              let stands = subst (λ (es : List Event). Stands site (state_after site (opening Little) (steps talked)) es (left_from 0 None given) talked.trouble) same talked.whole.stands in
               let clash : Some trouble ≡ None = sym is ∙ stands ∙ none_left (left_from 0 None given) sent_well in
               absurd cc
           by (e ∷ more) same =
-              let stands = subst (λ (es : List Event). Stands site (state_after site (opening Little) steps) es (left_from 0 None given) talked.trouble) same talked.whole.stands in
-              let first = requests_front (events_of steps ++ e ∷ []) more (client_sent ask (events_in taken)) (subst (λ (es : List Event). AreRequests es (client_sent ask (events_in taken))) (sym (append_assoc (events_of steps) (e ∷ []) more)) (heard_as (e ∷ more) same)) in
-              let fine = goes.ahead all_taken e first in
+              let stands = subst (λ (es : List Event). Stands site (state_after site (opening Little) (steps talked)) es (left_from 0 None given) talked.trouble) same talked.whole.stands in
+              let first = requests_front (events_of (steps talked) ++ e ∷ []) more (client_sent ask (events_in taken)) (subst (λ (es : List Event). AreRequests es (client_sent ask (events_in taken))) (sym (append_assoc (events_of (steps talked)) (e ∷ []) more)) (heard_as (e ∷ more) same)) in
+              let fine = (goes talked).ahead all_taken e first in
               let clash : false ≡ true = ap is_some (sym fine) ∙ stands.1 in
               absurd cc
 
       -- the operation has ended, or more may stand
-      pub at_rest : talked.trouble ≡ None → given ≡ client_bytes ask (events_in taken) → CanEach CanWrite (client_sent ask (events_in taken)) → ended_by ask taken ≡ None → More (state_after site (opening Little) steps) (marks_of steps) (client_told ask (events_in taken))
-      at_rest none said_all written_all unended = by (goes.rests all_taken heard_count)
+      pub at_rest : talked.trouble ≡ None → given ≡ client_bytes ask (events_in taken) → CanEach CanWrite (client_sent ask (events_in taken)) → ended_by ask taken ≡ None → More (state_after site (opening Little) (steps talked)) (marks_of (steps talked)) (client_told ask (events_in taken))
+      at_rest none said_all written_all unended = by ((goes talked).rests all_taken heard_count)
         where
           nothing_remains : talked.whole.remaining ≡ []
           nothing_remains =
-              all_of site (state_after site (opening Little) steps) talked.whole.remaining (left_from 0 None given)
-              (subst (λ (o : Option Ended). Stands site (state_after site (opening Little) steps) talked.whole.remaining (left_from 0 None given) o) none talked.whole.stands)
+              all_of site (state_after site (opening Little) (steps talked)) talked.whole.remaining (left_from 0 None given)
+              (subst (λ (o : Option Ended). Stands site (state_after site (opening Little) (steps talked)) talked.whole.remaining (left_from 0 None given) o) none talked.whole.stands)
 
-          heard_count : length (events_of steps) ≡ length (client_sent ask (events_in taken))
+          heard_count : length (events_of (steps talked)) ≡ length (client_sent ask (events_in taken))
           heard_count =
               ap (λ (es : List Event). length es)
               (talked.whole.dialogue.talk.events_are ∙ sym (append-nil talked.whole.events) ∙ ap (λ (es : List Event). talked.whole.events ++ es) (sym nothing_remains) ∙ sym talked.whole.all)
               ∙ sent_counted (client_sent ask (events_in taken)) given said_all written_all clear.short
 
-          by : Rests ask site More (state_after site (opening Little) steps) (marks_of steps) (client_told ask (events_in taken)) (client_fault ask (events_in taken)) → More (state_after site (opening Little) steps) (marks_of steps) (client_told ask (events_in taken))
+          by : Rests ask site More (state_after site (opening Little) (steps talked)) (marks_of (steps talked)) (client_told ask (events_in taken)) (client_fault ask (events_in taken)) → More (state_after site (opening Little) (steps talked)) (marks_of (steps talked)) (client_told ask (events_in taken))
           by (inl ended) = absurd (let clash : None ≡ Some ended.0 = sym unended ∙ ended.1 in cc)
-          by (inr (inl wrong)) = absurd (wrong faultless)
+          by (inr (inl wrong)) = absurd (wrong (faultless talked))
           by (inr (inr more)) = more
 
 -- all that was said was taken
@@ -235,8 +237,8 @@ module _ (ask : Ask) (idle piece turns : ℕ) (told : Option Moment) (base : Bas
         (at_rest ask base.site More own given taken log begins words talked clear refl refl q.said q.written unended)
         (ap updates_in (log_is ask base.site given taken log talked begins) ∙ updates_are ask base.site given taken log talked begins)
 
-    stopped_so : (stop : Stop) (talked : HasTalked base.site given taken log) → AreEndsClear ask base.site taken talked.whole.dialogue.talk.steps → (fault : ClientFault) → client_fault ask (events_in taken) ≡ Some fault → ⊥
-    stopped_so stop talked clear fault is = let clash : None ≡ Some fault = sym (faultless ask base.site More own given taken log begins words talked clear) ∙ is in absurd cc
+    stopped_so : (stop : Stop) (talked : HasTalked base.site given taken log) → (fault : ClientFault) → client_fault ask (events_in taken) ≡ Some fault → ⊥
+    stopped_so stop talked fault is = let clash : None ≡ Some fault = sym (faultless ask base.site More own given taken log begins words talked) ∙ is in absurd cc
 
     refused_so : (talked : HasTalked base.site given taken log) → AreEndsClear ask base.site taken talked.whole.dialogue.talk.steps → (fault : FrameFault) → result_err (left_from 0 None taken) ≡ Some fault → ⊥
     refused_so talked clear fault is = let clash : None ≡ Some fault = sym (said_well ask base.site More own given taken log begins words talked clear) ∙ is in absurd cc
@@ -254,7 +256,7 @@ module _ (ask : Ask) (idle piece turns : ℕ) (told : Option Moment) (base : Bas
   completes_so (ends.Stopped stops.NoMemory) x f = tt
   completes_so (ends.Stopped stops.Sink) x f = absurd f.printed
   completes_so (ends.Stopped (stops.Client faults.NoMemory)) x f = tt
-  completes_so (ends.Stopped (stops.Client fault)) x f = absurd (stopped_so x.given x.taken x.log x.adds x.begins f.words (stops.Client fault) x.cause.talked f.clear fault x.cause.stopped.stopped.1)
+  completes_so (ends.Stopped (stops.Client fault)) x f = absurd (stopped_so x.given x.taken x.log x.adds x.begins f.words (stops.Client fault) x.cause.talked fault x.cause.stopped.stopped.1)
   completes_so (ends.Stopped (stops.Frame fault)) x f = absurd (refused_so x.given x.taken x.log x.adds x.begins f.words x.cause.talked f.clear fault x.cause.stopped.refused)
   completes_so ends.Closed x f = absurd (closed_so x.given x.taken x.log x.adds x.begins f.words x.cause f.clear)
   completes_so ends.Idle x f = more_at x.given x.taken x.log x.adds x.begins f.words x.cause.quiet f.clear x.cause.unended

@@ -193,7 +193,7 @@ module _ {f : Frame} {piece made : ℕ} {x : Sides} {last : Seat} (idle turns : 
       said = sym (append-nil r.made_so.given) ∙ ap (λ (z : List ℕ). r.made_so.given ++ z) (sym (r.mute open_)) ∙ r.silent.passed.client.heard.stands.accounts.bytes;
     }
 
-    at_rest : (end : End) → HasCause f.ask f.first.seen.base.site idle turns f.start x.printed f.before x.faults r.made_so.given r.made_so.taken (log_of dry.served fin) end
+    at_rest : (end : End) → HasCause f.ask f.first.seen.base.site idle piece turns f.start x.printed f.before x.faults r.made_so.given r.made_so.taken (log_of dry.served fin) end
         → Exchanged f.ask idle piece turns f.told f.first last f.start x.printed f.before x.faults end
     at_rest end cause = let m = r.made_so in record {
       log = log_of dry.served fin;
@@ -212,6 +212,7 @@ module _ {f : Frame} {piece made : ℕ} {x : Sides} {last : Seat} (idle turns : 
       quiet = quiet;
       rounds = made;
       moved = r.made_so.moved;
+      few = r.made_so.few;
       within = let left = leb-true idle (turns - made) is in omega (arith, left, within);
       printed = r.silent.passed.printed;
       sound = sound_of r.silent.passed.client unended;
@@ -255,12 +256,12 @@ short_cause ask site start now before after given taken log t s =
 
 -- An end couldn't go on.
 
-said_cause : (f : Frame) (x : Sides) (idle turns : ℕ) (given taken : List ℕ) (stop : Stop) (log : List Mark) → HasTalked f.first.seen.base.site given taken log → HasStopped f.ask taken f.start x.printed f.before x.faults stop
-    → HasCause f.ask f.first.seen.base.site idle turns f.start x.printed f.before x.faults given taken log (ends.Stopped stop)
-said_cause f x idle turns given taken stops.NoMemory log t s = short_cause f.ask f.first.seen.base.site f.start x.printed f.before x.faults given taken log t s
-said_cause f x idle turns given taken stops.Sink log t s = record { talked = t; stopped = s }
-said_cause f x idle turns given taken (stops.Client fault) log t s = record { talked = t; stopped = s }
-said_cause f x idle turns given taken (stops.Frame fault) log t s = record { talked = t; stopped = s }
+said_cause : (f : Frame) (x : Sides) (idle piece turns : ℕ) (given taken : List ℕ) (stop : Stop) (log : List Mark) → HasTalked f.first.seen.base.site given taken log → HasStopped f.ask taken f.start x.printed f.before x.faults stop
+    → HasCause f.ask f.first.seen.base.site idle piece turns f.start x.printed f.before x.faults given taken log (ends.Stopped stop)
+said_cause f x idle piece turns given taken stops.NoMemory log t s = short_cause f.ask f.first.seen.base.site f.start x.printed f.before x.faults given taken log t s
+said_cause f x idle piece turns given taken stops.Sink log t s = record { talked = t; stopped = s }
+said_cause f x idle piece turns given taken (stops.Client fault) log t s = record { talked = t; stopped = s }
+said_cause f x idle piece turns given taken (stops.Frame fault) log t s = record { talked = t; stopped = s }
 
 module _ {f : Frame} {x : Sides} {last : Seat} (idle piece turns : ℕ) (given taken : List ℕ) (few : (length given ≤ turns * piece) × (length taken ≤ turns * piece)) (fin : Finished (shown_in x.seat x.view) last) where
   said : (stop : Stop) → HasStuck f given taken x stop → HasSaid f given taken x → Exchanged f.ask idle piece turns f.told f.first last f.start x.printed f.before x.faults (ends.Stopped stop)
@@ -273,7 +274,7 @@ module _ {f : Frame} {x : Sides} {last : Seat} (idle piece turns : ℕ) (given t
     folds = folds_all h.served fin;
     few = few;
     begins = s.begins;
-    cause = said_cause f x idle turns given taken stop (log_of h.served fin) (talked h.served fin taken h.front) s.stopped;
+    cause = said_cause f x idle piece turns given taken stop (log_of h.served fin) (talked h.served fin taken h.front) s.stopped;
   }
 
   broken : HasStuck f given taken x stops.NoMemory → HasBroken f.first x.seat f.told given taken x.view → Exchanged f.ask idle piece turns f.told f.first last f.start x.printed f.before x.faults (ends.Stopped stops.NoMemory)
@@ -335,7 +336,7 @@ module _ (ask : Ask) (idle piece turns : ℕ) (told : Option Moment) (first : Se
   unbegun : Finished (shown_in first (first_view Little)) first
   unbegun = record { marks = []; endings = none_at_first Little; adds = adds_nothing first legal }
 
-  never : (stop : Stop) → HasCause ask first.seen.base.site idle turns start now before after [] [] (log_of unserved unbegun) (ends.Stopped stop)
+  never : (stop : Stop) → HasCause ask first.seen.base.site idle piece turns start now before after [] [] (log_of unserved unbegun) (ends.Stopped stop)
       → Exchanged ask idle piece turns told first first start now before after (ends.Stopped stop)
   never stop cause = record {
     log = log_of unserved unbegun;

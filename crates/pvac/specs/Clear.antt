@@ -60,8 +60,8 @@ EndsAsTold ask = (site : SiteData) (given taken : List ℕ) (log : List Mark) �
 abbrev pub MarksAreTold : Type 0
 MarksAreTold = (ask : Ask) → EndsAsTold ask
 
--- So what an exchange prints whose operation ended is the text that its marks tell, in whatever pieces the bytes passed: the
--- size of a piece doesn't stand in that text.
+-- So what an exchange prints whose operation ended is the text that its own marks tell: the size of a piece doesn't stand in
+-- that text. Two exchanges whose marks are equal print the same; that other pieces bring equal marks isn't said.
 abbrev pub PrintsTheMarks : Type 0
 PrintsTheMarks =
     (ask : Ask) (idle piece turns : ℕ) (told : Option Moment) (first last : Seat) (start now : Option (List ℕ))

@@ -91,12 +91,13 @@ pub record IsQuiet (ask : Ask) (site : SiteData) (given taken : List ℕ) (log :
   pub said : given ≡ client_bytes ask (events_in taken)
   pub written : CanEach CanWrite (client_sent ask (events_in taken))
 
--- So many rounds moved a byte each, and then there were as many without one as end the run.
-pub record AtIdle (ask : Ask) (site : SiteData) (idle turns : ℕ) (start now : Option (List ℕ)) (before after : ℕ)
+-- So many rounds moved a byte each, of either end at most a piece, and then there were as many without one as end the run.
+pub record AtIdle (ask : Ask) (site : SiteData) (idle piece turns : ℕ) (start now : Option (List ℕ)) (before after : ℕ)
     (given taken : List ℕ) (log : List Mark) : Type 0 where
   pub quiet : IsQuiet ask site given taken log
   pub rounds : ℕ
   pub moved : rounds ≤ length given + length taken
+  pub few : (length given ≤ rounds * piece) × (length taken ≤ rounds * piece)
   pub within : rounds + idle ≤ turns
   pub printed : HasPrinted start now before after (text_for ask taken)
   pub sound : HasNoFault ask taken
@@ -113,19 +114,19 @@ pub record AtSpent (ask : Ask) (site : SiteData) (idle turns : ℕ) (start now :
   pub sound : HasNoFault ask taken
   pub unended : ended_by ask taken ≡ None
 
-abbrev pub HasCause : Ask → SiteData → ℕ → ℕ → Option (List ℕ) → Option (List ℕ) → ℕ → ℕ → List ℕ → List ℕ → List Mark
+abbrev pub HasCause : Ask → SiteData → ℕ → ℕ → ℕ → Option (List ℕ) → Option (List ℕ) → ℕ → ℕ → List ℕ → List ℕ → List Mark
     → End → Type 0
-HasCause ask site idle turns start now before after given taken log (ends.Told ending) =
+HasCause ask site idle piece turns start now before after given taken log (ends.Told ending) =
     AtEnding ask site start now before after given taken log ending
-HasCause ask site idle turns start now before after given taken log (ends.Stopped stops.NoMemory) =
+HasCause ask site idle piece turns start now before after given taken log (ends.Stopped stops.NoMemory) =
     AtShort ask site start now before after given taken log
-HasCause ask site idle turns start now before after given taken log (ends.Stopped stop) =
+HasCause ask site idle piece turns start now before after given taken log (ends.Stopped stop) =
     AtStop ask site start now before after given taken log stop
-HasCause ask site idle turns start now before after given taken log ends.Closed =
+HasCause ask site idle piece turns start now before after given taken log ends.Closed =
     AtClosing ask site start now before after given taken log
-HasCause ask site idle turns start now before after given taken log ends.Idle =
-    AtIdle ask site idle turns start now before after given taken log
-HasCause ask site idle turns start now before after given taken log ends.Spent =
+HasCause ask site idle piece turns start now before after given taken log ends.Idle =
+    AtIdle ask site idle piece turns start now before after given taken log
+HasCause ask site idle piece turns start now before after given taken log ends.Spent =
     AtSpent ask site idle turns start now before after given taken log
 
 -- An exchange: what the client gave and took, the marks of the desk, and how it ended. The marks are true in the history
@@ -142,7 +143,7 @@ pub record Exchanged (ask : Ask) (idle piece turns : ℕ) (told : Option Moment)
   pub folds : AllFold last.seen log
   pub few : (length given ≤ turns * piece) × (length taken ≤ turns * piece)
   pub begins : Begins ask taken given
-  pub cause : HasCause ask first.seen.base.site idle turns start now before after given taken log end
+  pub cause : HasCause ask first.seen.base.site idle piece turns start now before after given taken log end
 
 -- how an exchange ends in which neither end has a byte any more, where so many rounds are left
 abbrev pub end_at_rest : Bool → ℕ → ℕ → End

@@ -30,8 +30,8 @@ use Rattle.pvac.specs.declared.stop.Status.TheVariants as status
 use Rattle.pvac.specs.declared.stop.Stop.TheVariants as stops
 use Rattle.prog_source.specs.declared.loading.SourceStop.{SourceStop}
 
--- Each end can read what the other one says: no payload is too long. Of an exchange that ended as it should, or for want of
--- memory, nothing is asked.
+-- Each end can read what the other one says: no payload is too long. Of an exchange that ended as it should, for want of
+-- memory, or at an event that the client doesn't take, nothing is asked.
 
 abbrev pub IsBoundClear : (ask : Ask) (site : SiteData) (given taken : List ℕ) (log : List Mark) (rounds left : Type 0)
     → rounds ⊎ (IsQuiet ask site given taken log × left) → Type 0
@@ -39,21 +39,20 @@ IsBoundClear ask site given taken log rounds left (inl spent) = ⊤
 IsBoundClear ask site given taken log rounds left (inr (quiet, few)) =
     AreEndsClear ask site taken quiet.whole.dialogue.talk.steps
 
-abbrev pub IsCauseClear : (ask : Ask) (site : SiteData) (idle turns : ℕ) (start now : Option (List ℕ)) (before after : ℕ)
+abbrev pub IsCauseClear : (ask : Ask) (site : SiteData) (idle piece turns : ℕ) (start now : Option (List ℕ)) (before after : ℕ)
     (given taken : List ℕ) (log : List Mark) (end : End)
-    → HasCause ask site idle turns start now before after given taken log end → Type 0
-IsCauseClear ask site idle turns start now before after given taken log (ends.Told ending) cause = ⊤
-IsCauseClear ask site idle turns start now before after given taken log (ends.Stopped stops.NoMemory) cause = ⊤
-IsCauseClear ask site idle turns start now before after given taken log (ends.Stopped stops.Sink) cause = ⊤
-IsCauseClear ask site idle turns start now before after given taken log (ends.Stopped (stops.Client fault)) cause =
+    → HasCause ask site idle piece turns start now before after given taken log end → Type 0
+IsCauseClear ask site idle piece turns start now before after given taken log (ends.Told ending) cause = ⊤
+IsCauseClear ask site idle piece turns start now before after given taken log (ends.Stopped stops.NoMemory) cause = ⊤
+IsCauseClear ask site idle piece turns start now before after given taken log (ends.Stopped stops.Sink) cause = ⊤
+IsCauseClear ask site idle piece turns start now before after given taken log (ends.Stopped (stops.Client fault)) cause = ⊤
+IsCauseClear ask site idle piece turns start now before after given taken log (ends.Stopped (stops.Frame fault)) cause =
     AreEndsClear ask site taken cause.talked.whole.dialogue.talk.steps
-IsCauseClear ask site idle turns start now before after given taken log (ends.Stopped (stops.Frame fault)) cause =
-    AreEndsClear ask site taken cause.talked.whole.dialogue.talk.steps
-IsCauseClear ask site idle turns start now before after given taken log ends.Closed cause =
+IsCauseClear ask site idle piece turns start now before after given taken log ends.Closed cause =
     AreEndsClear ask site taken cause.whole.dialogue.talk.steps
-IsCauseClear ask site idle turns start now before after given taken log ends.Idle cause =
+IsCauseClear ask site idle piece turns start now before after given taken log ends.Idle cause =
     AreEndsClear ask site taken cause.quiet.whole.dialogue.talk.steps
-IsCauseClear ask site idle turns start now before after given taken log ends.Spent cause =
+IsCauseClear ask site idle piece turns start now before after given taken log ends.Spent cause =
     IsBoundClear ask site given taken log (turns ≤ length given + length taken)
     (turns < length given + length taken + idle) cause.bound
 
@@ -83,7 +82,7 @@ pub record IsFaultless (ask : Ask) (idle piece turns : ℕ) (told : Option Momen
     (x : Exchanged ask idle piece turns told (first_seat base) last start now before after end) : Type 0 where
   pub printed : IsPrinted end
   pub words : (text : PutText) → ¬ (client_fault ask (events_in x.taken) ≡ Some (faults.Words text))
-  pub clear : IsCauseClear ask base.site idle turns start now before after x.given x.taken x.log end x.cause
+  pub clear : IsCauseClear ask base.site idle piece turns start now before after x.given x.taken x.log end x.cause
   pub rounds : HasRounds end turns (length x.given + length x.taken)
 
 -- a monitor of more than one update, the first of which was told

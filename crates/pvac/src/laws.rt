@@ -7,9 +7,9 @@ pub fn marks_are_told()
     ensures { MarksAreTold }
 {}
 
-/// What a run prints whose operation ended is the text that its marks tell, whatever the size of the pieces is in which the bytes
-/// passed.
-pub fn pieces_do_not_matter()
+/// What a run prints whose operation ended is the text that its own marks tell: the size of the pieces in which the bytes passed
+/// doesn't stand in that text. That runs with other pieces make the same marks isn't said here; tests show it.
+pub fn the_text_is_that_of_the_marks()
     ensures { PrintsTheMarks }
 {}
 

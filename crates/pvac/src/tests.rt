@@ -1,6 +1,6 @@
 use crate::client_end::ClientEnd;
 use crate::program::run;
-use crate::stop::{End, Ending, Stop, status_of};
+use crate::stop::{End, Ending, status_of};
 use cli_session::{Ask, Operation};
 use pva_outside::{
     FixedClock, Kinds, MemoryFile, MemoryFiles, MemoryPorts, MemorySink, PlainLink, World,
@@ -70,6 +70,16 @@ alarm.message ""
 timeStamp.secondsPastEpoch 0
 timeStamp.nanoseconds 0
 timeStamp.userTag 0
+"#;
+
+/// What a snapshot of X=42 prints: a row for each record.
+const SNAPSHOT: &str = r#"server
+labels ["name", "value", "severity", "secondsPastEpoch", "nanoseconds"]
+value.name ["X"]
+value.value ["42"]
+value.severity [0]
+value.secondsPastEpoch [0]
+value.nanoseconds [0]
 "#;
 
 /// The outside in memory.
@@ -203,6 +213,30 @@ static ROWS: &[Row] = &[
         FORTY_TWO,
     ),
     (
+        &["--within", "X=42", "get", "X", "--turns", "4"],
+        9,
+        "X\n",
+    ),
+    (
+        &["--within", "X=42", "get", "X", "--turns", "5"],
+        0,
+        FORTY_TWO,
+    ),
+    (
+        &[
+            "--within", "X=42", "monitor", "X", "--count", "2", "--idle", "50", "--turns", "54",
+        ],
+        9,
+        FORTY_TWO,
+    ),
+    (
+        &[
+            "--within", "X=42", "monitor", "X", "--count", "2", "--idle", "50", "--turns", "55",
+        ],
+        6,
+        FORTY_TWO,
+    ),
+    (
         &["--within", "X=42", "call", "server", "channels"],
         0,
         "server\nvalue [\"X\"]\n",
@@ -330,6 +364,22 @@ static PIECEWISE: &[Row] = &[
         "server\nvalue [\"X\"]\n",
     ),
     (&["--within", "X=42", "put", "X", "abc"], 2, "X\n"),
+    (&["--within", "X=42", "put", "X", "5"], 0, "X\n"),
+    (
+        &["--within", "X=42", "call", "server", "info"],
+        0,
+        "server\nversion \"1\"\nrecords 1\ngroups 0\n",
+    ),
+    (
+        &["--within", "X=42", "call", "server", "nope"],
+        1,
+        "server\n",
+    ),
+    (
+        &["--within", "X=42", "call", "server", "snapshot"],
+        0,
+        SNAPSHOT,
+    ),
 ];
 
 /// These words, and behind them that bytes pass in such pieces.
@@ -355,24 +405,6 @@ fn what_is_printed_does_not_depend_on_the_pieces(rt: HostRuntime) -> Result<(), 
             assert_eq!(rt; world.sink.written(), printed.as_bytes(), "{words:?}");
         }
     }
-    Ok(())
-}
-
-#[test]
-fn a_snapshot_has_a_row_for_each_record(rt: HostRuntime) -> Result<(), Fail> {
-    let alloc = rt.alloc();
-    let mut world = world(alloc, &[], &[], &[])?;
-    let words = ["--within", "X=42", "call", "server", "snapshot"];
-    assert_eq!(rt; run(alloc, &words, &mut world), 0);
-    let printed = "server
-labels [\"name\", \"value\", \"severity\", \"secondsPastEpoch\", \"nanoseconds\"]
-value.name [\"X\"]
-value.value [\"42\"]
-value.severity [0]
-value.secondsPastEpoch [0]
-value.nanoseconds [0]
-";
-    assert_eq!(rt; world.sink.written(), printed.as_bytes());
     Ok(())
 }
 
@@ -466,12 +498,6 @@ fn bytes_of_a_server_that_are_at_fault(rt: HostRuntime) -> Result<(), Fail> {
     for (parts, ended, status) in HEARD {
         assert_eq!(rt; heard(alloc, parts)?, (*ended, *status));
     }
-    Ok(())
-}
-
-#[test]
-fn want_of_memory_has_a_status_of_its_own(rt: HostRuntime) -> Result<(), Fail> {
-    assert_eq!(rt; status_of(End::Stopped(Stop::NoMemory)).number(), 7);
     Ok(())
 }
 
