@@ -35,7 +35,7 @@ use Rattle.srv_stream.specs.Served.{Whole}
 use Rattle.srv_stream.specs.Streams.{Stands, moment_told, refused, stop_of}
 use Rattle.srv_stream.specs.declared.ended.Ended.{Ended}
 use Rattle.cli_text.specs.declared.fault.PutText.{PutText}
-use Rattle.cli_session.specs.Laws.{CanWrite}
+use Rattle.cli_session.specs.Laws.{CanWrite, IsShort}
 use Rattle.cli_session.specs.Messages.{Written, written, said, put_id, put_request, monitor_beginning}
 use Rattle.cli_session.specs.State as client
 use Rattle.cli_session.specs.State.{State, updates_of}
@@ -50,10 +50,10 @@ use Rattle.cli_session.specs.declared.fault.ClientFault.TheVariants as faults
 use Rattle.cli_session.specs.declared.turn.Turn.{Turn}
 use Rattle.cli_session.specs.declared.turn.Turn.TheVariants as turn
 use Rattle.pvac.specs.Answers.{updates_in}
-use Rattle.pvac.specs.Clear.{AreEndsClear}
+use Rattle.pvac.specs.Clear.{AreShort}
 use Rattle.pvac.specs.Ends.{events_in, text_for, Begins, HasPrinted}
-use Rattle.pvac.specs.Exchanging.{Exchanged, HasTalked, IsQuiet, AtClosing, ended_by}
-use Rattle.pvac.specs.Laws.{ExchangesComplete, RunsComplete, GoesOn, HasMore, HasWindow, IsInRange, taken_at, taken_by, IsCompleted, IsDoneFaultless, IsFaultless, IsBoundClear, IsLate, IsPrinted, IsSiteFaultless, IsUsual}
+use Rattle.pvac.specs.Exchanging.{Exchanged, HasNoFault, HasTalked, IsQuiet, AtClosing, ended_by}
+use Rattle.pvac.specs.Laws.{ExchangesComplete, RunsComplete, GoesOn, HasMore, HasWindow, IsInRange, taken_at, taken_by, IsCompleted, IsDoneFaultless, IsFaultless, IsLate, IsPrinted, IsSiteFaultless, IsUsual}
 use Rattle.pvac.specs.Running.{Does, Outside, SiteRuns, journal, limits_of, status_of}
 use Rattle.pvac.specs.Words.{AreNumbers, AreTaken, Asked, IsCountIf, IsOperation, given, values_in, word_rows}
 use Rattle.pvac.specs.declared.verb.Numbers.{Numbers}
@@ -63,7 +63,6 @@ use Rattle.pvac.specs.declared.stop.End.{End}
 use Rattle.pvac.specs.declared.stop.End.TheVariants as ends
 use Rattle.pvac.specs.declared.stop.Ending.TheVariants as endings
 use Rattle.pvac.specs.declared.stop.Status.{Status}
-use Rattle.pvac.specs.declared.stop.Stop.{Stop}
 use Rattle.pvac.specs.declared.stop.Stop.TheVariants as stops
 use Rattle.pvac.proofs.ClientTurns.{run_one}
 use Rattle.pvac.proofs.Courses.{Standing, AllGo, Rests, IsWordsOnly}
@@ -71,7 +70,8 @@ use Rattle.pvac.proofs.Joined.{hello, given_read, given_sound, all_heard, out_is
 use Rattle.pvac.proofs.Monitoring.{MonitorMore, monitor_turns}
 use Rattle.pvac.proofs.Openings.{Opened, told_order, validating, greeting_taken}
 use Rattle.pvac.proofs.Putting.{put_turns, put_get_turns}
-use Rattle.pvac.proofs.Said.{AreRequests, AreReplies, IsSpokenClear, IsSpokenShort, Spoken, speak, spoken, requests_front, sent_counted, said_sound, said_counted}
+use Rattle.pvac.proofs.Said.{AreRequests, AreReplies, IsSpokenClear, Spoken, speak, spoken, requests_front, sent_counted, said_sound, said_counted}
+use Rattle.pvac.proofs.Segments.{sent_small}
 use Rattle.pvac.proofs.Starving.{not_starved}
 use Rattle.pvac.proofs.Turning.{Nothing, OwnGo, validation_goes, info_turn, get_turns, call_turns}
 
@@ -135,6 +135,10 @@ none_left : (r : Result Unfinished FrameFault) → result_err r ≡ None → ref
 none_left (Ok left) sound = refl
 none_left (Err fault) sound = absurd cc
 
+none_refused : (r : Result Unfinished FrameFault) → None ≡ refused r → result_err r ≡ None
+none_refused (Ok left) is = refl
+none_refused (Err fault) is = absurd cc
+
 -- Of the events of a dialogue without trouble none remains.
 all_of : (site : SiteData) (s : server.State) (remaining : List Event) (left : Result Unfinished FrameFault) → Stands site s remaining left None → remaining ≡ []
 all_of site s [] left stands = refl
@@ -152,33 +156,29 @@ module _ (ask : Ask) (site : SiteData) (More : Standing) (own : OwnGo ask site M
     faultless : client_fault ask (events_in taken) ≡ None
     faultless = none_wrong (client_fault ask (events_in taken)) goes.fault words
 
-  module _ (talked : HasTalked site given taken log) (clear : AreEndsClear ask site taken talked.whole.dialogue.talk.steps) where
-    all_clear : CanEach IsSpokenClear (hello ask site given taken log talked begins ++ spoken site (opening Little) (steps talked))
-    all_clear = speak_clear Little (segment_for 65536) greetings (spoken site (opening Little) (steps talked)) (segment_moderate 65536) greeting_sayable (spoken_clear site (opening Little) (steps talked) (segment_moderate 65536) talked.whole.dialogue.talk.rules)
+    -- all that the server says in it
+    abbrev said_all : List Spoken
+    said_all = hello ask site given taken log talked begins ++ spoken site (opening Little) steps
 
-    all_short : CanEach IsSpokenShort (hello ask site given taken log talked begins ++ spoken site (opening Little) (steps talked))
-    all_short = speak_short Little (segment_for 65536) greetings (spoken site (opening Little) (steps talked)) greeting_short (spoken_short site (opening Little) (steps talked) clear.replies)
+    all_clear : CanEach IsSpokenClear said_all
+    all_clear = speak_clear Little (segment_for 65536) greetings (spoken site (opening Little) steps) (segment_moderate 65536) greeting_sayable (spoken_clear site (opening Little) steps (segment_moderate 65536) talked.whole.dialogue.talk.rules)
 
-    -- the server's bytes have no header that is refused
-    said_well : result_err (left_from 0 None taken) ≡ None
-    said_well =
-        said_sound (hello ask site given taken log talked begins ++ spoken site (opening Little) (steps talked)) taken
-        (record { rest = talked.sent.rest; whole = out_is ask site given taken log talked begins ∙ talked.sent.whole }) all_clear all_short
+    -- where none of its payloads is too long, no header of its bytes is refused
+    said_well : AreShort site (opening Little) steps → result_err (left_from 0 None taken) ≡ None
+    said_well few =
+        said_sound said_all taken (record { rest = talked.sent.rest; whole = out_is ask site given taken log talked begins ∙ talked.sent.whole }) all_clear
+        (speak_short Little (segment_for 65536) greetings (spoken site (opening Little) steps) greeting_short (spoken_short site (opening Little) steps few))
 
-    -- nor have the client's
-    sent_well : result_err (left_from 0 None given) ≡ None
-    sent_well = given_sound ask given taken begins clear.short
+    -- where all was taken, and no header of it was refused
+    module _ (all : talked.out ≡ taken) (sound : result_err (left_from 0 None taken) ≡ None) where
+      all_taken : length (events_in taken) ≡ length said_all
+      all_taken = said_counted said_all taken (sym all ∙ sym (out_is ask site given taken log talked begins)) all_clear sound
 
-    -- where all was taken
-    module _ (all : talked.out ≡ taken) where
-      all_taken : length (events_in taken) ≡ length (hello ask site given taken log talked begins ++ spoken site (opening Little) (steps talked))
-      all_taken = said_counted (hello ask site given taken log talked begins ++ spoken site (opening Little) (steps talked)) taken (sym all ∙ sym (out_is ask site given taken log talked begins)) all_clear all_short
-
-      -- nothing that the server hears ends its connection
-      pub no_trouble : (trouble : Ended) → talked.trouble ≡ Some trouble → ⊥
-      no_trouble trouble is = by talked.whole.remaining refl
+      -- nothing that the server hears ends its connection, where no header of that is refused
+      pub no_trouble : result_err (left_from 0 None given) ≡ None → (trouble : Ended) → talked.trouble ≡ Some trouble → ⊥
+      no_trouble sent_well trouble is = by talked.whole.remaining refl
         where
-          heard_as : (remaining : List Event) → talked.whole.remaining ≡ remaining → AreRequests (events_of (steps talked) ++ remaining) (client_sent ask (events_in taken))
+          heard_as : (remaining : List Event) → talked.whole.remaining ≡ remaining → AreRequests (events_of steps ++ remaining) (client_sent ask (events_in taken))
           heard_as remaining same =
               subst (λ (es : List Event). AreRequests es (client_sent ask (events_in taken)))
               (talked.whole.all ∙ (λ i. sym talked.whole.dialogue.talk.events_are i ++ same i))
@@ -186,34 +186,39 @@ module _ (ask : Ask) (site : SiteData) (More : Standing) (own : OwnGo ask site M
 
           by : (remaining : List Event) → talked.whole.remaining ≡ remaining → ⊥
           by [] same =
-              let stands = subst (λ (es : List Event). Stands site (state_after site (opening Little) (steps talked)) es (left_from 0 None given) talked.trouble) same talked.whole.stands in
+              let stands = subst (λ (es : List Event). Stands site (state_after site (opening Little) steps) es (left_from 0 None given) talked.trouble) same talked.whole.stands in
               let clash : Some trouble ≡ None = sym is ∙ stands ∙ none_left (left_from 0 None given) sent_well in
               absurd cc
           by (e ∷ more) same =
-              let stands = subst (λ (es : List Event). Stands site (state_after site (opening Little) (steps talked)) es (left_from 0 None given) talked.trouble) same talked.whole.stands in
-              let first = requests_front (events_of (steps talked) ++ e ∷ []) more (client_sent ask (events_in taken)) (subst (λ (es : List Event). AreRequests es (client_sent ask (events_in taken))) (sym (append_assoc (events_of (steps talked)) (e ∷ []) more)) (heard_as (e ∷ more) same)) in
-              let fine = (goes talked).ahead all_taken e first in
+              let stands = subst (λ (es : List Event). Stands site (state_after site (opening Little) steps) es (left_from 0 None given) talked.trouble) same talked.whole.stands in
+              let first = requests_front (events_of steps ++ e ∷ []) more (client_sent ask (events_in taken)) (subst (λ (es : List Event). AreRequests es (client_sent ask (events_in taken))) (sym (append_assoc (events_of steps) (e ∷ []) more)) (heard_as (e ∷ more) same)) in
+              let fine = goes.ahead all_taken e first in
               let clash : false ≡ true = ap is_some (sym fine) ∙ stands.1 in
               absurd cc
 
       -- the operation has ended, or more may stand
-      pub at_rest : talked.trouble ≡ None → given ≡ client_bytes ask (events_in taken) → CanEach CanWrite (client_sent ask (events_in taken)) → ended_by ask taken ≡ None → More (state_after site (opening Little) (steps talked)) (marks_of (steps talked)) (client_told ask (events_in taken))
-      at_rest none said_all written_all unended = by ((goes talked).rests all_taken heard_count)
+      pub at_rest : talked.trouble ≡ None → given ≡ client_bytes ask (events_in taken) → CanEach CanWrite (client_sent ask (events_in taken)) → ended_by ask taken ≡ None → More (state_after site (opening Little) steps) (marks_of steps) (client_told ask (events_in taken))
+      at_rest none said_all_ written_all unended = by (goes.rests all_taken heard_count)
         where
-          nothing_remains : talked.whole.remaining ≡ []
-          nothing_remains =
-              all_of site (state_after site (opening Little) (steps talked)) talked.whole.remaining (left_from 0 None given)
-              (subst (λ (o : Option Ended). Stands site (state_after site (opening Little) (steps talked)) talked.whole.remaining (left_from 0 None given) o) none talked.whole.stands)
+          stands_so : Stands site (state_after site (opening Little) steps) talked.whole.remaining (left_from 0 None given) None
+          stands_so = subst (λ (o : Option Ended). Stands site (state_after site (opening Little) steps) talked.whole.remaining (left_from 0 None given) o) none talked.whole.stands
 
-          heard_count : length (events_of (steps talked)) ≡ length (client_sent ask (events_in taken))
+          nothing_remains : talked.whole.remaining ≡ []
+          nothing_remains = all_of site (state_after site (opening Little) steps) talked.whole.remaining (left_from 0 None given) stands_so
+
+          -- what the client gave has no header that is refused either
+          sent_well : result_err (left_from 0 None given) ≡ None
+          sent_well = none_refused (left_from 0 None given) (subst (λ (es : List Event). Stands site (state_after site (opening Little) steps) es (left_from 0 None given) None) nothing_remains stands_so)
+
+          heard_count : length (events_of steps) ≡ length (client_sent ask (events_in taken))
           heard_count =
               ap (λ (es : List Event). length es)
               (talked.whole.dialogue.talk.events_are ∙ sym (append-nil talked.whole.events) ∙ ap (λ (es : List Event). talked.whole.events ++ es) (sym nothing_remains) ∙ sym talked.whole.all)
-              ∙ sent_counted (client_sent ask (events_in taken)) given said_all written_all clear.short
+              ∙ sent_counted (client_sent ask (events_in taken)) given said_all_ written_all (sent_small ask (events_in taken)) sent_well
 
-          by : Rests ask site More (state_after site (opening Little) (steps talked)) (marks_of (steps talked)) (client_told ask (events_in taken)) (client_fault ask (events_in taken)) → More (state_after site (opening Little) (steps talked)) (marks_of (steps talked)) (client_told ask (events_in taken))
+          by : Rests ask site More (state_after site (opening Little) steps) (marks_of steps) (client_told ask (events_in taken)) (client_fault ask (events_in taken)) → More (state_after site (opening Little) steps) (marks_of steps) (client_told ask (events_in taken))
           by (inl ended) = absurd (let clash : None ≡ Some ended.0 = sym unended ∙ ended.1 in cc)
-          by (inr (inl wrong)) = absurd (wrong (faultless talked))
+          by (inr (inl wrong)) = absurd (wrong faultless)
           by (inr (inr more)) = more
 
 -- all that was said was taken
@@ -227,40 +232,41 @@ Finishes ask site More = (steps : List Step) (endings : List Mark) (seat : ℕ) 
 
 module _ (ask : Ask) (idle piece turns : ℕ) (told : Option Moment) (base : Base) (last : Seat) (start now : Option (List ℕ)) (before after : ℕ) (More : Standing) (own : OwnGo ask base.site More) (finishes : Finishes ask base.site More) where
   module _ (given taken : List ℕ) (log : List Mark) (adds : Adds (first_seat base) last log) (begins : Begins ask taken given) (words : (text : PutText) → client_fault ask (events_in taken) ≡ Some (faults.Words text) → ⊥) where
-    more_at : (q : IsQuiet ask base.site given taken log) → AreEndsClear ask base.site taken q.whole.dialogue.talk.steps → ended_by ask taken ≡ None → HasMore ask.operation (client_told ask (events_in taken))
-    more_at q clear unended =
+    more_at : IsQuiet ask base.site given taken log → HasNoFault ask taken → ended_by ask taken ≡ None → HasMore ask.operation (client_told ask (events_in taken))
+    more_at q sound unended =
         let talked = talked_of base.site given taken log None q.whole in
         let d = q.whole.dialogue in
         finishes d.talk.steps d.endings last.number last.seen q.drained
         (subst (AllHold last.number last.seen []) (sym (log_is ask base.site given taken log talked begins)) adds.true_)
         (client_told ask (events_in taken))
-        (at_rest ask base.site More own given taken log begins words talked clear refl refl q.said q.written unended)
+        (at_rest ask base.site More own given taken log begins words talked refl sound.headers refl q.said q.written unended)
         (ap updates_in (log_is ask base.site given taken log talked begins) ∙ updates_are ask base.site given taken log talked begins)
 
-    stopped_so : (stop : Stop) (talked : HasTalked base.site given taken log) → (fault : ClientFault) → client_fault ask (events_in taken) ≡ Some fault → ⊥
-    stopped_so stop talked fault is = let clash : None ≡ Some fault = sym (faultless ask base.site More own given taken log begins words talked) ∙ is in absurd cc
+    stopped_so : (talked : HasTalked base.site given taken log) → (fault : ClientFault) → client_fault ask (events_in taken) ≡ Some fault → ⊥
+    stopped_so talked fault is = let clash : None ≡ Some fault = sym (faultless ask base.site More own given taken log begins words talked) ∙ is in absurd cc
 
-    refused_so : (talked : HasTalked base.site given taken log) → AreEndsClear ask base.site taken talked.whole.dialogue.talk.steps → (fault : FrameFault) → result_err (left_from 0 None taken) ≡ Some fault → ⊥
-    refused_so talked clear fault is = let clash : None ≡ Some fault = sym (said_well ask base.site More own given taken log begins words talked clear) ∙ is in absurd cc
+    refused_so : (talked : HasTalked base.site given taken log) → AreShort base.site (opening Little) talked.whole.dialogue.talk.steps → (fault : FrameFault) → result_err (left_from 0 None taken) ≡ Some fault → ⊥
+    refused_so talked few fault is = let clash : None ≡ Some fault = sym (said_well ask base.site More own given taken log begins words talked few) ∙ is in absurd cc
 
-    closed_so : (c : AtClosing ask base.site start now before after given taken log) → AreEndsClear ask base.site taken c.whole.dialogue.talk.steps → ⊥
-    closed_so c clear = no_trouble ask base.site More own given taken log begins words (talked_of base.site given taken log (Some c.trouble) c.whole) clear refl c.trouble refl
+    closed_so : AtClosing ask base.site start now before after given taken log → CanEach IsShort (client_sent ask (events_in taken)) → ⊥
+    closed_so c few =
+        no_trouble ask base.site More own given taken log begins words (talked_of base.site given taken log (Some c.trouble) c.whole) refl c.sound.headers (given_sound ask given taken begins few) c.trouble refl
 
-    spent_so : (b : (turns ≤ length given + length taken) ⊎ (IsQuiet ask base.site given taken log × (turns < length given + length taken + idle)))
-        → IsBoundClear ask base.site given taken log (turns ≤ length given + length taken) (turns < length given + length taken + idle) b → length given + length taken < turns → ended_by ask taken ≡ None → HasMore ask.operation (client_told ask (events_in taken))
-    spent_so (inl spent) clear enough unended = absurd (omega (arith, spent, enough))
-    spent_so (inr (quiet, few)) clear enough unended = more_at quiet clear unended
+    spent_so : (turns ≤ length given + length taken) ⊎ (IsQuiet ask base.site given taken log × (turns < length given + length taken + idle)) → HasNoFault ask taken → length given + length taken < turns → ended_by ask taken ≡ None
+        → HasMore ask.operation (client_told ask (events_in taken))
+    spent_so (inl spent) sound enough unended = absurd (omega (arith, spent, enough))
+    spent_so (inr (quiet, few)) sound enough unended = more_at quiet sound unended
 
   completes_so : (end : End) (x : Exchanged ask idle piece turns told (first_seat base) last start now before after end) → IsFaultless ask idle piece turns told base last start now before after end x → IsCompleted ask x.taken end
   completes_so (ends.Told ending) x f = tt
   completes_so (ends.Stopped stops.NoMemory) x f = tt
   completes_so (ends.Stopped stops.Sink) x f = absurd f.printed
   completes_so (ends.Stopped (stops.Client faults.NoMemory)) x f = tt
-  completes_so (ends.Stopped (stops.Client fault)) x f = absurd (stopped_so x.given x.taken x.log x.adds x.begins f.words (stops.Client fault) x.cause.talked fault x.cause.stopped.stopped.1)
+  completes_so (ends.Stopped (stops.Client fault)) x f = absurd (stopped_so x.given x.taken x.log x.adds x.begins f.words x.cause.talked fault x.cause.stopped.stopped.1)
   completes_so (ends.Stopped (stops.Frame fault)) x f = absurd (refused_so x.given x.taken x.log x.adds x.begins f.words x.cause.talked f.clear fault x.cause.stopped.refused)
   completes_so ends.Closed x f = absurd (closed_so x.given x.taken x.log x.adds x.begins f.words x.cause f.clear)
-  completes_so ends.Idle x f = more_at x.given x.taken x.log x.adds x.begins f.words x.cause.quiet f.clear x.cause.unended
-  completes_so ends.Spent x f = spent_so x.given x.taken x.log x.adds x.begins f.words x.cause.bound f.clear f.rounds x.cause.unended
+  completes_so ends.Idle x f = more_at x.given x.taken x.log x.adds x.begins f.words x.cause.quiet x.cause.sound x.cause.unended
+  completes_so ends.Spent x f = spent_so x.given x.taken x.log x.adds x.begins f.words x.cause.bound x.cause.sound f.rounds x.cause.unended
 
 -- By the operation.
 

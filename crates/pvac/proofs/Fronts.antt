@@ -16,7 +16,7 @@ use Rattle.pva_frames.specs.declared.event.Event.{Event}
 use Rattle.pva_frames.specs.declared.event.Event.TheVariants.{Message, Control}
 use Rattle.pvd_codec.specs.Written.{CanEach}
 use Rattle.histories.specs.History.{IsPrefixOf}
-use Rattle.pvac.proofs.Overlong.{overlong_brings_none}
+use Rattle.pvac.proofs.Overlong.{overlong_brings_none, overlong_is_refused}
 
 -- a message in an order, in segments of so many bytes; a control message
 pub data Piece : Type 0 where
@@ -216,7 +216,38 @@ front_sound server ps front begins can = by (left_from 0 None front) refl
     by (Err fault) is = absurd (let clash : Some fault ≡ None = sym (ap result_err (fault-stays 0 None front begins.rest fault is).1) ∙ whole_sound in cc)
 
 -- of all the bytes all events
-pub all_counted : (server : Bool) (ps : List Piece) → CanEach IsReadable ps → length (events_from 0 None (pieces_bytes server ps)) ≡ length ps
+all_counted : (server : Bool) (ps : List Piece) → CanEach IsReadable ps → length (events_from 0 None (pieces_bytes server ps)) ≡ length ps
 all_counted server ps can =
     let all = all_brought server ps [] 0 (nothing_left 0) can in
     ap (λ (es : List Event). length es) (all.events ∙ ap (λ (es : List Event). es ++ all.these) (nothing_read 0)) ∙ all.count
+
+-- Where all were said and no header is refused, each can be read: none is too long.
+
+sound_on : (server : Bool) (p : Piece) (ps : List Piece) (before : List ℕ) → result_err (left_from 0 None (before ++ pieces_bytes server (p ∷ ps))) ≡ None
+    → result_err (left_from 0 None (((before ++ piece_bytes server p) ++ []) ++ pieces_bytes server ps)) ≡ None
+sound_on server p ps before sound =
+    let bytes = piece_bytes server p in
+    let more = pieces_bytes server ps in
+    let cut_is : before ++ (bytes ++ more) ≡ ((before ++ bytes) ++ []) ++ more =
+    sym (append_assoc before bytes more) ∙ ap (λ (xs : List ℕ). xs ++ more) (sym (append-nil (before ++ bytes))) in
+    ap (λ (xs : List ℕ). result_err (left_from 0 None xs)) (sym cut_is) ∙ sound
+
+all_readable : (server : Bool) (ps : List Piece) (before : List ℕ) (at : ℕ) → left_from 0 None before ≡ Ok (boundary at) → CanEach CanPiece ps → result_err (left_from 0 None (before ++ pieces_bytes server ps)) ≡ None → CanEach IsReadable ps
+all_readable server [] before at stands can sound = tt
+all_readable server (whole order command payload segment ∷ ps) before at stands can sound =
+    let p = whole order command payload segment in
+    by_length (CanEach IsReadable (p ∷ ps)) (length payload)
+    (λ few.
+    let one = one_more server before at stands p (can.0.0, few) in
+    ((can.0.0, few), all_readable server ps ((before ++ piece_bytes server p) ++ []) one.behind one.left can.1 (sound_on server p ps before sound)))
+    (λ long.
+    let refused = overlong_is_refused before (pieces_bytes server ps) payload at order server command segment stands can.0.0 can.0.1 long in
+    absurd (let clash : Some refused.0 ≡ None = sym (ap result_err refused.1) ∙ sound in cc))
+all_readable server (short order command number ∷ ps) before at stands can sound =
+    let p = short order command number in
+    let one = one_more server before at stands p can.0 in
+    (can.0, all_readable server ps ((before ++ piece_bytes server p) ++ []) one.behind one.left can.1 (sound_on server p ps before sound))
+
+-- and so all events come of all the bytes
+pub sound_counted : (server : Bool) (ps : List Piece) → CanEach CanPiece ps → result_err (left_from 0 None (pieces_bytes server ps)) ≡ None → length (events_from 0 None (pieces_bytes server ps)) ≡ length ps
+sound_counted server ps can sound = all_counted server ps (all_readable server ps [] 0 (nothing_left 0) can sound)

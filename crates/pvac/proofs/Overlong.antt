@@ -1,5 +1,5 @@
--- A message that is longer than a reader takes brings no event, nor does anything behind it.
-use Rattle.std.proofs.Common.{◌≡◌, ℕ, zero, suc, ◌+◌, ◌≤◌, ◌<◌, ◌^◌, Bool, true, false, cond, eqb, leb, eq-eqb, List, [], ◌∷◌, ◌++◌, length, take, drop, Option, None, Some, Ok, Err, refl, sym, ap, ◌∙◌, subst, arith, length-append}
+-- A message that is longer than a reader takes brings no event, nor does anything behind it, and its header is refused.
+use Rattle.std.proofs.Common.{◌≡◌, ℕ, zero, suc, ◌+◌, ◌≤◌, ◌<◌, ◌^◌, Bool, true, false, cond, eqb, leb, eq-eqb, List, [], ◌∷◌, ◌++◌, length, take, drop, Option, None, Some, Result, Ok, Err, refl, sym, ap, ◌∙◌, subst, arith, length-append}
 use Rattle.std.proofs.lemmas.List.{append-nil, length-drop, length-take-le, drop_at}
 use Rattle.std.proofs.lemmas.Bool.{le-leb, lt-leb, leb-true, leb-false}
 use Rattle.byteorder.specs.Numbers.{little_number-reads_back, big_number-reads_back}
@@ -16,7 +16,7 @@ use Rattle.pva_frames.specs.declared.fault.FrameFault.TheVariants.{TooLong}
 use Rattle.pva_frames.specs.Numbers.{number_of, number_bytes}
 use Rattle.pva_frames.specs.Headers.{order_of, header_of, is_control, segment_of}
 use Rattle.pva_frames.specs.Frames.{Frame, size_of}
-use Rattle.pva_frames.specs.Messages.{limit, refusal, refusal_by, refusal_of_rest, length_refusal, segment_refusal, foreign, joined, ends, event_of, run_after, events_from, left_from}
+use Rattle.pva_frames.specs.Messages.{Unfinished, limit, refusal, refusal_by, refusal_of_rest, length_refusal, segment_refusal, foreign, joined, ends, event_of, run_after, events_from, left_from}
 use Rattle.pva_frames.specs.Assembled.{Assembled, fed_on}
 use Rattle.pva_frames.specs.Laws.{boundary}
 use Rattle.pva_frames.specs.Spelling.{order_flag, server_flag, header_bytes, frame_bytes, later_segments, message_bytes}
@@ -289,3 +289,15 @@ overlong_brings_none before after payload at order server command segment stands
     events-join 0 None before (message ++ after) (boundary at) stands
     ∙ ap (λ (es : List Event). events_from 0 None before ++ es) (ap (λ (a : Assembled). a.events) fails.1)
     ∙ append-nil (events_from 0 None before)
+
+-- and one of its headers is refused
+pub overlong_is_refused : (before after payload : List ℕ) (at : ℕ) (order : Order) (server : Bool) (command segment : ℕ) → left_from 0 None before ≡ Ok (boundary at) → 0 < segment → segment ≤ limit → limit < length payload
+    → (fault : FrameFault) × (left_from 0 None (before ++ (message_bytes order server command payload segment ++ after)) ≡ Err fault)
+unfolding Fails
+overlong_is_refused before after payload at order server command segment stands some small long =
+    let message = message_bytes order server command payload segment in
+    let fails = first-fails at None message after (message-fails order server command segment payload at some small long) in
+    (fails.0,
+    sym (ap (λ (a : Assembled). a.left) (read-join 0 None before (message ++ after)))
+    ∙ ap (λ (l : Result Unfinished FrameFault). (fed_on (events_from 0 None before) l (message ++ after)).left) stands
+    ∙ ap (λ (a : Assembled). a.left) fails.1)

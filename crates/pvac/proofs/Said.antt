@@ -18,7 +18,7 @@ use Rattle.cli_session.specs.Laws.{CanSent, CanWrite, IsShort}
 use Rattle.cli_session.specs.Messages as requests
 use Rattle.cli_session.specs.Messages.{Written, written_bytes}
 use Rattle.pvac.proofs.Segments.{IsSmall}
-use Rattle.pvac.proofs.Fronts.{Piece, whole, short, piece_bytes, pieces_bytes, CanPiece, IsReadable, IsEventOf, AreFirst, front_read, front_sound, all_counted}
+use Rattle.pvac.proofs.Fronts.{Piece, whole, short, piece_bytes, pieces_bytes, CanPiece, IsReadable, IsEventOf, AreFirst, front_read, front_sound, sound_counted}
 use Rattle.pvac.specs.Clear.{IsShortIn}
 
 -- Of the client.
@@ -186,7 +186,7 @@ said_read xs front begins clear =
     are_replies (events_from 0 None front) xs
     (front_read true (reply_pieces xs) front (record { rest = begins.rest; whole = sym (replies_bytes xs) ∙ begins.whole }) (can_replies xs clear)) clear
 
--- Where no payload is too long, no header of the first bytes is refused, and of all bytes all messages are read.
+-- Where no payload is too long, no header of the first bytes is refused. Where none of all the bytes is, all messages are read.
 
 sent_readable : (order : Order) (segment : ℕ) (x : requests.Sent) → CanSent segment x → ((m : Request) → x ≡ requests.said m → length (request_payload order m) ≤ limit) → IsReadable (request_piece order segment x)
 sent_readable order segment (requests.said m) can few = (can.0, few m refl)
@@ -204,9 +204,12 @@ requests_counted : (ws : List Written) → length (request_pieces ws) ≡ length
 requests_counted [] = refl
 requests_counted (w ∷ ws) = ap suc (requests_counted ws)
 
-pub sent_counted : (ws : List Written) (all : List ℕ) → all ≡ written_bytes ws → CanEach CanWrite ws → CanEach IsShort ws → length (events_from 0 None all) ≡ length ws
-sent_counted ws all is can few =
-    ap (λ (bytes : List ℕ). length (events_from 0 None bytes)) (is ∙ requests_bytes ws) ∙ all_counted false (request_pieces ws) (all_sent_readable ws can few) ∙ requests_counted ws
+pub sent_counted : (ws : List Written) (all : List ℕ) → all ≡ written_bytes ws → CanEach CanWrite ws → CanEach IsSmall ws → result_err (left_from 0 None all) ≡ None → length (events_from 0 None all) ≡ length ws
+sent_counted ws all is can small sound =
+    let same = is ∙ requests_bytes ws in
+    ap (λ (bytes : List ℕ). length (events_from 0 None bytes)) same
+    ∙ sound_counted false (request_pieces ws) (can_requests ws can small) (ap (λ (bytes : List ℕ). result_err (left_from 0 None bytes)) (sym same) ∙ sound)
+    ∙ requests_counted ws
 
 abbrev pub IsSpokenShort : Spoken → Type 0
 IsSpokenShort x = IsShortIn x.order x.sent
@@ -227,6 +230,9 @@ replies_counted : (xs : List Spoken) → length (reply_pieces xs) ≡ length xs
 replies_counted [] = refl
 replies_counted (x ∷ xs) = ap suc (replies_counted xs)
 
-pub said_counted : (xs : List Spoken) (all : List ℕ) → all ≡ spoken_bytes xs → CanEach IsSpokenClear xs → CanEach IsSpokenShort xs → length (events_from 0 None all) ≡ length xs
-said_counted xs all is clear few =
-    ap (λ (bytes : List ℕ). length (events_from 0 None bytes)) (is ∙ replies_bytes xs) ∙ all_counted true (reply_pieces xs) (all_said_readable xs clear few) ∙ replies_counted xs
+pub said_counted : (xs : List Spoken) (all : List ℕ) → all ≡ spoken_bytes xs → CanEach IsSpokenClear xs → result_err (left_from 0 None all) ≡ None → length (events_from 0 None all) ≡ length xs
+said_counted xs all is clear sound =
+    let same = is ∙ replies_bytes xs in
+    ap (λ (bytes : List ℕ). length (events_from 0 None bytes)) same
+    ∙ sound_counted true (reply_pieces xs) (can_replies xs clear) (ap (λ (bytes : List ℕ). result_err (left_from 0 None bytes)) (sym same) ∙ sound)
+    ∙ replies_counted xs

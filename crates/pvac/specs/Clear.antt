@@ -2,7 +2,6 @@
 use Rattle.std.specs.Prelude.{◌≡◌, ◌≤◌, ℕ, List, [], ◌∷◌, ◌++◌, length, take, Option, Some, ⊤}
 use Rattle.std.specs.List.{flat_map}
 use Rattle.pva_wire.specs.declared.order.Order.{Order}
-use Rattle.pva_wire.specs.declared.order.Order.TheVariants.{Little}
 use Rattle.pva_frames.specs.Messages.{limit}
 use Rattle.pvd_type.specs.Tree.{Tree}
 use Rattle.pvd_codec.specs.Written.{CanEach}
@@ -17,10 +16,9 @@ use Rattle.desk_api.specs.declared.mark.Mark.{Mark}
 use Rattle.desk_api.specs.declared.mark.Seat.{Seat}
 use Rattle.journal_core.specs.Moments.{Moment}
 use Rattle.srv_session.specs.Replies.{Sent, said, control}
-use Rattle.srv_session.specs.State.{State, opening}
+use Rattle.srv_session.specs.State.{State}
 use Rattle.srv_session.specs.Steps.{Step, sent_in, after_step}
-use Rattle.cli_session.specs.Laws.{IsShort}
-use Rattle.cli_session.specs.Steps.{client_sent, client_told}
+use Rattle.cli_session.specs.Steps.{client_told}
 use Rattle.cli_session.specs.declared.ask.Ask.{Ask}
 use Rattle.cli_session.specs.declared.ask.Operation.TheVariants as operation
 use Rattle.pvac.specs.Answers.{answer_text, update_text, updates_in}
@@ -41,11 +39,6 @@ IsShortIn order (control command number) = ⊤
 abbrev pub AreShort : SiteData → State → List Step → Type 0
 AreShort site s [] = ⊤
 AreShort site s (x ∷ xs) = CanEach (IsShortIn s.order) (sent_in x) × AreShort site (after_step site s x) xs
-
--- Where no payload of either end is too long, each reads all that the other one says.
-pub record AreEndsClear (ask : Ask) (site : SiteData) (taken : List ℕ) (steps : List Step) : Type 0 where
-  pub short : CanEach IsShort (client_sent ask (events_in taken))
-  pub replies : AreShort site (opening Little) steps
 
 -- Where the operation ended, what is printed is the text that the marks tell, and otherwise a front of it.
 pub record IsAsTold (ask : Ask) (site : SiteData) (taken : List ℕ) (log : List Mark) : Type 0 where

@@ -4,22 +4,26 @@ use Rattle.std.proofs.Common.{inl, inr}
 use Rattle.clap.specs.Words.{Text}
 use Rattle.pva_outside.specs.Count.{Rose}
 use Rattle.pva_outside.specs.Makers.{MakerView}
+use Rattle.pva_wire.specs.declared.order.Order.TheVariants.{Little}
+use Rattle.pvd_codec.specs.Written.{CanEach}
 use Rattle.desk_api.specs.Calls.{first_seat}
 use Rattle.desk_api.specs.declared.history.Base.{Base}
 use Rattle.desk_api.specs.declared.history.SiteData.{SiteData}
 use Rattle.desk_api.specs.declared.mark.Mark.{Mark}
 use Rattle.desk_api.specs.declared.mark.Seat.{Seat}
 use Rattle.journal_core.specs.Moments.{Moment}
+use Rattle.srv_session.specs.State.{opening}
 use Rattle.srv_stream.specs.Streams.{moment_told}
 use Rattle.cli_text.specs.declared.fault.PutText.{PutText}
-use Rattle.cli_session.specs.Steps.{Told, part, client_told, client_fault}
+use Rattle.cli_session.specs.Laws.{IsShort}
+use Rattle.cli_session.specs.Steps.{Told, part, client_told, client_sent, client_fault}
 use Rattle.cli_session.specs.declared.ask.Ask.{Ask}
 use Rattle.cli_session.specs.declared.ask.Operation.{Operation}
 use Rattle.cli_session.specs.declared.ask.Operation.TheVariants as operation
 use Rattle.cli_session.specs.declared.fault.ClientFault.TheVariants as faults
-use Rattle.pvac.specs.Clear.{AreEndsClear}
+use Rattle.pvac.specs.Clear.{AreShort}
 use Rattle.pvac.specs.Ends.{events_in, text_for, HasPrinted}
-use Rattle.pvac.specs.Exchanging.{Exchanged, HasCause, IsQuiet}
+use Rattle.pvac.specs.Exchanging.{Exchanged, HasCause}
 use Rattle.pvac.specs.Running.{Does, IsDone, Outside, SiteRuns, journal, limits_of}
 use Rattle.pvac.specs.Words.{Asked, most}
 use Rattle.pvac.specs.declared.rounds.Limits.{Limits}
@@ -30,15 +34,8 @@ use Rattle.pvac.specs.declared.stop.Status.TheVariants as status
 use Rattle.pvac.specs.declared.stop.Stop.TheVariants as stops
 use Rattle.prog_source.specs.declared.loading.SourceStop.{SourceStop}
 
--- Each end can read what the other one says: no payload is too long. Of an exchange that ended as it should, for want of
--- memory, or at an event that the client doesn't take, nothing is asked.
-
-abbrev pub IsBoundClear : (ask : Ask) (site : SiteData) (given taken : List ℕ) (log : List Mark) (rounds left : Type 0)
-    → rounds ⊎ (IsQuiet ask site given taken log × left) → Type 0
-IsBoundClear ask site given taken log rounds left (inl spent) = ⊤
-IsBoundClear ask site given taken log rounds left (inr (quiet, few)) =
-    AreEndsClear ask site taken quiet.whole.dialogue.talk.steps
-
+-- Where an end may have stopped at a header of the other one, no payload of that other one is too long. Of an exchange that
+-- ended otherwise nothing is asked.
 abbrev pub IsCauseClear : (ask : Ask) (site : SiteData) (idle piece turns : ℕ) (start now : Option (List ℕ)) (before after : ℕ)
     (given taken : List ℕ) (log : List Mark) (end : End)
     → HasCause ask site idle piece turns start now before after given taken log end → Type 0
@@ -47,14 +44,11 @@ IsCauseClear ask site idle piece turns start now before after given taken log (e
 IsCauseClear ask site idle piece turns start now before after given taken log (ends.Stopped stops.Sink) cause = ⊤
 IsCauseClear ask site idle piece turns start now before after given taken log (ends.Stopped (stops.Client fault)) cause = ⊤
 IsCauseClear ask site idle piece turns start now before after given taken log (ends.Stopped (stops.Frame fault)) cause =
-    AreEndsClear ask site taken cause.talked.whole.dialogue.talk.steps
+    AreShort site (opening Little) cause.talked.whole.dialogue.talk.steps
 IsCauseClear ask site idle piece turns start now before after given taken log ends.Closed cause =
-    AreEndsClear ask site taken cause.whole.dialogue.talk.steps
-IsCauseClear ask site idle piece turns start now before after given taken log ends.Idle cause =
-    AreEndsClear ask site taken cause.quiet.whole.dialogue.talk.steps
-IsCauseClear ask site idle piece turns start now before after given taken log ends.Spent cause =
-    IsBoundClear ask site given taken log (turns ≤ length given + length taken)
-    (turns < length given + length taken + idle) cause.bound
+    CanEach IsShort (client_sent ask (events_in taken))
+IsCauseClear ask site idle piece turns start now before after given taken log ends.Idle cause = ⊤
+IsCauseClear ask site idle piece turns start now before after given taken log ends.Spent cause = ⊤
 
 -- a monitor's window, where it has one, may be asked for
 abbrev pub IsInRange : Option ℕ → Type 0
@@ -75,8 +69,8 @@ abbrev pub HasRounds : End → ℕ → ℕ → Type 0
 HasRounds ends.Spent turns bytes = bytes < turns
 HasRounds end turns bytes = ⊤
 
--- An exchange that meets no fault: every print was taken, the words of a put give a value, each end can read what the other
--- one says, and where the rounds were spent, there were more of them than bytes.
+-- An exchange that meets no fault: every print was taken, the words of a put give a value, no end stopped at a payload that
+-- is too long, and where the rounds were spent, there were more of them than bytes.
 pub record IsFaultless (ask : Ask) (idle piece turns : ℕ) (told : Option Moment) (base : Base) (last : Seat)
     (start now : Option (List ℕ)) (before after : ℕ) (end : End)
     (x : Exchanged ask idle piece turns told (first_seat base) last start now before after end) : Type 0 where
