@@ -70,21 +70,25 @@ A NAME has 1 to 200 bytes. An N is a decimal number from 1 to 2147483647, or of 
 
 The first line that is printed is the channel's name, and then comes a line for each field: its path, and its value. Texts
 stand in quotes, in which a backslash comes before a quote and a backslash, and \\n, \\t and \\x with two digits stand for
-control characters; lists stand in [a, b], a number of floating point as its bits, a choice as its number (.index) beside the
-texts of all choices; ` overrun` behind a field says that it changed more than once since the update before. For info the value
-is the field's type, as int, string[] or structure alarm_t. A fault prints nothing: the status alone tells it.
+control characters; lists stand in [a, b], a number of floating point as its bits (1.5 as bits:0x3ff8000000000000), a choice as
+its number (.index) beside the texts of all choices; ` overrun` behind a field says that it changed more than once since the
+update before. For info the value is the field's type, as int, string[] or structure alarm_t. A fault prints nothing: the
+status alone tells it.
 
-A VALUE is a number, true or false, a text without quotes, a choice of an enumeration or its number; several are the elements
-of a list, before which no count stands. FIELD=VALUE writes other fields than `value`, as those of a group; then every VALUE
-has that form, and a choice is given by its number alone, as mode.value.index=1. A VALUE that begins with - stands behind the
-word --.
+A VALUE is a decimal number that the field's type has, true or false, a text without quotes, a choice of an enumeration or its
+number; no number of floating point can be written. Several are the elements of a list, before which no count stands.
+FIELD=VALUE writes other fields than `value`, as those of a group; then every VALUE has that form, and a choice is given by its
+number alone, as mode.value.index=1. A VALUE that begins with - stands behind the word --.
 
 Examples over the network:
 
     pvac get BL:M1:Pos
     pvac --search 10.0.0.255:5076 get BL:M1:Pos
     pvac --server 10.0.0.7:5075 put BL:M1:Pos 1500
+    pvac put BL:M1:Mode Move
+    pvac put BL:M1:Trace 1 2 3
     pvac monitor BL:M1:Pos --count 3
+    pvac --server 10.0.0.7:5075 monitor BL:M1:Pos --count 2147483647 --idle 2147483647
 
 Examples without it, with the file slide.db:
 
