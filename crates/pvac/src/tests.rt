@@ -212,11 +212,7 @@ static ROWS: &[Row] = &[
         6,
         FORTY_TWO,
     ),
-    (
-        &["--within", "X=42", "get", "X", "--turns", "4"],
-        9,
-        "X\n",
-    ),
+    (&["--within", "X=42", "get", "X", "--turns", "4"], 9, "X\n"),
     (
         &["--within", "X=42", "get", "X", "--turns", "5"],
         0,
