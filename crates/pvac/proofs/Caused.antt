@@ -112,12 +112,12 @@ module _ (ask : Ask) (route : Route) (p q : Patience) (d d' : DatagramsView) (le
   }
 
   client_cause : (to : Peer) (fault : ClientFault) → HasOperated ask q to old new start now before after (outcomes.Stopped (stops.Client fault)) → IsCause ask route p d d' old new start now before after (status_of_fault fault)
-  client_cause to (faults.Words text) o = let s = o.conversed.cause.stopped.stopped.stopped in read_bad to (stops.Client (faults.Words text)) HasBadWords o (text, s.1) s.0
+  client_cause to (faults.Words text) o = let s = o.conversed.cause.stopped.stopped in read_bad to (stops.Client (faults.Words text)) HasBadWords o (text, s.1) s.0
   client_cause to faults.NoMemory o = tt
-  client_cause to (faults.UnknownReply id) o = let s = o.conversed.cause.stopped.stopped.stopped in read_bad to (stops.Client (faults.UnknownReply id)) HasBadBytes o (inl (faults.UnknownReply id, s.1, refl)) s.0
-  client_cause to (faults.WrongCommand have came) o = let s = o.conversed.cause.stopped.stopped.stopped in read_bad to (stops.Client (faults.WrongCommand have came)) HasBadBytes o (inl (faults.WrongCommand have came, s.1, refl)) s.0
-  client_cause to (faults.WrongPhase command) o = let s = o.conversed.cause.stopped.stopped.stopped in read_bad to (stops.Client (faults.WrongPhase command)) HasBadBytes o (inl (faults.WrongPhase command, s.1, refl)) s.0
-  client_cause to (faults.Message fault) o = let s = o.conversed.cause.stopped.stopped.stopped in read_bad to (stops.Client (faults.Message fault)) HasBadBytes o (inl (faults.Message fault, s.1, refl)) s.0
+  client_cause to (faults.UnknownReply id) o = let s = o.conversed.cause.stopped.stopped in read_bad to (stops.Client (faults.UnknownReply id)) HasBadBytes o (inl (faults.UnknownReply id, s.1, refl)) s.0
+  client_cause to (faults.WrongCommand have came) o = let s = o.conversed.cause.stopped.stopped in read_bad to (stops.Client (faults.WrongCommand have came)) HasBadBytes o (inl (faults.WrongCommand have came, s.1, refl)) s.0
+  client_cause to (faults.WrongPhase command) o = let s = o.conversed.cause.stopped.stopped in read_bad to (stops.Client (faults.WrongPhase command)) HasBadBytes o (inl (faults.WrongPhase command, s.1, refl)) s.0
+  client_cause to (faults.Message fault) o = let s = o.conversed.cause.stopped.stopped in read_bad to (stops.Client (faults.Message fault)) HasBadBytes o (inl (faults.Message fault, s.1, refl)) s.0
 
   -- the channel's name wasn't printed
   unprinted_cause : (stop : Stop) → Puts start now before after (name_line ask) (Err stop) → IsCause ask route p d d' old new start now before after (status_of_stop stop)
@@ -147,10 +147,10 @@ module _ (ask : Ask) (route : Route) (p q : Patience) (d d' : DatagramsView) (le
   operated : (to : Peer) (outcome : Outcome) → HasOperated ask q to old new start now before after outcome → IsCause ask route p d d' old new start now before after (status_of outcome)
   operated to (outcomes.Told endings.Finished) o = whole to endings.Finished o
   operated to (outcomes.Told endings.Refused) o = whole to endings.Refused o
-  operated to (outcomes.Stopped stops.Sink) o = inr (inr (inr (inr o.conversed.cause.stopped.stopped.stopped.1)))
+  operated to (outcomes.Stopped stops.Sink) o = inr (inr (inr (inr o.conversed.cause.stopped.stopped.1)))
   operated to (outcomes.Stopped stops.NoMemory) o = tt
   operated to (outcomes.Stopped (stops.Frame fault)) o =
-      let s = o.conversed.cause.stopped in read_bad to (stops.Frame fault) HasBadBytes o (inr (fault, s.stopped.refused, s.before_end)) s.stopped.stopped.0
+      let s = o.conversed.cause.stopped in read_bad to (stops.Frame fault) HasBadBytes o (inr (fault, s.refused, s.stopped.1.1)) s.stopped.0
   operated to (outcomes.Stopped (stops.Client fault)) o = client_cause to fault o
   operated to outcomes.Closed o = inr (inr (inr (inl (back_ends o.end o.dials o.back o.conversed.cause.ends))))
   operated to outcomes.Failed o = inr (inr (inl (back_faults o.end o.dials o.back o.conversed.cause.faults)))

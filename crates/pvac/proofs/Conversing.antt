@@ -11,9 +11,8 @@ use Rattle.cli_session.specs.Text.{client_text}
 use Rattle.cli_session.specs.declared.ask.Ask.{Ask}
 use Rattle.srv_stream.specs.Moves.{Moves}
 use Rattle.pvac.specs.Dialing.{HasConversed, IsSound, IsUndone, name_line, said_to}
-use Rattle.pvac.specs.Ends.{Begins, ClientView, HasHeard, HasPrinted, HasTaken, events_in, text_for}
+use Rattle.pvac.specs.Ends.{Begins, ClientView, HasPrinted, HasTaken, events_in, text_for}
 use Rattle.pvac.specs.Exchanging.{ended_by}
-use Rattle.pvac.specs.Following.{HasFollowed}
 use Rattle.pvac.specs.LinkCalls.{IsDone, IsDue, IsDueWithin, IsOpen, IsQuiet, ReadOn, ReadsSome, Turns, WritesSome, Wrote, idles_after}
 use Rattle.pvac.specs.declared.dialing.Due.{Due}
 use Rattle.pvac.specs.declared.dialing.Due.TheVariants as dues
@@ -33,7 +32,7 @@ pub record Conversing (ask : Ask) (begin wire : Wire) (start now : Option (List 
   pub read : List ℕ
   pub written : List ℕ
   pub moves : Moves begin wire read written
-  pub followed : HasFollowed ask read written v
+  pub took : HasTaken ask read written v
   pub printed : HasPrinted start now before after (text_for ask read)
   pub faults : wire.faults ≡ begin.faults
   pub ends : wire.ends ≡ begin.ends
@@ -47,21 +46,13 @@ conversing_start ask wire start now before after v h p =
       read = [];
       written = [];
       moves = moves_nothing wire;
-      followed = record { heard = h.heard; open_ = λ unended. h };
+      took = h;
       printed = subst (HasPrinted start now before after) text p;
       faults = refl;
       ends = refl;
       quota = λ small. omega arith;
       idle = record { kept = omega arith; more = λ small. omega arith };
     }
-
-taken_with : {ask : Ask} {taken given given2 : List ℕ} {v w : ClientView} → HasTaken ask taken given v → HasHeard ask (events_in taken) given2 w → w.stream ≡ v.stream → HasTaken ask taken given2 w
-taken_with h heard stream = record {
-  heard = heard;
-  none = ap (λ (a : Assembled). a.events) stream ∙ h.none;
-  left = ap (λ (a : Assembled). a.left) stream ∙ h.left;
-  sound = λ unended. ap (λ (a : Assembled). result_err a.left) stream ∙ h.sound (h.heard.ended ∙ (sym heard.ended ∙ unended));
-}
 
 piece_size : {begin end : Wire} {n : ℕ} {buffer : List ℕ} → Gave begin end n buffer → length (take n buffer) ≡ n
 piece_size {begin} {end} {n} {buffer} g = let fits : n ≤ length buffer = g.fits in omega (arith, length-take n buffer)
@@ -77,22 +68,22 @@ rose_on {n} {old} {mid} {new} r s = record {
 
 module _ {ask : Ask} {begin wire : Wire} {start now : Option (List ℕ)} {before after : ℕ} {v : ClientView} {calls idles : ℕ} (c : Conversing ask begin wire start now before after v calls idles) where
   bytes_are : c.written ++ v.client.output ≡ said_to ask c.read
-  bytes_are = c.followed.heard.stands.accounts.bytes
+  bytes_are = c.took.heard.stands.accounts.bytes
 
   begins : Begins ask c.read c.written
-  begins = begins_so ask (events_in c.read) (client_told ask (events_in c.read)) c.written v.client c.followed.heard.stands.accounts
+  begins = begins_so ask (events_in c.read) (client_told ask (events_in c.read)) c.written v.client c.took.heard.stands.accounts
 
   sound : IsSound ask c.read
   sound = record {
-    events = c.followed.heard.stands.readable;
-    headers = λ none. let open_ = c.followed.heard.ended ∙ none in let t = c.followed.open_ open_ in sym (ap result_err t.left) ∙ t.sound open_;
+    events = c.took.heard.stands.readable;
+    headers = λ none. sym (ap result_err c.took.left) ∙ c.took.sound (c.took.heard.ended ∙ none);
   }
 
   all_written : v.client.output ≡ [] → c.written ≡ said_to ask c.read
   all_written empty = sym (append-nil c.written) ∙ ap (λ (z : List ℕ). c.written ++ z) (sym empty) ∙ bytes_are
 
   ended_so : {ending : Option Ending} → v.ended ≡ ending → ended_by ask c.read ≡ ending
-  ended_so {ending} is = sym c.followed.heard.ended ∙ is
+  ended_so {ending} is = sym c.took.heard.ended ∙ is
 
   unended : v.client.output ≡ [] → IsOpen v → v.ended ≡ None
   unended empty (inl some) = absurd (omega (arith, ap length empty))
@@ -109,7 +100,7 @@ module _ {ask : Ask} {begin wire : Wire} {start now : Option (List ℕ)} {before
         read = c.read;
         written = c.written;
         moves = moves_rest c.moves i.rests;
-        followed = subst (HasFollowed ask c.read c.written) (sym is) c.followed;
+        took = subst (HasTaken ask c.read c.written) (sym is) c.took;
         printed = subst (λ (n : ℕ). HasPrinted start now2 before n (text_for ask c.read)) (sym quiet.faults) (subst (λ (o : Option (List ℕ)). HasPrinted start o before after (text_for ask c.read)) (sym quiet.printed) c.printed);
         faults = i.faults ∙ c.faults;
         ends = i.ends ∙ c.ends;
@@ -118,15 +109,15 @@ module _ {ask : Ask} {begin wire : Wire} {start now : Option (List ℕ)} {before
       }
 
   -- bytes that came
-  came : (wire2 : Wire) (now2 : Option (List ℕ)) (after2 : ℕ) (w : ClientView) → IsOpen v → v.client.output ≡ [] → ReadOn wire wire2 v w now now2 after after2 (Ok tt) → Conversing ask begin wire2 start now2 before after2 w (calls + 1) 0
-  came wire2 now2 after2 w open_ empty r =
-      let x = r.follows ask start before c.read c.written (c.followed.open_ (unended empty open_)) c.printed in
+  came : (wire2 : Wire) (now2 : Option (List ℕ)) (after2 : ℕ) (w : ClientView) → ReadOn wire wire2 v w now now2 after after2 (Ok tt) → Conversing ask begin wire2 start now2 before after2 w (calls + 1) 0
+  came wire2 now2 after2 w r =
+      let x = r.hears ask start before c.read c.written c.took c.printed in
       let size : length (c.read ++ take r.count r.buffer) ≡ length c.read + r.count = length-append c.read (take r.count r.buffer) ∙ ap (λ (n : ℕ). length c.read + n) (piece_size r.gave) in
       let same : wire2.idles ≡ wire.idles = r.gave.counts.idles in record {
         read = c.read ++ take r.count r.buffer;
         written = c.written;
         moves = moves_got c.moves r.gave;
-        followed = x.0;
+        took = x.0;
         printed = x.1;
         faults = r.gave.counts.faults ∙ c.faults;
         ends = r.gave.counts.ends ∙ c.ends;
@@ -137,7 +128,6 @@ module _ {ask : Ask} {begin wire : Wire} {start now : Option (List ℕ)} {before
   -- bytes that were taken
   taken : (wire2 : Wire) (now2 : Option (List ℕ)) (after2 : ℕ) (w : ClientView) → Wrote wire wire2 v w → IsQuiet now now2 after after2 → Conversing ask begin wire2 start now2 before after2 w (calls + 1) 0
   taken wire2 now2 after2 w x quiet =
-      let heard = x.heard ask (events_in c.read) c.written c.followed.heard in
       let bytes = take x.count v.client.output in
       let fits : x.count ≤ length v.client.output = x.taken.fits in
       let size : length (c.written ++ bytes) ≡ length c.written + x.count = length-append c.written bytes ∙ omega (arith, length-take x.count v.client.output) in
@@ -145,7 +135,7 @@ module _ {ask : Ask} {begin wire : Wire} {start now : Option (List ℕ)} {before
         read = c.read;
         written = c.written ++ bytes;
         moves = moves_took c.moves x.taken;
-        followed = record { heard = heard; open_ = λ none. taken_with (c.followed.open_ (sym x.ended ∙ none)) heard x.stream };
+        took = x.gives ask c.read c.written c.took;
         printed = subst (λ (n : ℕ). HasPrinted start now2 before n (text_for ask c.read)) (sym quiet.faults) (subst (λ (o : Option (List ℕ)). HasPrinted start o before after (text_for ask c.read)) (sym quiet.printed) c.printed);
         faults = x.taken.counts.faults ∙ c.faults;
         ends = x.taken.counts.ends ∙ c.ends;
@@ -153,12 +143,12 @@ module _ {ask : Ask} {begin wire : Wire} {start now : Option (List ℕ)} {before
         idle = let kept : begin.idles ≤ wire.idles = c.idle.kept in record { kept = omega arith; more = λ small. omega arith };
       }
 
-  pub conversing_on : (wire2 : Wire) (now2 : Option (List ℕ)) (after2 : ℕ) (w : ClientView) (moved : Bool) → IsOpen v → Turns wire wire2 v w now now2 after after2 (Ok moved)
+  pub conversing_on : (wire2 : Wire) (now2 : Option (List ℕ)) (after2 : ℕ) (w : ClientView) (moved : Bool) → Turns wire wire2 v w now now2 after after2 (Ok moved)
       → Conversing ask begin wire2 start now2 before after2 w (calls + 1) (idles_after idles moved)
-  conversing_on wire2 now2 after2 w true open_ (inl x) = came wire2 now2 after2 w open_ x.0 x.1
-  conversing_on wire2 now2 after2 w false open_ (inl x) = idled wire2 now2 after2 w x.1.idled x.1.view x.1.quiet
-  conversing_on wire2 now2 after2 w true open_ (inr x) = taken wire2 now2 after2 w x.1 x.2
-  conversing_on wire2 now2 after2 w false open_ (inr x) = idled wire2 now2 after2 w x.1.idled x.1.view x.2
+  conversing_on wire2 now2 after2 w true (inl x) = came wire2 now2 after2 w x.1
+  conversing_on wire2 now2 after2 w false (inl x) = idled wire2 now2 after2 w x.1.idled x.1.view x.1.quiet
+  conversing_on wire2 now2 after2 w true (inr x) = taken wire2 now2 after2 w x.1 x.2
+  conversing_on wire2 now2 after2 w false (inr x) = idled wire2 now2 after2 w x.1.idled x.1.view x.2
 
   -- Nothing is due any more.
   pub conversing_ended : (p : Patience) (outcome : Outcome) → IsDue v idles calls p (dues.End outcome) → HasConversed ask p begin wire start now before after outcome
@@ -211,11 +201,7 @@ module _ {ask : Ask} {begin wire : Wire} {start now : Option (List ℕ)} {before
         moves = moves_rest c.moves rests_;
         begins = begins;
         cause = record {
-          stopped = record {
-            stopped = record { stopped = (part_of_printed printed (record { rest = []; whole = sym (append-nil (text_for ask c.read)) }), printed.same); refused = tt };
-            before_end = tt;
-            begins = begins;
-          };
+          stopped = record { stopped = (part_of_printed printed (record { rest = []; whole = sym (append-nil (text_for ask c.read)) }), printed.same); refused = tt };
           faults = faults ∙ c.faults;
           ends = ends ∙ c.ends;
         };
@@ -233,15 +219,15 @@ module _ {ask : Ask} {begin wire : Wire} {start now : Option (List ℕ)} {before
   }
 
   -- the client stopped at a piece
-  stopped_at : (p : Patience) (wire2 : Wire) (now2 : Option (List ℕ)) (after2 : ℕ) (w : ClientView) (stop : Stop) → v.ended ≡ None → ReadOn wire wire2 v w now now2 after after2 (Err stop)
+  stopped_at : (p : Patience) (wire2 : Wire) (now2 : Option (List ℕ)) (after2 : ℕ) (w : ClientView) (stop : Stop) → ReadOn wire wire2 v w now now2 after after2 (Err stop)
       → HasConversed ask p begin wire2 start now2 before after2 (outcomes.Stopped stop)
-  stopped_at p wire2 now2 after2 w stop none r =
-      let x = r.follows ask start before c.read c.written (c.followed.open_ none) c.printed in record {
+  stopped_at p wire2 now2 after2 w stop r =
+      let x = r.hears ask start before c.read c.written c.took c.printed in record {
         read = c.read ++ take r.count r.buffer;
         written = c.written;
         moves = moves_got c.moves r.gave;
-        begins = x.begins;
-        cause = record { stopped = x; faults = r.gave.counts.faults ∙ c.faults; ends = r.gave.counts.ends ∙ c.ends };
+        begins = x.1;
+        cause = record { stopped = x.0; faults = r.gave.counts.faults ∙ c.faults; ends = r.gave.counts.ends ∙ c.ends };
       }
 
   read_ended : (p : Patience) (wire2 : Wire) (now2 : Option (List ℕ)) (after2 : ℕ) (w : ClientView) (outcome : Outcome) → v.client.output ≡ [] → v.ended ≡ None → ReadsSome wire wire2 v w now now2 after after2 (Err outcome)
@@ -262,11 +248,11 @@ module _ {ask : Ask} {begin wire : Wire} {start now : Option (List ℕ)} {before
     };
   }
   read_ended p wire2 now2 after2 w outcomes.Failed empty none r = failed p wire2 now2 after2 r.0.rests r.0.faults r.0.ends r.1
-  read_ended p wire2 now2 after2 w (outcomes.Stopped stops.NoMemory) empty none (inl r) = stopped_at p wire2 now2 after2 w stops.NoMemory none r
+  read_ended p wire2 now2 after2 w (outcomes.Stopped stops.NoMemory) empty none (inl r) = stopped_at p wire2 now2 after2 w stops.NoMemory r
   read_ended p wire2 now2 after2 w (outcomes.Stopped stops.NoMemory) empty none (inr r) = short p wire2 now2 after2 r.0.rests r.0.counts.faults r.0.counts.ends r.1
-  read_ended p wire2 now2 after2 w (outcomes.Stopped stops.Sink) empty none r = stopped_at p wire2 now2 after2 w stops.Sink none r
-  read_ended p wire2 now2 after2 w (outcomes.Stopped (stops.Client fault)) empty none r = stopped_at p wire2 now2 after2 w (stops.Client fault) none r
-  read_ended p wire2 now2 after2 w (outcomes.Stopped (stops.Frame fault)) empty none r = stopped_at p wire2 now2 after2 w (stops.Frame fault) none r
+  read_ended p wire2 now2 after2 w (outcomes.Stopped stops.Sink) empty none r = stopped_at p wire2 now2 after2 w stops.Sink r
+  read_ended p wire2 now2 after2 w (outcomes.Stopped (stops.Client fault)) empty none r = stopped_at p wire2 now2 after2 w (stops.Client fault) r
+  read_ended p wire2 now2 after2 w (outcomes.Stopped (stops.Frame fault)) empty none r = stopped_at p wire2 now2 after2 w (stops.Frame fault) r
   read_ended p wire2 now2 after2 w (outcomes.Told ending) empty none r = absurd r
   read_ended p wire2 now2 after2 w outcomes.Unfound empty none r = absurd r
   read_ended p wire2 now2 after2 w outcomes.Idle empty none r = absurd r

@@ -49,7 +49,6 @@ pub mod Starving
 pub mod Completing
 mod Outcomes
 mod Moving
-mod Following
 mod Conversing
 mod Networked
 mod Routed

@@ -10,9 +10,8 @@ use Rattle.cli_session.specs.Steps.{client_bytes, client_fault}
 use Rattle.cli_session.specs.declared.ask.Ask.{Ask}
 use Rattle.srv_stream.specs.Moves.{Moves, IsAll}
 use Rattle.srv_stream.specs.Served.{IsProperPrefixOf}
-use Rattle.pvac.specs.Ends.{events_in, text_for, Begins, HasPrinted}
+use Rattle.pvac.specs.Ends.{events_in, text_for, Begins, HasPrinted, HasStopped}
 use Rattle.pvac.specs.Exchanging.{ended_by}
-use Rattle.pvac.specs.Following.{HasStoppedAt}
 use Rattle.pvac.specs.declared.outcome.Outcome.{Outcome}
 use Rattle.pvac.specs.declared.outcome.Outcome.TheVariants as outcomes
 use Rattle.pvac.specs.declared.outcome.Patience.{Patience}
@@ -42,9 +41,9 @@ pub record AtTold (ask : Ask) (begin end : Wire) (start now : Option (List ℕ))
   pub ends : end.ends ≡ begin.ends
 
 -- The client stopped at what was read, before the operation ended; or memory ran out.
-pub record AtStopped (ask : Ask) (begin end : Wire) (start now : Option (List ℕ)) (before after : ℕ)
-    (read written : List ℕ) (stop : Stop) : Type 0 where
-  pub stopped : HasStoppedAt ask read written start now before after stop
+pub record AtStopped (ask : Ask) (begin end : Wire) (start now : Option (List ℕ)) (before after : ℕ) (read : List ℕ)
+    (stop : Stop) : Type 0 where
+  pub stopped : HasStopped ask read start now before after stop
   pub faults : end.faults ≡ begin.faults
   pub ends : end.ends ≡ begin.ends
 
@@ -96,7 +95,7 @@ abbrev pub HasCause : Ask → Patience → Wire → Wire → Option (List ℕ) �
 HasCause ask p begin end start now before after read written (outcomes.Told ending) =
     AtTold ask begin end start now before after read written ending
 HasCause ask p begin end start now before after read written (outcomes.Stopped stop) =
-    AtStopped ask begin end start now before after read written stop
+    AtStopped ask begin end start now before after read stop
 HasCause ask p begin end start now before after read written outcomes.Closed =
     AtClosed ask begin end start now before after read written
 HasCause ask p begin end start now before after read written outcomes.Failed =

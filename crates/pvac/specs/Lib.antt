@@ -10,7 +10,6 @@ pub mod Exchanging
 pub mod Running
 pub mod Clear
 pub mod Laws
-pub mod Following
 pub mod Dialing
 pub mod LinkCalls
 pub mod Networking

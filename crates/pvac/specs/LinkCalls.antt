@@ -1,10 +1,8 @@
 -- What single calls of a link do in an exchange over it.
 use Rattle.std.specs.Prelude.{◌≡◌, ◌⊎◌, ℕ, ◌+◌, ◌<◌, ◌≤◌, Bool, true, false, List, [], ◌++◌, length, take, Option, None, Some, Result, Ok, Err}
 use Rattle.pva_outside.specs.Wire.{Wire, CameToEnd, Failed, Gave, Idled, Taken, Unchanged}
-use Rattle.pva_frames.specs.declared.event.Event.{Event}
 use Rattle.cli_session.specs.declared.ask.Ask.{Ask}
-use Rattle.pvac.specs.Ends.{ClientView, HasHeard, HasPrinted, HasTaken, text_for}
-use Rattle.pvac.specs.Following.{Follows}
+use Rattle.pvac.specs.Ends.{ClientView, HasPrinted, HasTaken, Hears, text_for}
 use Rattle.pvac.specs.declared.dialing.Due.{Due}
 use Rattle.pvac.specs.declared.dialing.Due.TheVariants as dues
 use Rattle.pvac.specs.declared.outcome.Outcome.{Outcome}
@@ -49,10 +47,8 @@ IsDue v idles calls p (dues.End other) = ⊥
 pub record Wrote (begin end : Wire) (v w : ClientView) : Type 0 where
   pub count : ℕ
   pub taken : Taken begin end count v.client.output
-  pub heard : (ask : Ask) (events : List Event) (given : List ℕ) → HasHeard ask events given v
-      → HasHeard ask events (given ++ take count v.client.output) w
-  pub stream : w.stream ≡ v.stream
-  pub ended : w.ended ≡ v.ended
+  pub gives : (ask : Ask) (read given : List ℕ) → HasTaken ask read given v
+      → HasTaken ask read (given ++ take count v.client.output) w
 
 -- none was taken yet
 pub record WroteNothing (begin end : Wire) (v w : ClientView) : Type 0 where
@@ -73,15 +69,15 @@ pub record IsQuiet (start now : Option (List ℕ)) (before after : ℕ) : Type 0
   pub printed : now ≡ start
   pub faults : after ≡ before
 
--- A piece came, and the client followed.
+-- A piece came, and the client heard it.
 pub record ReadOn (begin end : Wire) (v w : ClientView) (start now : Option (List ℕ)) (before after : ℕ)
     (result : Result (Unit {0}) Stop) : Type 0 where
   pub count : ℕ
   pub buffer : List ℕ
   pub gave : Gave begin end count buffer
-  pub follows : (ask : Ask) (first : Option (List ℕ)) (faults : ℕ) (taken given : List ℕ) → HasTaken ask taken given v
+  pub hears : (ask : Ask) (first : Option (List ℕ)) (faults : ℕ) (taken given : List ℕ) → HasTaken ask taken given v
       → HasPrinted first start faults before (text_for ask taken)
-      → Follows ask (taken ++ take count buffer) given w first now faults after result
+      → Hears ask (taken ++ take count buffer) given w first now faults after result
 
 -- nothing came yet
 pub record ReadNothing (begin end : Wire) (v w : ClientView) (start now : Option (List ℕ)) (before after : ℕ)

@@ -6,7 +6,6 @@ ghost use Rattle.cli_session.specs.Fitting.{told_fits};
 ghost use Rattle.cli_session.specs.Seen.{report_view};
 ghost use Rattle.cli_session.specs.Text.{client_text, told_text};
 ghost use Rattle.pvac.specs.Ends.{ending_of};
-ghost use Rattle.pvac.specs.Following.{unless_ended};
 ghost use Rattle.pvac.specs.Telling.{Puts, first_ending, stop_for};
 
 use crate::stop::{Ending, Stop};
@@ -124,21 +123,7 @@ fn stop_of(fault: ClientFault) -> Stop
     }
 }
 
-/// A header that is refused counts until the operation has ended; all else does in any case.
-fn unless_ended(ended: Option<Ending>, stop: Stop) -> Result<(), Stop>
-    ensures { result ≡ unless_ended ended stop }
-{
-    match ended {
-        None => Err(stop),
-        Some(_) => match stop {
-            Stop::Frame(_) => Ok(()),
-            Stop::Client(_) | Stop::Sink | Stop::NoMemory => Err(stop),
-        },
-    }
-}
-
 impl ClientEnd {
-    ghost use Rattle.pvac.specs.Following.{Follows, HearsBefore};
     ghost use Rattle.pvac.specs.Ends.{client_view, HasHeard, HasPrinted, HasTaken, Hears, text_for};
     ghost use Rattle.pvac.specs.Telling.{HearsEvent, HearsEvents, IsEmptied, IsUnframed, Refuses, Tells};
 
@@ -171,16 +156,6 @@ impl ClientEnd {
     pub fn took(&mut self, count: usize)
         requires { count ≤ length (client_view self.old).client.output }
         ensures { (ask : AskSaid) (taken given : List ℕ) → HasTaken ask taken given (client_view self.old) → HasTaken ask taken (given ++ take count (client_view self.old).client.output) (client_view self.new) }
-    {
-        self.client.took(count);
-    }
-
-    /// So much of it was given, also behind a header that is refused. It takes no memory.
-    pub fn gave(&mut self, count: usize)
-        requires { count ≤ length (client_view self.old).client.output }
-        ensures heard { (ask : AskSaid) (events : List Event) (given : List ℕ) → HasHeard ask events given (client_view self.old) → HasHeard ask events (given ++ take count (client_view self.old).client.output) (client_view self.new) }
-        ensures stream { (client_view self.new).stream ≡ (client_view self.old).stream }
-        ensures ended { (client_view self.new).ended ≡ (client_view self.old).ended }
     {
         self.client.took(count);
     }
@@ -220,7 +195,6 @@ impl ClientEnd {
         ensures left { (client_view self.new).stream.left ≡ (client_view self.old).stream.left }
         ensures emptied { IsEmptied (client_view self.new) result }
         ensures refuses { Refuses (client_view self.new) result }
-        ensures framed { (ask : AskSaid) (start : Option (List ℕ)) (before : ℕ) (events : List Event) (given : List ℕ) → HasHeard ask events given (client_view self.old) → HasPrinted start (S.written sink.old) before (S.faults sink.old) (client_text ask events) → HearsBefore ask (events ++ (client_view self.old).stream.events) given (client_view self.new) start (S.written sink.new) before (S.faults sink.new) result }
         ensures hears { (ask : AskSaid) (start : Option (List ℕ)) (before : ℕ) (events : List Event) (given : List ℕ) → HasHeard ask events given (client_view self.old) → HasPrinted start (S.written sink.old) before (S.faults sink.old) (client_text ask events) → HearsEvents ask (events ++ (client_view self.old).stream.events) given (client_view self.new) start (S.written sink.new) before (S.faults sink.new) result }
     {
         'events: loop {
@@ -242,7 +216,8 @@ impl ClientEnd {
         }
     }
 
-    /// Takes the next bytes of the server, hears the events that they bring, and prints what the client tells.
+    /// Takes the next bytes of the server, hears the events that they bring, and prints what the client tells. A header that is
+    /// refused behind the operation's end is passed over, as all that comes then.
     pub fn hear<S: Sink>(&mut self, alloc: Global, sink: &mut S, bytes: &[u8]) -> Result<(), Stop>
         ensures { (ask : AskSaid) (start : Option (List ℕ)) (before : ℕ) (taken given : List ℕ) → HasTaken ask taken given (client_view self.old) → HasPrinted start (S.written sink.old) before (S.faults sink.old) (text_for ask taken) → Hears ask (taken ++ bytes.now) given (client_view self.new) start (S.written sink.new) before (S.faults sink.new) result }
     {
@@ -250,18 +225,5 @@ impl ClientEnd {
             return Err(Stop::NoMemory);
         };
         self.hear_ready(alloc, sink)
-    }
-
-    /// The same as `hear`, but a header that is refused behind the operation's end is passed over, as all that comes then.
-    pub fn follow<S: Sink>(&mut self, alloc: Global, sink: &mut S, bytes: &[u8]) -> Result<(), Stop>
-        ensures { (ask : AskSaid) (start : Option (List ℕ)) (before : ℕ) (taken given : List ℕ) → HasTaken ask taken given (client_view self.old) → HasPrinted start (S.written sink.old) before (S.faults sink.old) (text_for ask taken) → Follows ask (taken ++ bytes.now) given (client_view self.new) start (S.written sink.new) before (S.faults sink.new) result }
-    {
-        let Ok(()) = self.stream.feed(bytes) else {
-            return Err(Stop::NoMemory);
-        };
-        match self.hear_ready(alloc, sink) {
-            Ok(()) => Ok(()),
-            Err(stop) => unless_ended(self.ended, stop),
-        }
     }
 }

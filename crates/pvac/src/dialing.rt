@@ -79,7 +79,7 @@ fn write_some<L: Link>(client: &mut ClientEnd, link: &mut L) -> Result<bool, Out
 {
     match link.write(client.output()) {
         WriteStep::Took(count) => {
-            client.gave(count);
+            client.took(count);
             Ok(true)
         }
         WriteStep::Idle => Ok(false),
@@ -99,7 +99,7 @@ fn read_some<L: Link, S: Sink>(
 {
     let mut buffer = [0u8; 4096];
     match link.read(&mut buffer) {
-        ReadStep::Got(count) => match client.follow(alloc, sink, &buffer[..count]) {
+        ReadStep::Got(count) => match client.hear(alloc, sink, &buffer[..count]) {
             Ok(()) => Ok(true),
             Err(stop) => Err(Outcome::Stopped(stop)),
         },

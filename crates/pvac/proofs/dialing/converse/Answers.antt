@@ -12,7 +12,7 @@ turns-preserved g c = record {
   idle = subst (λ (n : ℕ). n ≤ c.args.patience.idle) (sym c.idles_after-idles.ensures) (idles_within c.turns.idles c.in-Ok.moved c.args.patience.idle c.in-Call.ensures.1);
   conversing = λ ask start before h p.
       subst (λ (n : ℕ). Conversing ask (g.L.Link.wire c.args.link.now) (g.L.Link.wire c.turn.new.link) start (g.S.Sink.written c.turn.new.sink) before (g.S.Sink.faults c.turn.new.sink) (client_view c.turn.new.client) (c.turns.calls + 1) n) (sym c.idles_after-idles.ensures)
-      (conversing_on (c.turns.invariant.conversing ask start before h p) _ _ _ (client_view c.turn.new.client) c.in-Ok.moved c.in-Call.ensures.0 c.in-Ok.ensures);
+      (conversing_on (c.turns.invariant.conversing ask start before h p) _ _ _ (client_view c.turn.new.client) c.in-Ok.moved c.in-Ok.ensures);
 }
 
 pub turns-smaller : goal.turns-smaller

@@ -3,10 +3,10 @@ use Rattle.pvac.proofs.Conversing.{read_stopped}
 use Rattle.pvac.proofs.dialing.read_some.Goals as goal
 
 pub returns-in-Ok : goal.returns-in-Ok
-returns-in-Ok g c = record { count = c.in-Got.count; buffer = c.read.new.buffer; gave = c.in-Got.ensures.step; follows = c.in-Ok.ensures }
+returns-in-Ok g c = record { count = c.in-Got.count; buffer = c.read.new.buffer; gave = c.in-Got.ensures.step; hears = c.in-Ok.ensures }
 
 pub returns-in-Err : goal.returns-in-Err
-returns-in-Err g c = read_stopped c.in-Err.stop (record { count = c.in-Got.count; buffer = c.read.new.buffer; gave = c.in-Got.ensures.step; follows = c.in-Err.ensures })
+returns-in-Err g c = read_stopped c.in-Err.stop (record { count = c.in-Got.count; buffer = c.read.new.buffer; gave = c.in-Got.ensures.step; hears = c.in-Err.ensures })
 
 pub returns-in-End : goal.returns-in-End
 returns-in-End g c = (c.in-End.ensures.step, record { printed = refl; faults = refl })

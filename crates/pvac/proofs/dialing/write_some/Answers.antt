@@ -5,16 +5,14 @@ use Rattle.pvac.proofs.dialing.write_some.Goals as goal
 pub write-requires : goal.write-requires
 write-requires g c = subst (λ (z : List ℕ). 0 < length z) (sym c.output.ensures) c.requires
 
-pub gave-requires : goal.gave-requires
-gave-requires g c = omega (arith, c.in-Took.ensures.step.fits, ap length c.output.ensures)
+pub took-requires : goal.took-requires
+took-requires g c = omega (arith, c.in-Took.ensures.step.fits, ap length c.output.ensures)
 
 pub returns-in-Took : goal.returns-in-Took
 returns-in-Took g c = record {
   count = c.in-Took.count;
   taken = subst (λ (z : List ℕ). Taken (g.L.Link.wire c.args.link.now) (g.L.Link.wire c.write.new.self) c.in-Took.count z) c.output.ensures c.in-Took.ensures.step;
-  heard = c.gave.ensures.heard;
-  stream = c.gave.ensures.stream;
-  ended = c.gave.ensures.ended;
+  gives = λ ask read given h. c.took.ensures ask read given h;
 }
 
 pub returns-in-Idle : goal.returns-in-Idle

@@ -1,7 +1,7 @@
-use Rattle.std.proofs.Common.{◌∙◌, ap, length, arith}
+use Rattle.std.proofs.Common.{◌≡◌, ◌∙◌, [], None, Err, ap, length, arith}
+use Rattle.std.specs.Result.{result_err}
 use Rattle.pva_frames.specs.Assembled.{Assembled, Gave, Refused, Waits}
 use Rattle.pvac.specs.Ends.{ClientView, client_view}
-use Rattle.pvac.proofs.Following.{framed_so}
 use Rattle.pvac.proofs.Hearing.{refuses_unframed}
 use Rattle.pvac.proofs.Ready.{ready_all, ready_next, ready_none, ready_one, ready_refused, ready_short, ready_stopped}
 use Rattle.pvac.proofs.client_end.ClientEnd.hear_ready.Goals as goal
@@ -42,10 +42,15 @@ returns-in-Some-clause-left g c =
 pub returns-in-Some-clause-emptied : goal.returns-in-Some-clause-emptied
 returns-in-Some-clause-emptied g c =
     let x : Refused c.events.self.stream c.next.new.self c.in-Fault.fault = rw c.in-Fault.is at c.in-Ok.ensures in
-    ap (λ (a : Assembled). a.events) x.unchanged ∙ x.none
+    let none : c.next.new.self.events ≡ [] = ap (λ (a : Assembled). a.events) x.unchanged ∙ x.none in
+    search (none)
 
 pub returns-in-Some-clause-refuses : goal.returns-in-Some-clause-refuses
-returns-in-Some-clause-refuses g c = λ unended. absurd (let ended = c.in-Some.is in cc)
+returns-in-Some-clause-refuses g c =
+    let x : Refused c.events.self.stream c.next.new.self c.in-Fault.fault = rw c.in-Fault.is at c.in-Ok.ensures in
+    let left : c.next.new.self.left ≡ Err c.in-Fault.fault = ap (λ (a : Assembled). a.left) x.unchanged ∙ x.first in
+    let over : c.events.self.ended ≡ None → result_err c.next.new.self.left ≡ None = λ unended. absurd (let ended = c.in-Some.is in cc) in
+    search (left, over)
 
 pub returns-in-Some-clause-hears : goal.returns-in-Some-clause-hears
 returns-in-Some-clause-hears g c =
@@ -92,20 +97,3 @@ returns-in-Err-clause-left g c = ap (λ (a : Assembled). a.left) c.in-Err.ensure
 
 pub returns-in-Err-clause-hears : goal.returns-in-Err-clause-hears
 returns-in-Err-clause-hears g c = ready_short (ready_next c.events.invariant c.next.new.self c.in-Err.ensures)
-
-pub returns-in-Err-hear_event-clause-framed : goal.returns-in-Err-hear_event-clause-framed
-returns-in-Err-hear_event-clause-framed g c = λ ask start before events given h p. framed_so _ _ _ _ _ _ _ _ c.in-Err-hear_event.stop c.in-Err-hear_event.ensures.unframed
-
-pub returns-in-None-clause-framed : goal.returns-in-None-clause-framed
-returns-in-None-clause-framed g c =
-    let x : Refused c.events.self.stream c.next.new.self c.in-Fault.fault = rw c.in-Fault.is at c.in-Ok.ensures in
-    ready_all (ready_next c.events.invariant c.next.new.self x.unchanged) (ap (λ (a : Assembled). a.events) x.unchanged ∙ x.none)
-
-pub returns-in-More-clause-framed : goal.returns-in-More-clause-framed
-returns-in-More-clause-framed g c = λ ask start before events given h p. tt
-
-pub returns-in-Err-clause-framed : goal.returns-in-Err-clause-framed
-returns-in-Err-clause-framed g c = λ ask start before events given h p. tt
-
-pub returns-in-Some-clause-framed : goal.returns-in-Some-clause-framed
-returns-in-Some-clause-framed g c = λ ask start before events given h p. tt
