@@ -296,8 +296,9 @@ pub overlong_is_refused : (before after payload : List ℕ) (at : ℕ) (order : 
 unfolding Fails
 overlong_is_refused before after payload at order server command segment stands some small long =
     let message = message_bytes order server command payload segment in
-    let fails = first-fails at None message after (message-fails order server command segment payload at some small long) in
-    (fails.0,
-    sym (ap (λ (a : Assembled). a.left) (read-join 0 None before (message ++ after)))
-    ∙ ap (λ (l : Result Unfinished FrameFault). (fed_on (events_from 0 None before) l (message ++ after)).left) stands
-    ∙ ap (λ (a : Assembled). a.left) fails.1)
+    let fails = first-fails at None message after (message-fails order server command segment payload at some small long) in (
+      fails.0,
+      sym (ap (λ (a : Assembled). a.left) (read-join 0 None before (message ++ after)))
+          ∙ ap (λ (l : Result Unfinished FrameFault). (fed_on (events_from 0 None before) l (message ++ after)).left) stands
+          ∙ ap (λ (a : Assembled). a.left) fails.1,
+    )
