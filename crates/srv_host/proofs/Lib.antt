@@ -1,0 +1,9 @@
+pub mod Passing
+pub mod Kept
+pub mod Turning
+pub mod Joined
+pub mod Hosts
+pub mod Heard
+pub mod Begun
+pub mod Settled
+mod Crossing
