@@ -1,7 +1,7 @@
 // What calls of a desk on a pass answer: put-gets, looks at all records, gets of one record after another, and a full history.
 use crate::halls::alone;
 use crate::scenes::{
-    Answer, Doing, both_shown, both_with, entered, mask_for, pair, put_both, put_number,
+    Answer, Doing, both_shown, entered, mask_for, pair, pair_with, put_both, put_number,
 };
 use desk_api::{Desk, Done, Moment, PutAnswer, PvValue, RecRow, found_channels};
 use desk_core::discard;
@@ -17,7 +17,7 @@ fn put_get_both<D: Desk>(alloc: Global, desk: &mut D, number: i32, atomic: Optio
     let Some(channel) = desk.find("G") else {
         return (None, None);
     };
-    let Ok(value) = both_with(alloc, number) else {
+    let Ok(value) = pair_with(alloc, [number, number]) else {
         return (None, None);
     };
     let told = match mask_for(alloc, desk, channel, &value, &[1, 2]) {

@@ -1,8 +1,8 @@
 // A port is driven by the desk that puts to its record.
 ghost use Rattle.std.specs.Prelude.{◌≡◌, ◌<◌};
 
-use crate::halls::{opened, with_desk_here};
-use crate::scenes::{Answer, Doing, entered, got, int, put_number};
+use crate::halls::{Taking, opened, opened_of, with_desk_here};
+use crate::scenes::{Answer, Doing, entered, got, int, put_number, put_pair};
 use desk_api::{Desk, PvValue};
 use desk_core::discard;
 use desk_shared::{Hall, LentPort, Pass, Records};
@@ -57,20 +57,21 @@ impl Doing for PutAndGet {
     }
 }
 
-/// How often the port of A was driven, and whether this was the last text. The pass comes back, but where memory ran out.
+/// How often the port of a record was driven, and whether this was the last text. The pass comes back, but where memory ran out.
 fn driven<R: Wait>(
     rt: &R,
     alloc: Global,
     hall: &Hall<Records<MemoryPort>>,
     pass: Pass<Records<MemoryPort>>,
+    rec: u32,
     text: &str,
 ) -> (Pass<Records<MemoryPort>>, Option<(u64, bool)>)
     requires own { pass.seat.table_id ≡ hall.now.table.shared.table_id }
-    requires some { 0 < hall.now.count }
+    requires there { rec < hall.now.count }
     ensures own { result.0.seat.table_id ≡ pass.seat.table_id }
     ensures base { result.0.seat.me.0.seen.base ≡ pass.seat.me.0.seen.base }
 {
-    let Ok(first) = vec![in alloc; 0u32] else {
+    let Ok(first) = vec![in alloc; rec] else {
         return (pass, None);
     };
     let visit = match hall.visit(rt, alloc, pass, first) {
@@ -101,13 +102,13 @@ fn put_twice<R: Wait>(rt: &R, alloc: Global) -> Option<[Put; 2]> {
         message: "WRITE",
     };
     let (pass, seven) = with_desk_here(rt, alloc, &hall, &site, pass, &first);
-    let (pass, once) = driven(rt, alloc, &hall, pass, "7");
+    let (pass, once) = driven(rt, alloc, &hall, pass, 0, "7");
     let second = PutAndGet {
         number: 8,
         message: "",
     };
     let (pass, eight) = with_desk_here(rt, alloc, &hall, &site, pass, &second);
-    let (_pass, twice) = driven(rt, alloc, &hall, pass, "8");
+    let (_pass, twice) = driven(rt, alloc, &hall, pass, 0, "8");
     Some([(seven, once), (eight, twice)])
 }
 
@@ -120,5 +121,52 @@ fn a_port_is_driven_with_each_put_and_its_fault_is_an_alarm(rt: HostRuntime) -> 
         told,
         Some([(seven, Some((1, true))), (eight, Some((2, true)))])
     );
+    Ok(())
+}
+
+/// Two records with a port each, the members of a group.
+const PORTED: &str = "\
+record(longout, \"B\") {
+  field(VAL, \"1\") field(DTYP, \"File\") field(OUT, \"@file b\")
+  info(Q:group, {\"G\": {\"b\": {+channel:\"VAL\", +type:\"plain\", +putorder:1}}})
+}
+record(longout, \"C\") {
+  field(VAL, \"2\") field(DTYP, \"File\") field(OUT, \"@file c\")
+  info(Q:group, {\"G\": {\"c\": {+channel:\"VAL\", +type:\"plain\", +putorder:0}}})
+}
+";
+
+/// Puts 7 to the first member of the group, and 8 to the second.
+struct PutPair;
+
+impl Doing for PutPair {
+    type Told = Answer;
+
+    fn with<D: Desk>(&self, alloc: Global, desk: &mut D) -> Answer {
+        put_pair(alloc, desk, [7, 8])
+    }
+}
+
+/// What the put is answered, and what each port tells.
+fn put_to_two<R: Wait>(
+    rt: &R,
+    alloc: Global,
+) -> Option<(Option<Answer>, [Option<(u64, bool)>; 2])> {
+    let Some((site, hall, pass)) = opened_of(alloc, PORTED, &Taking, 1_000_000) else {
+        return None;
+    };
+    if site.records() < 2 {
+        return None;
+    }
+    let (pass, answer) = with_desk_here(rt, alloc, &hall, &site, pass, &PutPair);
+    let (pass, first) = driven(rt, alloc, &hall, pass, 0, "7");
+    let (_pass, second) = driven(rt, alloc, &hall, pass, 1, "8");
+    Some((answer, [first, second]))
+}
+
+#[test]
+fn each_port_is_driven_with_the_number_of_its_record(rt: HostRuntime) -> Result<(), Fail> {
+    let told = put_to_two(&rt, rt.alloc());
+    assert_eq!(rt; told, Some((Some(entered(0)), [Some((1, true)); 2])));
     Ok(())
 }

@@ -27,7 +27,12 @@ record(longout, \"C\") {
 
 /// The site of these records.
 pub(crate) fn site(alloc: Global) -> Result<Site, NoMemory> {
-    match Site::build(alloc, RECORDS, &[]) {
+    site_of(alloc, RECORDS)
+}
+
+/// The site of a database text.
+fn site_of(alloc: Global, text: &str) -> Result<Site, NoMemory> {
+    match Site::build(alloc, text, &[]) {
         Ok(site) => Ok(site),
         Err(fault) => {
             discard(fault);
@@ -83,6 +88,17 @@ impl Making for FailingOnce {
     }
 }
 
+/// Ports in memory that take each text.
+pub(crate) struct Taking;
+
+impl Making for Taking {
+    type Port = MemoryPort;
+
+    fn make(&self, alloc: Global) -> Result<MemoryPort, NoMemory> {
+        Ok(MemoryPort::new(Vec::new(alloc)))
+    }
+}
+
 /// A site with its hall and first pass.
 pub(crate) type Opened<P> = (Site, Hall<Records<P>>, Pass<Records<P>>);
 
@@ -93,10 +109,25 @@ pub(crate) fn opened(alloc: Global, limit: u64) -> Option<Opened<MemoryPort>>
     ensures site { IfSome result (λ r. r.2.seat.me.0.seen.base.site ≡ r.0) }
     ensures others { IfSome result (λ r. r.2.seat.me.0.others ≡ []) }
 {
-    let Ok(site) = site(alloc) else {
+    opened_of(alloc, RECORDS, &FailingOnce, limit)
+}
+
+/// A hall of the records of a text, with these ports.
+pub(crate) fn opened_of<M: Making>(
+    alloc: Global,
+    text: &str,
+    making: &M,
+    limit: u64,
+) -> Option<Opened<M::Port>>
+    ensures own { IfSome result (λ r. r.2.seat.table_id ≡ r.1.table.shared.table_id) }
+    ensures count { IfSome result (λ r. r.1.count ≡ length r.0.names) }
+    ensures site { IfSome result (λ r. r.2.seat.me.0.seen.base.site ≡ r.0) }
+    ensures others { IfSome result (λ r. r.2.seat.me.0.others ≡ []) }
+{
+    let Ok(site) = site_of(alloc, text) else {
         return None;
     };
-    let Ok(ports) = ports_by(alloc, &site, &FailingOnce) else {
+    let Ok(ports) = ports_by(alloc, &site, making) else {
         return None;
     };
     match open_hall(alloc, &site, ports, limit) {
@@ -251,6 +282,20 @@ pub(crate) fn alone<R: Wait, S: Doing>(
     doing: &S,
 ) -> Option<S::Told> {
     let Some((site, hall, pass)) = opened(alloc, limit) else {
+        return None;
+    };
+    let (_pass, told) = with_desk_here(rt, alloc, &hall, &site, pass, doing);
+    told
+}
+
+/// The same in a hall of the records of a text, whose ports take each text.
+pub(crate) fn alone_of<R: Wait, S: Doing>(
+    rt: &R,
+    alloc: Global,
+    text: &str,
+    doing: &S,
+) -> Option<S::Told> {
+    let Some((site, hall, pass)) = opened_of(alloc, text, &Taking, 1_000_000) else {
         return None;
     };
     let (_pass, told) = with_desk_here(rt, alloc, &hall, &site, pass, doing);

@@ -10,6 +10,8 @@ mod gated;
 #[cfg(test)]
 mod halls;
 #[cfg(test)]
+mod refused;
+#[cfg(test)]
 mod scenes;
 #[cfg(test)]
 mod threads;

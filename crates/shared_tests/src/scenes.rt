@@ -115,14 +115,19 @@ pub(crate) fn put_number<D: Desk>(alloc: Global, desk: &mut D, name: &str, numbe
     answer
 }
 
-/// The group's structure with this number in both members.
-pub(crate) fn both_with(alloc: Global, number: i32) -> Result<PvValue, NoMemory> {
-    Ok(PvValue::Struct(vec![in alloc; PvValue::I32(number), PvValue::I32(number)]?))
+/// The group's structure with these numbers in its members.
+pub(crate) fn pair_with(alloc: Global, numbers: [i32; 2]) -> Result<PvValue, NoMemory> {
+    Ok(PvValue::Struct(vec![in alloc; PvValue::I32(numbers[0]), PvValue::I32(numbers[1])]?))
 }
 
 /// Puts a number to both members of the group.
 pub(crate) fn put_both<D: Desk>(alloc: Global, desk: &mut D, number: i32) -> Answer {
-    let Ok(value) = both_with(alloc, number) else {
+    put_pair(alloc, desk, [number, number])
+}
+
+/// Puts a number to each member of the group.
+pub(crate) fn put_pair<D: Desk>(alloc: Global, desk: &mut D, numbers: [i32; 2]) -> Answer {
+    let Ok(value) = pair_with(alloc, numbers) else {
         return None;
     };
     let answer = put(alloc, desk, "G", &value, &[1, 2]);
