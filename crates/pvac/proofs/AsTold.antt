@@ -77,7 +77,7 @@ part_longer p front = record {
 }
 
 -- a dialogue all of whose output was taken
-talked_whole : (site : SiteData) (given taken : List ℕ) (log : List Mark) (trouble : Option Ended) → Whole site Little given log taken trouble → HasTalked site given taken log
+pub talked_whole : (site : SiteData) (given taken : List ℕ) (log : List Mark) (trouble : Option Ended) → Whole site Little given log taken trouble → HasTalked site given taken log
 talked_whole site given taken log trouble w = record { out = taken; trouble = trouble; whole = w; sent = record { rest = []; whole = sym (append-nil taken) } }
 
 module _ (ask : Ask) (idle piece turns : ℕ) (site : SiteData) (start now : Option (List ℕ)) (before after : ℕ) (given taken : List ℕ) (log : List Mark) (begins : Begins ask taken given) where

@@ -105,7 +105,7 @@ greeting_sayable = (
 )
 
 -- what the server reads of the bytes that it was given
-given_heard : (ask : Ask) (given taken : List ℕ) → Begins ask taken given → AreRequests (events_in given) (client_sent ask (events_in taken))
+pub given_heard : (ask : Ask) (given taken : List ℕ) → Begins ask taken given → AreRequests (events_in given) (client_sent ask (events_in taken))
 given_heard ask given taken begins_ =
     let first = client_sent ask begins_.heard in
     let grown = sent_grows ask begins_.heard begins_.later in

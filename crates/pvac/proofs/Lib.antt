@@ -47,6 +47,10 @@ pub mod Putting
 pub mod Monitoring
 pub mod Starving
 pub mod Completing
+mod Subscribed
+mod LoneSends
+mod LoneMarks
+mod OneSubscription
 mod Outcomes
 mod Moving
 mod Conversing

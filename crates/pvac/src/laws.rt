@@ -1,5 +1,5 @@
 // Laws of exchanges, each the contract of a function that does nothing.
-ghost use Rattle.pvac.specs.Clear.{MarksAreTold, MonitorsPrintUpdates, PrintsAFront, PrintsTheMarks};
+ghost use Rattle.pvac.specs.Clear.{MarksAreTold, MonitorsHaveOneSubscription, MonitorsPrintUpdates, PrintsAFront, PrintsTheMarks};
 ghost use Rattle.pvac.specs.Laws.{ExchangesComplete, RunsComplete};
 
 /// A run prints at the end of its operation the text that the marks of its desk tell, and before that a front of it.
@@ -22,6 +22,12 @@ pub fn a_front_is_printed()
 /// Of a monitor a run prints the first of the updates that its pops took, each whole.
 pub fn monitors_print_updates()
     ensures { MonitorsPrintUpdates }
+{}
+
+/// A monitor has at most one subscription, however its run ends. All updates that pops took, of which the printed ones are the
+/// first, are of it: with those that are still queued they fold to what it was shown at its last mark.
+pub fn monitors_have_one_subscription()
+    ensures { MonitorsHaveOneSubscription }
 {}
 
 /// An exchange that meets no fault ends with its operation, or for want of memory, where a monitor's window is one that words may
