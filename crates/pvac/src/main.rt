@@ -76,9 +76,11 @@ update before. For info the value is the field's type, as int, string[] or struc
 status alone tells it.
 
 A VALUE is a decimal number that the field's type has, true or false, a text without quotes, a choice of an enumeration or its
-number; no number of floating point can be written. Several are the elements of a list, before which no count stands.
+number; no number of floating point can be written. Several are the elements of a list, before which no count stands; a list
+without elements can't be written.
 FIELD=VALUE writes other fields than `value`, as those of a group; then every VALUE has that form, and a choice is given by its
 number alone, as mode.value.index=1. A VALUE that begins with - stands behind the word --.
+The numbers of options have no zero in front, and a run has one NAME. No variable of the environment is read.
 
 Examples over the network:
 

@@ -376,6 +376,16 @@ static PIECEWISE: &[Row] = &[
         0,
         SNAPSHOT,
     ),
+    (
+        &["--within", "X=42", "monitor", "X", "--fields", "value"],
+        0,
+        "X\nvalue 42\n",
+    ),
+    (
+        &["--within", "X=42", "putget", "X", "7", "--fields", "value"],
+        0,
+        "X\nvalue 7\n",
+    ),
 ];
 
 /// These words, and behind them that bytes pass in such pieces.
