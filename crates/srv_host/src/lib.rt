@@ -11,8 +11,6 @@ mod laws;
 mod running;
 mod session;
 mod settling;
-#[cfg(test)]
-mod tests;
 
 pub use hosted::Hosted;
 pub use hosting::host;
