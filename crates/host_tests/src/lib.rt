@@ -1,0 +1,5 @@
+//! Tests of a host of many clients, over listeners and datagrams in memory.
+#![tactic(auto)]
+
+#[cfg(test)]
+mod hosted;
