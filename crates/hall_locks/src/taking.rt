@@ -1,5 +1,5 @@
 //! One cell is taken or given back.
-ghost use Rattle.std.specs.Prelude.{◌≡◌, ℕ, suc, ◌+◌, ◌<◌, ◌∷◌, None, true};
+ghost use Rattle.std.specs.Prelude.{◌≡◌, ℕ, suc, ◌+◌, ◌<◌, ◌∷◌, None, true, false};
 ghost use Rattle.atomic_table.specs.Table.{rest};
 ghost use Rattle.histories.specs.History.{Every};
 ghost use Rattle.hall_locks.specs.Hall.{with_cell, with_cells, WasShown};
@@ -9,7 +9,7 @@ ghost use Rattle.hall_locks.specs.declared.view.Place.TheVariants.{Away, Cell};
 use crate::hall::{Hall, Token};
 use crate::plays::{Footprint, GivesCell, TakesCell};
 use crate::view::Place;
-use crate::words::{AWAITED, FREE, TAKEN};
+use crate::words::{AWAITED, FREE, TAKEN, TRIES};
 use hall_core::Law;
 use std::sync::Wait;
 
@@ -43,11 +43,11 @@ impl<T: Law> Hall<T> {
         ensures own { (seat.new.table_id ≡ seat.old.table_id) × (seat.new.id ≡ seat.old.id) }
         ensures took { TookCell T.meaning B.bound (cell + 1) seat.old.me seat.new.me }
     {
-        let word = cell + 1;
-        let table = &self.table.shared;
-        if table.compare_exchange::<TakesCell<T, B>>(seat, word, FREE, TAKEN) == FREE {
+        if self.try_word::<B>(seat, cell) {
             return;
         }
+        let word = cell + 1;
+        let table = &self.table.shared;
         for _ in rt.forever() {
             if table.swap::<TakesCell<T, B>>(seat, word, AWAITED) == FREE {
                 return;
@@ -55,6 +55,31 @@ impl<T: Law> Hall<T> {
             table.park(rt, word, AWAITED as u32);
         }
         unreachable!()
+    }
+
+    // The cell's word, if it is free within a few tries.
+    fn try_word<B: Footprint>(&self, seat: &mut Token<T>, cell: usize) -> bool
+        requires own { seat.old.table_id ≡ self.now.table.shared.table_id }
+        requires inside { Every (λ c. c < self.now.count) B.bound }
+        requires live { seat.old.me.0.live ≡ true }
+        requires may { MayTake seat.old.me.0 B.bound cell }
+        ensures own { (seat.new.table_id ≡ seat.old.table_id) × (seat.new.id ≡ seat.old.id) }
+        ensures took { result ≡ true → TookCell T.meaning B.bound (cell + 1) seat.old.me seat.new.me }
+        ensures not { result ≡ false → seat.new.me ≡ seat.old.me }
+    {
+        let word = cell + 1;
+        for _ in 0..TRIES {
+            if self
+                .table
+                .shared
+                .compare_exchange::<TakesCell<T, B>>(seat, word, FREE, TAKEN)
+                == FREE
+            {
+                return true;
+            }
+            self.watch(word);
+        }
+        false
     }
 
     // The cell out of its slot, whose word is taken.
