@@ -1,5 +1,5 @@
 -- What is known of a link over a TCP connection: its counts, and whether it was closed. It tells no bytes.
-use Rattle.std.specs.Prelude.{Bool, false, None}
+use Rattle.std.specs.Prelude.{Bool, is_none, false, None}
 use Rattle.pva_outside.specs.Wire.{Wire}
 use Rattle.pva_net.specs.declared.tcp_link.TcpLink.{TcpLink}
 
@@ -12,4 +12,4 @@ new_wire = record { left = None; written = None; faults = 0; idles = 0; ends = 0
 
 -- the link was closed
 abbrev pub is_closed : TcpLink → Bool
-is_closed l = l.closed
+is_closed l = is_none l.stream

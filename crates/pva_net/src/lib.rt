@@ -5,6 +5,7 @@
 #![tactic(auto)]
 
 mod addresses;
+mod bell;
 mod patience;
 mod tcp_dialer;
 mod tcp_link;
@@ -13,6 +14,7 @@ mod tcp_listener;
 mod tests;
 mod udp_datagrams;
 
+pub use bell::Bell;
 pub use tcp_dialer::TcpDialer;
 pub use tcp_link::TcpLink;
 pub use tcp_listener::TcpListener;

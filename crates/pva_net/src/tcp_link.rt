@@ -14,11 +14,10 @@ use std::net::{Shutdown, TcpStream};
 /// Each call of the link is one call of the socket. A read waits 50 ms at most for input, and is then idle; it ends where the peer
 /// has ended its stream. A write hands over all bytes, and takes those that fit the socket's buffer within 50 ms; where that is
 /// none, it is idle. Of the errors, `WouldBlock` and `Interrupted` are `Idle`, `OutOfMemory` is `NoMemory`, and every other is a
-/// fault. `close` shuts the connection, and each later call is a fault. It tells no bytes.
+/// fault. `close` shuts the connection and gives its socket back to the system, and each later call is a fault. It tells no bytes.
 #[derive(Drop)]
 pub struct TcpLink {
-    stream: TcpStream,
-    closed: bool,
+    stream: Option<TcpStream>,
     faults: u64,
     idles: u64,
     ends: u64,
@@ -35,8 +34,7 @@ impl TcpLink {
         stream.set_read_timeout(Some(patience()))?;
         stream.set_write_timeout(Some(patience()))?;
         Ok(TcpLink {
-            stream,
-            closed: false,
+            stream: Some(stream),
             faults: 0,
             idles: 0,
             ends: 0,
@@ -75,11 +73,11 @@ impl Link for TcpLink {
         ensures closed { IsTrue (is_closed self.old) → result ≡ ReadStep.Failed }
         ensures stays { is_closed self.new ≡ is_closed self.old }
     {
-        if self.closed {
+        let Some(stream) = &mut self.stream else {
             raise(&mut self.faults);
             return ReadStep::Failed;
-        }
-        match self.stream.read(buffer) {
+        };
+        match stream.read(buffer) {
             Ok(0) => {
                 raise(&mut self.ends);
                 ReadStep::End
@@ -106,11 +104,11 @@ impl Link for TcpLink {
         ensures closed { IsTrue (is_closed self.old) → result ≡ WriteStep.Failed }
         ensures stays { is_closed self.new ≡ is_closed self.old }
     {
-        if self.closed {
+        let Some(stream) = &mut self.stream else {
             raise(&mut self.faults);
             return WriteStep::Failed;
-        }
-        match self.stream.write(bytes) {
+        };
+        match stream.write(bytes) {
             Ok(0) => {
                 raise(&mut self.faults);
                 WriteStep::Failed
@@ -135,8 +133,9 @@ impl Link for TcpLink {
         ensures steady { Steadily (tcp_wire self.old) (tcp_wire self.new) }
         ensures closed { is_closed self.new ≡ true }
     {
-        // A connection that the peer has reset can't be shut any more, and needn't be.
-        let _ = self.stream.shutdown(Shutdown::Both);
-        self.closed = true;
+        if let Some(stream) = self.stream.take() {
+            // A connection that the peer has reset can't be shut any more, and needn't be.
+            let _ = stream.shutdown(Shutdown::Both);
+        }
     }
 }

@@ -4,73 +4,55 @@ ghost use Rattle.pva_outside.specs.Doors.{BindsDoor, Accepts, Retires};
 ghost use Rattle.pva_net.specs.TcpLink.{tcp_wire, new_wire};
 
 use crate::addresses::address_of;
+use crate::bell::Bell;
 use crate::patience::patience;
 use crate::tcp_link::TcpLink;
 use mio::{Events, Interest, Poll, Token};
 use pva_outside::{AcceptStep, BindStep, Listener, NoMemory, Peer, Refusal, raise, refusal_of};
 use std::alloc::Global;
+use std::io;
 use std::io::ErrorKind;
 use std::net::{Net, TcpStream};
-use std::{io, net};
 
 /// A TCP port that clients connect to.
 ///
-/// An accept waits 50 ms at most for a client, and is then idle. It never ends. Where an error comes, `WouldBlock`, `Interrupted`
+/// An accept waits 50 ms at most for a client, or until its bell rings, and is then idle. It never ends. Where an error comes, `WouldBlock`, `Interrupted`
 /// and `ConnectionAborted` are `Idle`, `OutOfMemory` is `NoMemory`, and every other is a fault; before it is bound each accept is a
 /// fault. It tells neither addresses nor links. A link that is taken back is let go, which closes its socket.
 #[derive(Drop)]
 pub struct TcpListener<R: Net + Drop> {
     rt: R,
-    alloc: Global,
-    port: Option<Port>,
+    poll: Poll,
+    events: Events<Global>,
+    socket: Option<mio::net::TcpListener>,
     faults: u64,
     idles: u64,
     accepts: u64,
     links: u64,
 }
 
-/// A socket that listens, and what waits for its clients.
-#[derive(Drop)]
-struct Port {
-    listener: mio::net::TcpListener,
-    poll: Poll,
-    events: Events<Global>,
+/// The link to a client who is there. `WouldBlock`: nobody is.
+fn take(socket: &mio::net::TcpListener) -> io::Result<TcpLink>
+    ensures { IfOk result (λ link. tcp_wire link ≡ new_wire) }
+{
+    let (stream, _) = socket.accept()?;
+    TcpLink::over(TcpStream::from(stream))
 }
 
-impl Port {
-    /// Listens at this address.
-    fn open(net: &impl Net, alloc: Global, address: net::SocketAddr) -> io::Result<Port> {
-        let mut listener = mio::net::TcpListener::bind(net, address)?;
-        let poll = Poll::new(net)?;
-        poll.registry()
-            .register(&mut listener, Token(0), Interest::READABLE)?;
-        let events = Events::with_capacity(alloc, 1)?;
-        Ok(Port {
-            listener,
-            poll,
-            events,
-        })
-    }
-
-    /// The link to a client who is there. `WouldBlock`: nobody is.
-    fn take(&self) -> io::Result<TcpLink>
-        ensures { IfOk result (λ link. tcp_wire link ≡ new_wire) }
-    {
-        let (stream, _) = self.listener.accept()?;
-        TcpLink::over(TcpStream::from(stream))
-    }
-
-    /// The link to the next client, who may come while it waits.
-    fn wait(&mut self) -> io::Result<TcpLink>
-        ensures { IfOk result (λ link. tcp_wire link ≡ new_wire) }
-    {
-        match self.take() {
-            Err(error) if error.kind() == ErrorKind::WouldBlock => {
-                self.poll.poll(&mut self.events, Some(patience()))?;
-                self.take()
-            }
-            taken => taken,
+/// The link to the next client, who may come while `poll` waits.
+fn wait(
+    socket: &mio::net::TcpListener,
+    poll: &mut Poll,
+    events: &mut Events<Global>,
+) -> io::Result<TcpLink>
+    ensures { IfOk result (λ link. tcp_wire link ≡ new_wire) }
+{
+    match take(socket) {
+        Err(error) if error.kind() == ErrorKind::WouldBlock => {
+            poll.poll(events, Some(patience()))?;
+            take(socket)
         }
+        taken => taken,
     }
 }
 
@@ -85,31 +67,43 @@ fn refusal_at_accept(error: &io::Error) -> Refusal {
 impl<R: Net + Drop> TcpListener<R> {
     ghost use Rattle.pva_net.specs.TcpListener.{tcp_door, new_door};
 
-    /// A listener over the network of the runtime `rt`, not bound, with counts of 0.
-    pub fn new(rt: R, alloc: Global) -> TcpListener<R>
-        ensures { tcp_door result ≡ new_door }
+    /// A listener over the network of the runtime `rt`, not bound, with counts of 0. An error is the system's, which gives nothing
+    /// to wait with, or that of memory.
+    pub fn new(rt: R, alloc: Global) -> io::Result<TcpListener<R>>
+        ensures { IfOk result (λ listener. tcp_door listener ≡ new_door) }
     {
-        TcpListener {
+        let poll = Poll::new(&rt)?;
+        let events = Events::with_capacity(alloc, 2)?;
+        Ok(TcpListener {
             rt,
-            alloc,
-            port: None,
+            poll,
+            events,
+            socket: None,
             faults: 0,
             idles: 0,
             accepts: 0,
             links: 0,
-        }
+        })
+    }
+
+    /// What ends the wait of an accept.
+    pub fn bell(&self) -> io::Result<Bell> {
+        Bell::of(&self.poll)
     }
 
     /// A socket that listens at this address, and its port.
-    fn open(&self, at: Peer) -> io::Result<(Port, u16)>
+    fn open(&self, at: Peer) -> io::Result<(mio::net::TcpListener, u16)>
         ensures { at.port ≢ 0 → IfOk result (λ opened. opened.1 ≡ at.port) }
     {
-        let port = Port::open(&self.rt, self.alloc, address_of(at))?;
+        let mut socket = mio::net::TcpListener::bind(&self.rt, address_of(at))?;
+        self.poll
+            .registry()
+            .register(&mut socket, Token(0), Interest::READABLE)?;
         if at.port != 0 {
-            return Ok((port, at.port));
+            return Ok((socket, at.port));
         }
-        let number = port.listener.local_addr()?.port();
-        Ok((port, number))
+        let number = socket.local_addr()?.port();
+        Ok((socket, number))
     }
 
     /// The link to the next client.
@@ -117,8 +111,8 @@ impl<R: Net + Drop> TcpListener<R> {
         ensures fresh { IfOk result (λ link. tcp_wire link ≡ new_wire) }
         ensures door { tcp_door self.new ≡ tcp_door self.old }
     {
-        match &mut self.port {
-            Some(port) => port.wait(),
+        match &self.socket {
+            Some(socket) => wait(socket, &mut self.poll, &mut self.events),
             None => Err(io::Error::from(ErrorKind::NotConnected)),
         }
     }
@@ -135,8 +129,8 @@ impl<R: Net + Drop> Listener for TcpListener<R> {
         ensures { BindsDoor (tcp_door self.old) (tcp_door self.new) result at }
     {
         match self.open(at) {
-            Ok((port, number)) => {
-                self.port = Some(port);
+            Ok((socket, number)) => {
+                self.socket = Some(socket);
                 BindStep::Bound(number)
             }
             Err(error) => match refusal_of(&error) {

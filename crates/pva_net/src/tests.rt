@@ -4,6 +4,7 @@ use pva_outside::{
     ReadStep, SendStep, WriteStep,
 };
 use std::test::Fail;
+use std::time::{Duration, Instant};
 
 /// A port of this machine.
 fn here(port: u16) -> Peer {
@@ -39,7 +40,7 @@ fn accepted(step: AcceptStep<TcpLink>) -> Option<TcpLink> {
 
 #[test]
 fn a_listener_accepts_who_connects_to_its_port(rt: HostRuntime) -> Result<(), Fail> {
-    let mut listener = TcpListener::new(rt, rt.alloc());
+    let mut listener = TcpListener::new(rt, rt.alloc())?;
     assert!(rt; matches!(listener.accept(), AcceptStep::Failed));
     let port = port_of(listener.bind(here(0))).expect(&rt, "a port");
     assert_eq!(rt; listener.bind(here(port)), BindStep::Failed);
@@ -53,7 +54,7 @@ fn a_listener_accepts_who_connects_to_its_port(rt: HostRuntime) -> Result<(), Fa
 
 #[test]
 fn a_link_moves_bytes_both_ways_until_it_is_closed(rt: HostRuntime) -> Result<(), Fail> {
-    let mut listener = TcpListener::new(rt, rt.alloc());
+    let mut listener = TcpListener::new(rt, rt.alloc())?;
     let port = port_of(listener.bind(here(0))).expect(&rt, "a port");
     let mut client = dialed(TcpDialer::new(rt).dial(here(port))).expect(&rt, "a server");
     let mut server = accepted(listener.accept()).expect(&rt, "a client");
@@ -74,7 +75,7 @@ fn a_link_moves_bytes_both_ways_until_it_is_closed(rt: HostRuntime) -> Result<()
 
 #[test]
 fn a_dial_fails_where_nobody_listens(rt: HostRuntime) -> Result<(), Fail> {
-    let mut listener = TcpListener::new(rt, rt.alloc());
+    let mut listener = TcpListener::new(rt, rt.alloc())?;
     let port = port_of(listener.bind(here(0))).expect(&rt, "a port");
     let mut dialer = TcpDialer::new(rt);
     let link = dialed(dialer.dial(here(port))).expect(&rt, "a server");
@@ -86,8 +87,9 @@ fn a_dial_fails_where_nobody_listens(rt: HostRuntime) -> Result<(), Fail> {
 
 #[test]
 fn datagrams_come_with_the_address_of_their_sender(rt: HostRuntime) -> Result<(), Fail> {
+    let listener = TcpListener::new(rt, rt.alloc())?;
     let mut one = UdpDatagrams::new(rt);
-    let mut other = UdpDatagrams::without_waiting(rt);
+    let mut other = UdpDatagrams::ringing(rt, listener.bell()?);
     let mut buffer = [0u8; 8];
     assert_eq!(rt; other.receive(&mut buffer), DatagramStep::Failed);
     let here_one = here(port_of(one.bind(here(0))).expect(&rt, "a port"));
@@ -97,5 +99,25 @@ fn datagrams_come_with_the_address_of_their_sender(rt: HostRuntime) -> Result<()
     assert_eq!(rt; one.receive(&mut buffer), DatagramStep::Got(6, here_other));
     assert_eq!(rt; &buffer[..6], b"search".as_slice());
     assert_eq!(rt; one.receive(&mut buffer), DatagramStep::Idle);
+    Ok(())
+}
+
+#[test]
+fn a_datagram_ends_the_wait_of_an_accept(rt: HostRuntime) -> Result<(), Fail> {
+    let mut listener = TcpListener::new(rt, rt.alloc())?;
+    let mut datagrams = UdpDatagrams::ringing(rt, listener.bell()?);
+    let mut sender = UdpDatagrams::new(rt);
+    let mut buffer = [0u8; 8];
+    assert!(rt; port_of(listener.bind(here(0))).is_some());
+    assert!(rt; port_of(sender.bind(here(0))).is_some());
+    let at = here(port_of(datagrams.bind(here(0))).expect(&rt, "a port"));
+    let begun = Instant::now(&rt)?;
+    for _ in 0..40u32 {
+        assert_eq!(rt; sender.send(b"search", at), SendStep::Sent);
+        assert!(rt; matches!(listener.accept(), AcceptStep::Idle));
+        assert!(rt; matches!(datagrams.receive(&mut buffer), DatagramStep::Got(6, _)));
+    }
+    // forty accepts that wait for clients in vain take two seconds
+    assert!(rt; begun.elapsed(&rt)? < Duration::from_secs(1));
     Ok(())
 }

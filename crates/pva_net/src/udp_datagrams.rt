@@ -4,6 +4,7 @@ ghost use Rattle.pva_outside.specs.Traffic.{BindsDatagrams, Receives, Sends};
 ghost use Rattle.std.specs.Counts.{IsPrefixLen};
 
 use crate::addresses::{address_of, peer_at};
+use crate::bell::Bell;
 use crate::patience::patience;
 use pva_outside::{BindStep, DatagramStep, Datagrams, Peer, Refusal, SendStep, raise, refusal_of};
 use std::io;
@@ -18,8 +19,8 @@ use std::net::{Net, SocketAddr, UdpSocket};
 #[derive(Drop)]
 pub struct UdpDatagrams<R: Net + Drop> {
     rt: R,
-    waits: bool,
-    socket: Option<UdpSocket>,
+    bell: Option<Bell>,
+    socket: Option<mio::net::UdpSocket>,
     faults: u64,
     idles: u64,
 }
@@ -33,20 +34,20 @@ impl<R: Net + Drop> UdpDatagrams<R> {
     {
         UdpDatagrams {
             rt,
-            waits: true,
+            bell: None,
             socket: None,
             faults: 0,
             idles: 0,
         }
     }
 
-    /// The same, where no receive waits: for a caller that waits elsewhere between them.
-    pub fn without_waiting(rt: R) -> UdpDatagrams<R>
+    /// The same, where no receive waits: for a caller who waits in an accept, which ends when a datagram comes and rings the bell.
+    pub fn ringing(rt: R, bell: Bell) -> UdpDatagrams<R>
         ensures { udp_view result ≡ new_view }
     {
         UdpDatagrams {
             rt,
-            waits: false,
+            bell: Some(bell),
             socket: None,
             faults: 0,
             idles: 0,
@@ -54,22 +55,30 @@ impl<R: Net + Drop> UdpDatagrams<R> {
     }
 
     /// A socket at this address, and its port.
-    fn open(&self, at: Peer) -> io::Result<(UdpSocket, u16)>
+    fn open(&self, at: Peer) -> io::Result<(mio::net::UdpSocket, u16)>
         ensures { at.port ≢ 0 → IfOk result (λ opened. opened.1 ≡ at.port) }
     {
         let socket = UdpSocket::bind(&self.rt, address_of(at))?;
         socket.set_broadcast(true)?;
-        if self.waits {
-            socket.set_read_timeout(Some(patience()))?;
-        } else {
-            socket.set_nonblocking(true)?;
-        }
         let number = socket.local_addr()?.port();
+        let socket = self.patient(socket)?;
         Ok((socket, if at.port == 0 { number } else { at.port }))
     }
 
+    /// The socket, of which a receive waits, or which rings the bell.
+    fn patient(&self, socket: UdpSocket) -> io::Result<mio::net::UdpSocket> {
+        let Some(bell) = &self.bell else {
+            socket.set_read_timeout(Some(patience()))?;
+            return Ok(mio::net::UdpSocket::from_std(socket));
+        };
+        socket.set_nonblocking(true)?;
+        let mut socket = mio::net::UdpSocket::from_std(socket);
+        bell.hang(&mut socket)?;
+        Ok(socket)
+    }
+
     /// The socket, where one is bound.
-    fn bound(&self) -> io::Result<&UdpSocket> {
+    fn bound(&self) -> io::Result<&mio::net::UdpSocket> {
         match &self.socket {
             Some(socket) => Ok(socket),
             None => Err(io::Error::from(ErrorKind::NotConnected)),
