@@ -1,6 +1,6 @@
 -- What a host comes to, of its accepts, its sessions and its last look.
 use Rattle.std.proofs.Common.{◌≡◌, ◌⊎◌, inl, inr, ℕ, suc, Bool, true, false, List, [], ◌∷◌, ◌++◌, length, map, Option, refl, sym, ap, subst, ◌∙◌, append-nil}
-use Rattle.histories.specs.History.{Begins, Every, IsPrefixOf, deeds_by}
+use Rattle.histories.specs.History.{Begins, Every, deeds_by}
 use Rattle.histories.proofs.Stories.{begins_trans}
 use Rattle.hall_core.specs.Meanings.{AreDistinct}
 use Rattle.hall_locks.specs.Hall.{numbers_of}
@@ -18,16 +18,13 @@ use Rattle.desk_api.specs.Marks.{AllHold, deeds_of}
 use Rattle.desk_api.specs.declared.history.SiteData.{SiteData}
 use Rattle.desk_api.specs.declared.mark.Mark.{Mark}
 use Rattle.desk_shared.specs.Records.{Sight, seat_of}
-use Rattle.srv_host.specs.Accepts.{links_in}
-use Rattle.srv_host.specs.Datagrams.{WentInPart, WentWhole}
-use Rattle.srv_host.specs.Hosting.{AreBegun, AreHosted, HasAccepted, Hosts, IsDone, IsInPart, IsWhole, StoppedSo, answer_of, served_of}
+use Rattle.srv_host.specs.Hosting.{AreAllBegun, AreBegun, AreHosted, HasAccepted, Hosts, IsDone, IsInPart, IsWhole, StoppedSo, answer_of, served_of}
 use Rattle.srv_host.specs.Joining.{Joins}
 use Rattle.srv_host.specs.Sessions.{Session, WasServed, logs_of, starts_of}
 use Rattle.srv_host.specs.declared.accepting.Stop.{Stop}
 use Rattle.srv_host.specs.declared.accepting.Stop.TheVariants as stops
 use Rattle.srv_host.specs.declared.hosted.Hosted.{Hosted}
 use Rattle.srv_host.proofs.Joined.{all_begin_on}
-use Rattle.srv_host.proofs.Passing.{part_whole}
 
 -- the marks of a session are true in every history that goes on from what it has seen
 true_log : (from : History) (told : Option Moment) (order : Order) (s : Session) (h : History) → WasServed from told order s → Begins s.seen h → AllHold s.number h [] s.log
@@ -59,28 +56,16 @@ are_hosted old joined new door after told order starts fine j adds others distin
     }
 
 module _ (site : SiteData) (setup : Setup) (beacon_to : Option Peer) (heard then_ : DatagramsView) where
-  first_begun : (turns : List (Option Wire)) (links : List Wire) (stop : Stop) → AreBegun site setup beacon_to heard then_ turns links stop
-      → IsPrefixOf links (links_in turns) × WentInPart site setup beacon_to heard then_ (length turns)
-  first_begun turns links stops.NoMemory b = b
-  first_begun turns links stops.End b = (record { rest = []; whole = sym b.0 ∙ sym (append-nil links) }, part_whole site setup beacon_to b.1)
-  first_begun turns links stops.Turns b = (record { rest = []; whole = sym b.0 ∙ sym (append-nil links) }, part_whole site setup beacon_to b.1)
-  first_begun turns links stops.Fault b = (record { rest = []; whole = sym b.0 ∙ sym (append-nil links) }, part_whole site setup beacon_to b.1)
-
   module _ (old joined : Sight) (door after : Door) (told : Option Moment) (starts : List Wire) (turns : List (Option Wire)) where
-    whole : (j : Joins old joined door after told setup.order starts true) → (starts ≡ links_in turns) × WentWhole site setup beacon_to heard then_ (length turns)
-        → IsWhole site setup beacon_to door after heard then_ turns j.sessions
-    whole j b = let w = j.whole refl in record { links = j.links ∙ b.0; memory = w.0; back = w.1; datagrams = b.1 }
+    whole : (j : Joins old joined door after told setup.order starts true) → AreAllBegun site setup beacon_to heard then_ turns starts → IsWhole site setup beacon_to door after heard then_ turns j.sessions
+    whole j b = let w = j.whole refl in record { links = j.links ∙ b.links_are; memory = w.0; back = w.1; datagrams = b.datagrams }
 
     in_part : (fine : Bool) (stop : Stop) (j : Joins old joined door after told setup.order starts fine) → AreBegun site setup beacon_to heard then_ turns starts stop
-        → IsInPart site setup beacon_to door after heard then_ turns j.sessions
-    in_part fine stop j b = let first = first_begun turns starts stop b in record {
-      links = subst (λ (ws : List Wire). IsPrefixOf ws (links_in turns)) (sym j.links) first.0;
-      back = j.back;
-      datagrams = first.1;
-    }
+        → IsInPart site setup beacon_to door after heard then_ turns j.sessions stop
+    in_part fine stop j b = record { begun = subst (λ (ws : List Wire). AreBegun site setup beacon_to heard then_ turns ws stop) (sym j.links) b; back = j.back }
 
     done : (fine : Bool) (stop : Stop) (n : ℕ) (j : Joins old joined door after told setup.order starts fine) → AreBegun site setup beacon_to heard then_ turns starts stop
-        → StoppedSo (answer_of stop fine n) stop × (served_of (answer_of stop fine n) ≡ n) × IsDone (answer_of stop fine n) site setup beacon_to door after heard then_ turns j.sessions
+        → StoppedSo (answer_of stop fine n) stop × (served_of (answer_of stop fine n) ≡ n) × IsDone (answer_of stop fine n) site setup beacon_to door after heard then_ turns j.sessions stop
     done true stops.End n j b = (inl refl, refl, whole j b)
     done true stops.Turns n j b = (inr refl, refl, whole j b)
     done true stops.Fault n j b = (refl, refl, whole j b)
@@ -111,5 +96,5 @@ hosts site setup beacon_to told most old joined new before door after heard then
       hosted = are_hosted old joined new door after told setup.order starts fine j adds others distinct did;
       served = ap served_of is ∙ (d.1 ∙ (many ∙ long));
       stop_is = subst (λ (r : Hosted). StoppedSo r stop) (sym is) d.0;
-      done = subst (λ (r : Hosted). IsDone r site setup beacon_to door after heard then_ a.turns j.sessions) (sym is) d.2;
+      done = subst (λ (r : Hosted). IsDone r site setup beacon_to door after heard then_ a.turns j.sessions stop) (sym is) d.2;
     }

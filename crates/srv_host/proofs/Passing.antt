@@ -33,12 +33,6 @@ went_more {a} {b} {c} {xs} {ys} p q = record { told = told_more a.traffic b.traf
 pub went_one : {a b : DatagramsView} {one : Traffic} → Passes a b one → Went a b (one ∷ [])
 went_one p = record { told = p.traffic; bindings = p.bindings }
 
-pub whole_first : {a b : DatagramsView} {xs : List Traffic} → Went a b xs → WentFirst a b xs
-whole_first {a} {b} {xs} p = record { done = xs; first = record { rest = []; whole = sym (append-nil xs) }; went = p }
-
-pub none_first : {a b : DatagramsView} (xs : List Traffic) → Went a b [] → WentFirst a b xs
-none_first xs p = record { done = []; first = record { rest = xs; whole = refl }; went = p }
-
 -- what was whole, and then the first of what comes next
 pub first_more : {a b c : DatagramsView} {xs ys : List Traffic} → Went a b xs → WentFirst b c ys → WentFirst a c (xs ++ ys)
 first_more {a} {b} {c} {xs} {ys} p q = record {
@@ -171,23 +165,9 @@ module _ (site : SiteData) (setup : Setup) where
         }
 
     pub part_turn : {a b c : DatagramsView} {n : ℕ} {traffic : List Traffic} → WentWhole site setup beacon_to a b n → IsTurn site setup beacon_to (n + 1) traffic → WentFirst b c traffic
-        → WentInPart site setup beacon_to a c (n + 1)
+        → WentInPart site setup beacon_to a c n
     part_turn {a} {b} {c} {n} {traffic} w is went =
-        let at : n + 1 ≡ suc (0 + length w.each) = let m = w.many in omega arith in record {
-          each = w.each ++ traffic ∷ [];
-          many = length_snoc w.each traffic ∙ ap (λ (k : ℕ). k + 1) w.many;
-          are = turns_snoc 0 w.each traffic w.are (subst (λ (k : ℕ). IsTurn site setup beacon_to k traffic) at is);
-          went = subst (λ (t : List Traffic). WentFirst a c t) (sym (joined_snoc w.each traffic)) (first_more w.went went);
-        }
-
-    pub part_whole : {a b : DatagramsView} {n : ℕ} → WentWhole site setup beacon_to a b n → WentInPart site setup beacon_to a b n
-    part_whole w = record { each = w.each; many = w.many; are = w.are; went = whole_first w.went }
-
-    -- memory ran out before the datagrams of a turn
-    pub part_before : {a b : DatagramsView} {n : ℕ} → WentWhole site setup beacon_to a b n → WentInPart site setup beacon_to a b (n + 1)
-    part_before {a} {b} {n} w =
-        let turn = turn_without_beacon {turn = n + 1} {a = b} {b = b} {xs = beacon_in setup beacon_to (n + 1)} refl (none_first (beacon_in setup beacon_to (n + 1)) (went_none b)) in
-        part_turn w turn.1 turn.2
+        let at : n + 1 ≡ suc n = omega arith in record { mid = b; whole = w; next = traffic; is_turn = subst (λ (k : ℕ). IsTurn site setup beacon_to k traffic) at is; first = went }
 
 -- the same of a list that is equal
 pub kind_as : (a b : DatagramsView) (result : Result (Unit {0}) NoMemory) (xs ys : List Traffic) → xs ≡ ys → GoesOn (λ (t : List Traffic). t ≡ xs) a b result → GoesOn (λ (t : List Traffic). t ≡ ys) a b result

@@ -2,7 +2,7 @@
 use Rattle.std.proofs.Common.{◌≡◌, ◌≢◌, ◌⊎◌, inl, inr, ◌<◌, ◌≤◌, ◌+◌, ◌^◌, ℕ, suc, List, [], ◌∷◌, ◌++◌, length, Option, None, Some, refl, sym, ap, subst, ◌∙◌, arith, append-nil, append_assoc}
 use mathlib.Core.Logic.{dite}
 use native.Mathlib.Decide.{dec_lt}
-use Rattle.histories.specs.History.{Every, IsPrefixOf}
+use Rattle.histories.specs.History.{Every}
 use Rattle.pva_outside.specs.Count.{RoseByOne}
 use Rattle.pva_outside.specs.Counted.{counted}
 use Rattle.pva_outside.specs.Doors.{AcceptEnded, AcceptFailed, AcceptIdled, Client, Door, GaveLink, IsLinkOf, IsNext}
@@ -14,10 +14,10 @@ use Rattle.pva_search.specs.declared.setup.Setup.{Setup}
 use Rattle.desk_api.specs.declared.history.SiteData.{SiteData}
 use Rattle.srv_host.specs.Accepts.{Accepted, AcceptedInVain, AreLinksOf, Came, EndsAccepting, IsAccepted, Stopped, StoppedBy, links_in}
 use Rattle.srv_host.specs.Datagrams.{IsTurn, Went, WentFirst, WentInPart, WentWhole}
-use Rattle.srv_host.specs.Hosting.{HasAccepted}
+use Rattle.srv_host.specs.Hosting.{AreAllBegun, HasAccepted}
 use Rattle.srv_host.specs.declared.accepting.Stop.{Stop}
 use Rattle.srv_host.specs.declared.accepting.Stop.TheVariants as stops
-use Rattle.srv_host.proofs.Passing.{whole_none, whole_turn, part_turn, part_whole, part_before}
+use Rattle.srv_host.proofs.Passing.{whole_none, whole_turn, part_turn}
 
 pub every_snoc : {A : Type 0} (P : A → Type 0) (xs : List A) (x : A) → Every P xs → P x → Every P (xs ++ x ∷ [])
 every_snoc P [] x e p = (p, tt)
@@ -112,20 +112,20 @@ module _ (site : SiteData) (setup : Setup) (beacon_to : Option Peer) where
   }
 
   module _ (most : ℕ) where
-    whole_of : {door now : Door} {heard then_ : DatagramsView} {links : List Wire} {n : ℕ} (t : Turning door now heard then_ links n) → WentWhole site setup beacon_to heard then_ (length t.turns)
-    whole_of {door} {now} {heard} {then_} t = subst (λ (k : ℕ). WentWhole site setup beacon_to heard then_ k) (sym t.many) t.went
+    all_begun : {door now : Door} {heard then_ : DatagramsView} {links : List Wire} {n : ℕ} (t : Turning door now heard then_ links n) → AreAllBegun site setup beacon_to heard then_ t.turns links
+    all_begun {door} {now} {heard} {then_} t = record { links_are = t.links_are; datagrams = subst (λ (k : ℕ). WentWhole site setup beacon_to heard then_ k) (sym t.many) t.went }
 
     pub stops_end : {door now next : Door} {heard then_ : DatagramsView} {links : List Wire} {n : ℕ} → n < most → Turning door now heard then_ links n → AcceptEnded now next
         → HasAccepted site setup beacon_to most door next heard then_ links stops.End
-    stops_end {door} {now} {next} l t e = record { turns = t.turns; stopped = record { door = now; accepted = t.accepted; last = e; few = let m = t.many in omega arith }; begun = (t.links_are, whole_of t) }
+    stops_end {door} {now} {next} l t e = record { turns = t.turns; stopped = record { door = now; accepted = t.accepted; last = e; few = let m = t.many in omega arith }; begun = all_begun t }
 
     pub stops_fault : {door now next : Door} {heard then_ : DatagramsView} {links : List Wire} {n : ℕ} → n < most → Turning door now heard then_ links n → AcceptFailed now next
         → HasAccepted site setup beacon_to most door next heard then_ links stops.Fault
-    stops_fault {door} {now} {next} l t e = record { turns = t.turns; stopped = record { door = now; accepted = t.accepted; last = e; few = let m = t.many in omega arith }; begun = (t.links_are, whole_of t) }
+    stops_fault {door} {now} {next} l t e = record { turns = t.turns; stopped = record { door = now; accepted = t.accepted; last = e; few = let m = t.many in omega arith }; begun = all_begun t }
 
     pub stops_turns : {door now : Door} {heard then_ : DatagramsView} {links : List Wire} → Turning door now heard then_ links most
         → HasAccepted site setup beacon_to most door now heard then_ links stops.Turns
-    stops_turns t = record { turns = t.turns; stopped = (t.accepted, t.many); begun = (t.links_are, whole_of t) }
+    stops_turns t = record { turns = t.turns; stopped = (t.accepted, t.many); begun = all_begun t }
 
     within : (n : ℕ) → n < most → n ≤ most
     within n l = omega arith
@@ -133,11 +133,7 @@ module _ (site : SiteData) (setup : Setup) (beacon_to : Option Peer) where
     -- memory ran out before any accept, or in one
     pub stops_there : {door now : Door} {heard then_ : DatagramsView} {links : List Wire} {n : ℕ} → n ≤ most → Turning door now heard then_ links n
         → HasAccepted site setup beacon_to most door now heard then_ links stops.NoMemory
-    stops_there {door} {now} {heard} {then_} {links} l t = record {
-      turns = t.turns;
-      stopped = (t.accepted, let m = t.many in omega arith);
-      begun = (record { rest = []; whole = sym t.links_are ∙ sym (append-nil links) }, part_whole site setup beacon_to (whole_of t));
-    }
+    stops_there l t = record { turns = t.turns; stopped = (t.accepted, let m = t.many in omega arith); begun = inl (all_begun t) }
 
     -- or behind one
     pub stops_behind : (next : Door) {door now : Door} {heard then_ : DatagramsView} {links : List Wire} {n : ℕ} → n < most → Turning door now heard then_ links n → AcceptedInVain now next
@@ -149,10 +145,7 @@ module _ (site : SiteData) (setup : Setup) (beacon_to : Option Peer) where
         let many : length turns ≡ n + 1 = length_snoc t.turns (Some gave.0) ∙ ap (λ (k : ℕ). k + 1) t.many in record {
           turns = turns;
           stopped = (accepted_more door now next t.turns (Some gave.0) t.accepted gave.1, omega arith);
-          begun = (
-            record { rest = gave.0 ∷ []; whole = links_snoc t.turns (Some gave.0) ∙ ap (λ (w : List Wire). w ++ gave.0 ∷ []) (sym t.links_are) },
-            subst (λ (k : ℕ). WentInPart site setup beacon_to heard then_ k) (sym many) (part_before site setup beacon_to t.went),
-          );
+          begun = inr (inl (record { before = t.turns; last = gave.0; turns_are = refl; begun = all_begun t }));
         }
 
     -- whatever the last accept ended with
@@ -173,8 +166,11 @@ module _ (site : SiteData) (setup : Setup) (beacon_to : Option Peer) where
         let links_are : more ≡ links_in turns = more_is ∙ ap (λ (w : List Wire). w ++ links_in (turn ∷ [])) t.links_are ∙ sym (links_snoc t.turns turn) in record {
           turns = turns;
           stopped = (accepted_more door now next t.turns turn t.accepted is, omega arith);
-          begun = (
-            record { rest = []; whole = sym links_are ∙ sym (append-nil more) },
-            subst (λ (k : ℕ). WentInPart site setup beacon_to heard then_ k) (sym many) (part_turn site setup beacon_to t.went turn_is went),
-          );
+          begun = inr (inr (record {
+            before = t.turns;
+            last = turn;
+            turns_are = refl;
+            links_are = links_are;
+            datagrams = subst (λ (k : ℕ). WentInPart site setup beacon_to heard then_ k) (sym t.many) (part_turn site setup beacon_to t.went turn_is went);
+          }));
         }

@@ -104,10 +104,11 @@ pub record WentWhole (site : SiteData) (setup : Setup) (beacon_to : Option Peer)
   pub are : AreTurns site setup beacon_to 0 each
   pub went : Went old new (joined each)
 
--- The first part of it.
+-- The traffic of so many turns, whole, and the first part of that of the next turn.
 pub record WentInPart (site : SiteData) (setup : Setup) (beacon_to : Option Peer) (old new : DatagramsView)
     (turns : ℕ) : Type 0 where
-  pub each : List (List Traffic)
-  pub many : length each ≡ turns
-  pub are : AreTurns site setup beacon_to 0 each
-  pub went : WentFirst old new (joined each)
+  pub mid : DatagramsView
+  pub whole : WentWhole site setup beacon_to old mid turns
+  pub next : List Traffic
+  pub is_turn : IsTurn site setup beacon_to (suc turns) next
+  pub first : WentFirst mid new next

@@ -1,6 +1,6 @@
 -- What serving many clients means.
-use Rattle.std.specs.Prelude.{◌≡◌, ◌⊎◌, ⊤, ℕ, Bool, true, false, List, [], ◌∷◌, ◌++◌, length, Option}
-use Rattle.histories.specs.History.{Begins, Every, IsPrefixOf, deeds_by}
+use Rattle.std.specs.Prelude.{◌≡◌, ◌⊎◌, ⊤, ℕ, Bool, true, false, List, [], ◌∷◌, ◌++◌, length, Option, Some}
+use Rattle.histories.specs.History.{Begins, Every, deeds_by}
 use Rattle.hall_core.specs.Meanings.{AreDistinct}
 use Rattle.hall_locks.specs.Hall.{numbers_of}
 use Rattle.journal_core.specs.Moments.{Moment}
@@ -24,14 +24,40 @@ use Rattle.srv_host.specs.declared.accepting.Stop.TheVariants as stops
 use Rattle.srv_host.specs.declared.hosted.Hosted.{Hosted}
 use Rattle.srv_host.specs.declared.hosted.Hosted.TheVariants as answers
 
--- The links that came in these turns were begun to be served, and each turn has all of its datagrams; or memory ran
--- out, and the first of both.
+-- The links that came in these turns were begun to be served, and each turn has all of its datagrams.
+pub record AreAllBegun (site : SiteData) (setup : Setup) (beacon_to : Option Peer) (heard then_ : DatagramsView)
+    (turns : List (Option Wire)) (links : List Wire) : Type 0 where
+  pub links_are : links ≡ links_in turns
+  pub datagrams : WentWhole site setup beacon_to heard then_ (length turns)
+
+-- So in all turns but the last, in which a link came that wasn't begun to be served. Then nothing was received or sent.
+pub record LeftALink (site : SiteData) (setup : Setup) (beacon_to : Option Peer) (heard then_ : DatagramsView)
+    (turns : List (Option Wire)) (links : List Wire) : Type 0 where
+  pub before : List (Option Wire)
+  pub last : Wire
+  pub turns_are : turns ≡ before ++ Some last ∷ []
+  pub begun : AreAllBegun site setup beacon_to heard then_ before links
+
+-- The links that came in these turns were begun to be served. Each turn but the last has all of its datagrams, and the
+-- last the first part of them.
+pub record BrokeOff (site : SiteData) (setup : Setup) (beacon_to : Option Peer) (heard then_ : DatagramsView)
+    (turns : List (Option Wire)) (links : List Wire) : Type 0 where
+  pub before : List (Option Wire)
+  pub last : Option Wire
+  pub turns_are : turns ≡ before ++ last ∷ []
+  pub links_are : links ≡ links_in turns
+  pub datagrams : WentInPart site setup beacon_to heard then_ (length before)
+
+-- What was begun, by why no further link was accepted: all of it. Where the host found no memory, it did so before a
+-- turn or in its accept; or it left the link of the last turn; or it broke off among the datagrams of the last turn.
+-- Behind that nothing was accepted, received or sent.
 abbrev pub AreBegun : SiteData → Setup → Option Peer → DatagramsView → DatagramsView → List (Option Wire) → List Wire
     → Stop → Type 0
 AreBegun site setup beacon_to heard then_ turns links stops.NoMemory =
-    IsPrefixOf links (links_in turns) × WentInPart site setup beacon_to heard then_ (length turns)
+    AreAllBegun site setup beacon_to heard then_ turns links
+    ⊎ (LeftALink site setup beacon_to heard then_ turns links ⊎ BrokeOff site setup beacon_to heard then_ turns links)
 AreBegun site setup beacon_to heard then_ turns links stop =
-    (links ≡ links_in turns) × WentWhole site setup beacon_to heard then_ (length turns)
+    AreAllBegun site setup beacon_to heard then_ turns links
 
 -- How accepting went, and why it ended: these links are served.
 pub record HasAccepted (site : SiteData) (setup : Setup) (beacon_to : Option Peer) (most : ℕ) (before after : Door)
@@ -69,13 +95,12 @@ pub record IsWhole (site : SiteData) (setup : Setup) (beacon_to : Option Peer) (
   pub back : after ≡ with_back mid (written_of sessions)
   pub datagrams : WentWhole site setup beacon_to heard then_ (length turns)
 
--- Memory ran out somewhere: the links that were served are the first that came, and of those that were served the first
--- were taken back.
+-- Memory ran out somewhere. Where it did for the host, nothing was begun behind that; where it did for a session alone,
+-- or for a link that was handed back, all was begun. Of the links that were served the first were taken back.
 pub record IsInPart (site : SiteData) (setup : Setup) (beacon_to : Option Peer) (mid after : Door)
-    (heard then_ : DatagramsView) (turns : List (Option Wire)) (sessions : List Session) : Type 0 where
-  pub links : IsPrefixOf (starts_of sessions) (links_in turns)
+    (heard then_ : DatagramsView) (turns : List (Option Wire)) (sessions : List Session) (stop : Stop) : Type 0 where
+  pub begun : AreBegun site setup beacon_to heard then_ turns (starts_of sessions) stop
   pub back : AreBack mid after (written_of sessions)
-  pub datagrams : WentInPart site setup beacon_to heard then_ (length turns)
 
 -- the answer of a host that accepted no further link for this reason. `fine` tells that there was memory throughout
 abbrev pub answer_of : Stop → Bool → ℕ → Hosted
@@ -92,13 +117,13 @@ StoppedSo (answers.AcceptFault served) stop = stop ≡ stops.Fault
 StoppedSo (answers.NoMemory served) stop = ⊤
 
 abbrev pub IsDone : Hosted → SiteData → Setup → Option Peer → Door → Door → DatagramsView → DatagramsView
-    → List (Option Wire) → List Session → Type 0
-IsDone (answers.Finished served) site setup beacon_to mid after heard then_ turns sessions =
+    → List (Option Wire) → List Session → Stop → Type 0
+IsDone (answers.Finished served) site setup beacon_to mid after heard then_ turns sessions stop =
     IsWhole site setup beacon_to mid after heard then_ turns sessions
-IsDone (answers.AcceptFault served) site setup beacon_to mid after heard then_ turns sessions =
+IsDone (answers.AcceptFault served) site setup beacon_to mid after heard then_ turns sessions stop =
     IsWhole site setup beacon_to mid after heard then_ turns sessions
-IsDone (answers.NoMemory served) site setup beacon_to mid after heard then_ turns sessions =
-    IsInPart site setup beacon_to mid after heard then_ turns sessions
+IsDone (answers.NoMemory served) site setup beacon_to mid after heard then_ turns sessions stop =
+    IsInPart site setup beacon_to mid after heard then_ turns sessions stop
 
 -- how many links were served, by the answer
 abbrev pub served_of : Hosted → ℕ
@@ -119,4 +144,4 @@ pub record Hosts (site : SiteData) (setup : Setup) (beacon_to : Option Peer) (to
   pub hosted : AreHosted old new told setup.order sessions
   pub served : served_of result ≡ length sessions
   pub stop_is : StoppedSo result stop
-  pub done : IsDone result site setup beacon_to mid after heard then_ turns sessions
+  pub done : IsDone result site setup beacon_to mid after heard then_ turns sessions stop

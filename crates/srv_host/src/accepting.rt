@@ -19,7 +19,7 @@ use std::thread::{Scope, Threads};
 
 /// Why no further link is accepted.
 #[derive(Clone, Copy, Debug, PartialEq, Eq)]
-pub(crate) enum Stop {
+pub enum Stop {
     /// No client will come any more.
     End,
     /// As many accepts were made as may be.

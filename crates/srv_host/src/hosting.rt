@@ -159,6 +159,9 @@ fn host_giving_listener<
 /// It accepts no further link at the listener's end, after `turns` accepts, where the listener fails, or where memory runs out for what
 /// the host itself does. Then it waits until all sessions have ended, hands their links back to the listener, in the order of their
 /// accepts, and takes in their passes. A session that finds no memory ends alone. It may wait.
+///
+/// Its memory grows with the clients that came: each keeps its link's record and its pass, and its ended thread's room, until the host
+/// ends.
 pub fn host<
     R: Threads + Wait + Sync,
     A: Listener,

@@ -12,6 +12,7 @@ mod running;
 mod session;
 mod settling;
 
+pub use accepting::Stop;
 pub use hosted::Hosted;
 pub use hosting::host;
 pub use laws::steady_links_are_heard_out;
