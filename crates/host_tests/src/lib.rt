@@ -3,3 +3,5 @@
 
 #[cfg(test)]
 mod hosted;
+#[cfg(test)]
+mod waiting;
