@@ -15,7 +15,7 @@ use Rattle.pvaserve.specs.Completeness.{Completes, IsDoneSmoothly, IsServedSmoot
 use Rattle.prog_source.specs.declared.loading.SourceStop.{SourceStop}
 use Rattle.prog_source.specs.declared.loading.SourceStop.TheVariants as stops
 use Rattle.pvaserve.specs.declared.words.Task.{Task}
-use Rattle.pvaserve.specs.declared.words.Task.TheVariants.{Inetd, Check, Drill}
+use Rattle.pvaserve.specs.declared.words.Task.TheVariants.{Inetd, Check, Listen, Drill}
 
 by_end : (ended : Ended) (status : ℕ) → status ≡ status_of ended → (ended ≡ ends.Closed) ⊎ (ended ≡ ends.NoMemory) → (status ≡ 0) ⊎ (status ≡ 7)
 by_end ended status same (inl closed) = inl (same ∙ ap status_of closed)
@@ -38,6 +38,7 @@ task_done : (task : Task) (asked : Asked) (source : Source) (found : Result Site
     → Opens asked.macros source old.files new.files found
     → (does : Does task asked found told old new status) → IsDoneSmoothly task asked found told old new status does → (status ≡ 0) ⊎ (status ≡ 7)
 task_done Check asked source found told old new status text files ports opens does smooth = absurd smooth
+task_done (Listen at) asked source found told old new status text files ports opens does smooth = absurd smooth
 task_done (Drill n) asked source found told old new status text files ports opens does smooth = absurd smooth
 task_done Inetd asked source (Ok site) told old new status text files ports opens does smooth = site_done asked site told old new status ports does.0 smooth
 task_done Inetd asked source (Err stops.Unread) told old new status text files ports opens does smooth = absurd (no_fault_read asked.macros source old.files new.files files opens)

@@ -8,3 +8,4 @@ mod Uncounted
 mod Drawing
 mod Totalling
 mod Summing
+mod Served

@@ -4,7 +4,8 @@ use Rattle.std.proofs.lemmas.Bool.{false≢true}
 use Rattle.pva_outside.specs.Count.{Rose}
 use Rattle.desk_api.specs.declared.history.SiteData.{SiteData}
 use Rattle.prog_source.specs.Opening.{Opens}
-use Rattle.pvaserve.specs.Running.{Checking, Does, Drilling, Outside, Runs, Serving, Tells, status_by}
+use Rattle.pva_outside.specs.declared.peer.Peer.{Peer}
+use Rattle.pvaserve.specs.Running.{Checking, Does, Drilling, IsLeft, Outside, Runs, Serving, Tells, status_by}
 use Rattle.prog_source.specs.Printing.{IsPrinted}
 use Rattle.clap.specs.Words.{Text}
 use Rattle.pvaserve.specs.Words.{Asked, AreTaken, IsSourceOr, given, needs_source, word_rows}
@@ -15,7 +16,7 @@ use Rattle.prog_source.specs.declared.printing.Printed.{Printed}
 use Rattle.prog_source.specs.declared.printing.Printed.TheVariants as printing
 use Rattle.prog_source.proofs.Sources.{may_have_name}
 use Rattle.pvaserve.specs.declared.words.Task.{Task}
-use Rattle.pvaserve.specs.declared.words.Task.TheVariants.{Inetd, Check, Drill}
+use Rattle.pvaserve.specs.declared.words.Task.TheVariants.{Inetd, Check, Listen, Drill}
 
 -- a line that was told with status 6 met a fault of the sink
 printed_rose : (line : List ℕ) (whole : ℕ) (old new : Option (List ℕ)) (faults faults' : ℕ) (printed : Printed) → (whole ≡ 6 → ⊥) → IsPrinted old new faults faults' line printed → status_by whole printed ≡ 6 → Rose faults faults'
@@ -87,7 +88,7 @@ drilling_rose n old new faults faults' status (inr silent) six = absurd (omega (
 
 -- a source is there where it is needed
 
-sourceless : (words : List Text) (asked : Asked) (task : Task) → AreTaken words asked → asked.source ≡ None → asked.task ≡ task → needs_source task ≡ true → ⊥
+pub sourceless : (words : List Text) (asked : Asked) (task : Task) → AreTaken words asked → asked.source ≡ None → asked.task ≡ task → needs_source task ≡ true → ⊥
 sourceless words asked task taken none same needed =
     false≢true (sym (ap is_some none) ∙ taken.asks.source_is.there (ap needs_source same ∙ needed))
 
@@ -98,3 +99,7 @@ no_source_to_check words asked told old new status taken none task = absurd (sou
 pub no_source_to_serve : (words : List Text) (asked : Asked) (told : Option (ℤ × ℕ)) (old new : Outside) (status : ℕ) → AreTaken words asked → asked.source ≡ None → asked.task ≡ Inetd
     → Runs words told old new status
 no_source_to_serve words asked told old new status taken none task = absurd (sourceless words asked Inetd taken none task refl)
+
+-- a server of many clients is left to be run
+pub is_left : (words : List Text) (asked : Asked) (at : Peer) (old : Outside) → asked.task ≡ Listen at → AreTaken words asked → IsLeft words old old
+is_left words asked at old task taken = record { asks = record { asked = asked; taken = taken; at = at; task_is = task }; untouched = refl }

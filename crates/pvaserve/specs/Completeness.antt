@@ -13,7 +13,7 @@ use Rattle.pvaserve.specs.Words.{Asked}
 use Rattle.prog_source.specs.declared.loading.SourceStop.{SourceStop}
 use Rattle.prog_source.specs.declared.loading.SourceStop.TheVariants.{Fault}
 use Rattle.pvaserve.specs.declared.words.Task.{Task}
-use Rattle.pvaserve.specs.declared.words.Task.TheVariants.{Inetd, Check, Drill}
+use Rattle.pvaserve.specs.declared.words.Task.TheVariants.{Inetd, Check, Listen, Drill}
 
 -- Where the link was served, the connection was smooth: the link's faults didn't rise, all that was read is whole messages that have
 -- answers, and the turns were enough.
@@ -28,6 +28,7 @@ IsServedSmoothly asked site told ports ports' start end status (inr unserved) = 
 abbrev pub IsDoneSmoothly : (task : Task) (asked : Asked) (found : Result SiteData SourceStop) (told : Option (ℤ × ℕ))
     (old new : Outside) (status : ℕ) → Does task asked found told old new status → Type 0
 IsDoneSmoothly Check asked found told old new status does = ⊥
+IsDoneSmoothly (Listen at) asked found told old new status does = ⊥
 IsDoneSmoothly (Drill n) asked found told old new status does = ⊥
 IsDoneSmoothly Inetd asked (Ok site) told old new status does =
     IsServedSmoothly asked site told old.ports new.ports old.wire new.wire status does.0

@@ -4,3 +4,4 @@ pub mod Drilling
 pub mod Drives
 pub mod Running
 pub mod Completeness
+pub mod Serving

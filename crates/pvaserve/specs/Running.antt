@@ -1,8 +1,9 @@
 -- What a run of the program does.
-use Rattle.std.specs.Prelude.{◌≡◌, ◌⊎◌, ℕ, ℤ, List, length, Option, Some, Result, Ok, Err}
+use Rattle.std.specs.Prelude.{◌≡◌, ◌⊎◌, ℕ, ℤ, List, length, Option, None, Some, Result, Ok, Err}
 use Rattle.pva_outside.specs.Files.{FilesView}
 use Rattle.pva_outside.specs.Makers.{MakerView}
 use Rattle.pva_outside.specs.Wire.{Wire}
+use Rattle.pva_outside.specs.declared.peer.Peer.{Peer}
 use Rattle.pva_wire.specs.declared.order.Order.{Order}
 use Rattle.histories.specs.History.{tagged}
 use Rattle.desk_api.specs.Calls.{first_seat}
@@ -28,7 +29,7 @@ use Rattle.prog_source.specs.declared.ports.PortsStop.TheVariants as unmade
 use Rattle.prog_source.specs.declared.printing.Printed.{Printed}
 use Rattle.prog_source.specs.declared.printing.Printed.TheVariants as printing
 use Rattle.pvaserve.specs.declared.words.Task.{Task}
-use Rattle.pvaserve.specs.declared.words.Task.TheVariants.{Inetd, Check, Drill}
+use Rattle.pvaserve.specs.declared.words.Task.TheVariants.{Inetd, Check, Listen, Drill}
 
 -- what stands outside of the program: its link, its files, what makes its ports, what was printed (None: not told), and
 -- how often printing failed
@@ -137,7 +138,8 @@ Checking (Err Unread) old new faults faults' status = IsSilent old new faults fa
 Checking (Err (Fault fault)) old new faults faults' status = Tells (fault_line fault) 4 old new faults faults' status
 Checking (Err NoMemory) old new faults faults' status = IsSilent old new faults faults' status 7
 
--- `--check` uses neither ports nor the link, and `--inetd` prints nothing. The drill has no source.
+-- `--check` uses neither ports nor the link, and `--inetd` prints nothing. The drill has no source, and a server of many
+-- clients isn't run alone.
 abbrev pub Does : Task → Asked → Result SiteData SourceStop → Option (ℤ × ℕ) → Outside → Outside → ℕ → Type 0
 Does Check asked found told old new status =
     Checking found old.printed new.printed old.print_faults new.print_faults status
@@ -145,6 +147,7 @@ Does Check asked found told old new status =
 Does Inetd asked found told old new status =
     Serving asked found told old.ports new.ports old.wire new.wire status
     × IsSilent old.printed new.printed old.print_faults new.print_faults status status
+Does (Listen at) asked found told old new status = ⊥
 Does (Drill n) asked found told old new status = ⊥
 
 -- What the drill of this number prints: the five lines of a run of it. Memory may run out, and then nothing is printed.
@@ -184,8 +187,25 @@ pub record IsUnread (old new : Outside) (status : ℕ) : Type 0 where
   pub status_is : status ≡ 7
   pub untouched : new ≡ old
 
--- one run of the program with these words, at the moment that the clock tells
+-- one run of the program with these words, which ask for no server of many clients, at the moment that the clock tells
 abbrev pub Runs : List Text → Option (ℤ × ℕ) → Outside → Outside → ℕ → Type 0
 Runs words told old new status =
     IsDone words told old new status
     ⊎ (IsDrilled words old new status ⊎ (IsRefused words old new status ⊎ IsUnread old new status))
+
+-- The words ask for a server of many clients.
+pub record AskToListen (words : List Text) : Type 0 where
+  pub asked : Asked
+  pub taken : AreTaken words asked
+  pub at : Peer
+  pub task_is : asked.task ≡ Listen at
+
+-- They do, and nothing was done.
+pub record IsLeft (words : List Text) (old new : Outside) : Type 0 where
+  pub asks : AskToListen words
+  pub untouched : new ≡ old
+
+-- A run that serves one client at most: its status, or None where the words ask for a server of many.
+abbrev pub RunsAlone : List Text → Option (ℤ × ℕ) → Outside → Outside → Option ℕ → Type 0
+RunsAlone words told old new (Some status) = Runs words told old new status
+RunsAlone words told old new None = IsLeft words old new

@@ -6,15 +6,18 @@ use Rattle.clap.specs.Words.{App, Kinds, Row, Rule, Text, fault_of, first_of, ma
 use Rattle.clap.specs.declared.builder.action.ArgAction.TheVariants.{SetTrue}
 use Rattle.db_text.specs.Macros.{Macros}
 use Rattle.prog_source.specs.Words.{AreMacrosOr, IsCount, IsCountOr, IsSource, Source, source_of}
+use Rattle.pva_outside.specs.declared.peer.Peer.{Peer}
+use Rattle.prog_network.specs.Addresses.{IsAddress}
+use Rattle.prog_network.specs.Guids.{IsGuid}
 use Rattle.pva_wire.specs.declared.order.Order.{Order}
 use Rattle.pva_wire.specs.declared.order.Order.TheVariants.{Little, Big}
 use Rattle.pvaserve.specs.declared.words.Asked.{Asked as AskedRead}
 use Rattle.pvaserve.specs.declared.words.Task.{Task}
-use Rattle.pvaserve.specs.declared.words.Task.TheVariants.{Inetd, Check, Drill}
+use Rattle.pvaserve.specs.declared.words.Task.TheVariants.{Inetd, Check, Listen, Drill}
 use Rattle.pvaserve.specs.declared.words.WordsStop.{WordsStop}
 use Rattle.pvaserve.specs.declared.words.WordsStop.TheVariants.{Refused, NoMemory}
 
--- The command, as `clap` takes it: three flags, four options, and one argument.
+-- The command, as `clap` takes it: three flags, eight options, and one argument.
 
 abbrev pub option_rule : Text → Rule
 option_rule name = record (new_rule name) { long = Some name }
@@ -33,12 +36,16 @@ abbrev pub server_app : App
 server_app =
     let a = with_rule bare_app (flag_rule (codes "inetd")) in
     let b = with_rule a (flag_rule (codes "check")) in
-    let c = with_rule b (option_rule (codes "drill")) in
-    let d = with_rule c (option_rule (codes "macros")) in
-    let e = with_rule d (flag_rule (codes "big")) in
-    let f = with_rule e (option_rule (codes "journal")) in
-    let g = with_rule f (option_rule (codes "turns")) in
-    with_rule g (new_rule (codes "source"))
+    let c = with_rule b (option_rule (codes "listen")) in
+    let d = with_rule c (option_rule (codes "drill")) in
+    let e = with_rule d (option_rule (codes "macros")) in
+    let f = with_rule e (flag_rule (codes "big")) in
+    let g = with_rule f (option_rule (codes "journal")) in
+    let h = with_rule g (option_rule (codes "turns")) in
+    let i = with_rule h (option_rule (codes "udp")) in
+    let j = with_rule i (option_rule (codes "beacon")) in
+    let k = with_rule j (option_rule (codes "guid")) in
+    with_rule k (new_rule (codes "source"))
 
 -- what the command finds wrong with the words
 unfoldable pub word_faults : List Text → Kinds
@@ -70,22 +77,48 @@ task_by _ _ = None
 abbrev pub IsDrill : List ℕ → Task → Type 0
 IsDrill text Inetd = ⊥
 IsDrill text Check = ⊥
+IsDrill text (Listen at) = ⊥
 IsDrill text (Drill n) = IsCount text 0 (2 ^ 64 - 1) n
 
--- the one task that the flags and the option for the drill name
-abbrev pub IsTask : Option Text → Bool → Bool → Task → Type 0
-IsTask None inetd check task = task_by inetd check ≡ Some task
-IsTask (Some text) inetd check task = ((inetd || check) ≡ false) × IsDrill text task
+-- the server of many clients at the address that the option for it says
+abbrev pub IsListen : List ℕ → Task → Type 0
+IsListen text Inetd = ⊥
+IsListen text Check = ⊥
+IsListen text (Listen at) = IsAddress text at
+IsListen text (Drill n) = ⊥
+
+-- The one task that is named: by the option for the drill, by that for a server of many clients, or by one of two flags.
+abbrev pub IsTask : Option Text → Option Text → Bool → Bool → Task → Type 0
+IsTask None None inetd check task = task_by inetd check ≡ Some task
+IsTask (Some number) None inetd check task = ((inetd || check) ≡ false) × IsDrill number task
+IsTask None (Some address) inetd check task = ((inetd || check) ≡ false) × IsListen address task
+IsTask (Some number) (Some address) inetd check task = ⊥
 
 abbrev pub IsTaskIn : List Row → Task → Type 0
 IsTaskIn rows task =
-    IsTask (given rows (codes "drill")) (is_set rows (codes "inetd")) (is_set rows (codes "check")) task
+    IsTask (given rows (codes "drill")) (given rows (codes "listen")) (is_set rows (codes "inetd"))
+    (is_set rows (codes "check")) task
 
 -- all tasks but the drill need a source
 abbrev pub needs_source : Task → Bool
 needs_source Inetd = true
 needs_source Check = true
+needs_source (Listen at) = true
 needs_source (Drill n) = false
+
+-- how many calls of the link one connection may take at the most, or how many accepts a server of many
+abbrev pub most_turns : Task → ℕ
+most_turns Inetd = 2 ^ 62
+most_turns Check = 2 ^ 62
+most_turns (Listen at) = 2 ^ 31 - 1
+most_turns (Drill n) = 2 ^ 62
+
+-- what an option says that may be left out
+abbrev pub IsIfGiven : {A : Type 0} → (Text → A → Type 0) → Option Text → Option A → Type 0
+IsIfGiven Says None None = ⊤
+IsIfGiven Says None (Some value) = ⊥
+IsIfGiven Says (Some text) None = ⊥
+IsIfGiven Says (Some text) (Some value) = Says text value
 
 -- what the words ask for
 pub record Asked : Type 0 where
@@ -95,6 +128,9 @@ pub record Asked : Type 0 where
   pub order : Order
   pub journal : ℕ
   pub turns : ℕ
+  pub udp : ℕ
+  pub beacon : Option Peer
+  pub guid : Option (List ℕ)
 
 -- the macros of those asked, as they are seen
 abbrev pub asked_of : AskedRead → Asked
@@ -105,6 +141,9 @@ asked_of a = record {
   order = a.order;
   journal = a.journal;
   turns = a.turns;
+  udp = a.udp;
+  beacon = a.beacon;
+  guid = a.guid;
 }
 
 -- the source that the argument names, if it is given
@@ -132,7 +171,10 @@ pub record Asks (rows : List Row) (asked : Asked) : Type 0 where
   pub macros_are : AreMacrosIn rows asked.macros
   pub order_is : asked.order ≡ order_by (is_set rows (codes "big"))
   pub journal_is : IsCountOr (given rows (codes "journal")) 0 (2 ^ 64 - 1) 268_435_456 asked.journal
-  pub turns_is : IsCountOr (given rows (codes "turns")) 1 (2 ^ 62) (2 ^ 62) asked.turns
+  pub turns_is : IsCountOr (given rows (codes "turns")) 1 (most_turns asked.task) (most_turns asked.task) asked.turns
+  pub udp_is : IsCountOr (given rows (codes "udp")) 0 65535 5076 asked.udp
+  pub beacon_is : IsIfGiven IsAddress (given rows (codes "beacon")) asked.beacon
+  pub guid_is : IsIfGiven IsGuid (given rows (codes "guid")) asked.guid
 
 -- The command takes the words, and they ask for this.
 pub record AreTaken (words : List Text) (asked : Asked) : Type 0 where

@@ -1,8 +1,8 @@
 // The program, over the world that it is given.
-ghost use Rattle.std.specs.Prelude.{◌≡◌, ◌⊎◌, length, map};
+ghost use Rattle.std.specs.Prelude.{◌≡◌, ◌⊎◌, IfSome, length, map};
 ghost use Rattle.pva_outside.specs.Count.{Rose};
 ghost use Rattle.desk_core.specs.Ports.{ports_there, ports_wanted};
-ghost use Rattle.pvaserve.specs.Running.{Checking, Runs, Serves, Serving, SiteServes, Tells};
+ghost use Rattle.pvaserve.specs.Running.{Checking, RunsAlone, Serves, Serving, SiteServes, Tells};
 ghost use Rattle.pvaserve.specs.Completeness.{Completes};
 ghost use Rattle.pvaserve.specs.Running as running;
 ghost use Rattle.pvaserve.specs.Telling.{counts_line, fault_line};
@@ -178,49 +178,52 @@ fn status_of_stop(stop: &SourceStop) -> u8
     }
 }
 
-/// Runs the program with these words, without its own name among them, and answers its exit status.
+/// Runs what the words ask for, where that isn't a server of many clients, and answers the exit status; the words come without the program's
+/// own name. None where they ask for such a server: then nothing was done.
 ///
 /// `--inetd SOURCE` serves one connection over the world's link, from a desk of the records of SOURCE with their ports, and
 /// prints nothing. `--check SOURCE` prints what SOURCE has, or where it is wrong, and makes no port. SOURCE is `NAME=VALUE`,
 /// one longout, or the name of a file with a database text. `--drill N` runs a session of ten thousand puts in memory, which
 /// depends on N alone, and prints what it comes to in five lines. The first fault is told by the status alone: of the words, of
 /// SOURCE's file, of its text, of the ports in the order of the records, of the serving.
-#[tactic(auto, using(crate::proofs::Outcomes::named_by, crate::proofs::Outcomes::runs_check, crate::proofs::Outcomes::runs_inetd, crate::proofs::Outcomes::checking_rose, crate::proofs::Outcomes::runs_drill, crate::proofs::Outcomes::no_source_to_check, crate::proofs::Outcomes::no_source_to_serve, crate::proofs::Outcomes::drilling_rose))]
-pub fn run<W: Kinds>(alloc: Global, words: &[&str], world: &mut World<W>) -> u8
-    ensures runs { Runs (map (λ w. w.now) words.now) (W.Clock.moment world.old.clock)
+#[tactic(auto, using(crate::proofs::Outcomes::named_by, crate::proofs::Outcomes::runs_check, crate::proofs::Outcomes::runs_inetd, crate::proofs::Outcomes::checking_rose, crate::proofs::Outcomes::runs_drill, crate::proofs::Outcomes::no_source_to_check, crate::proofs::Outcomes::no_source_to_serve, crate::proofs::Outcomes::drilling_rose, crate::proofs::Outcomes::is_left))]
+pub fn run_alone<W: Kinds>(alloc: Global, words: &[&str], world: &mut World<W>) -> Option<u8>
+    ensures runs { RunsAlone (map (λ w. w.now) words.now) (W.Clock.moment world.old.clock)
         (record { wire = W.Link.wire world.old.link; files = W.Files.files world.old.files; ports = W.Ports.maker world.old.ports; printed = W.Sink.written world.old.sink; print_faults = W.Sink.faults world.old.sink })
         (record { wire = W.Link.wire world.new.link; files = W.Files.files world.new.files; ports = W.Ports.maker world.new.ports; printed = W.Sink.written world.new.sink; print_faults = W.Sink.faults world.new.sink })
         result }
-    ensures fault { result ≡ 6 → FirstFault W.Link.wire world.old.link world.new.link ⊎ Rose (W.Sink.faults world.old.sink) (W.Sink.faults world.new.sink) }
+    ensures fault { IfSome result (λ status. status ≡ 6 → FirstFault W.Link.wire world.old.link world.new.link ⊎ Rose (W.Sink.faults world.old.sink) (W.Sink.faults world.new.sink)) }
+    ensures clock { W.Clock.moment world.new.clock ≡ W.Clock.moment world.old.clock }
 {
     let asked = match read_words(alloc, words) {
         Ok(asked) => asked,
-        Err(WordsStop::Refused) => return Status::Words as u8,
-        Err(WordsStop::NoMemory) => return Status::NoMemory as u8,
+        Err(WordsStop::Refused) => return Some(Status::Words as u8),
+        Err(WordsStop::NoMemory) => return Some(Status::NoMemory as u8),
     };
     match asked.task {
-        Task::Drill(number) => drill(alloc, number, &world.clock, &mut world.sink),
+        Task::Drill(number) => Some(drill(alloc, number, &world.clock, &mut world.sink)),
         Task::Check => {
             let Some(source) = asked.source else {
-                return Status::Words as u8;
+                return Some(Status::Words as u8);
             };
             let found = read_site(alloc, source, &asked.macros, &mut world.files);
-            check(alloc, &found, &mut world.sink)
+            Some(check(alloc, &found, &mut world.sink))
         }
         Task::Inetd => {
             let Some(source) = asked.source else {
-                return Status::Words as u8;
+                return Some(Status::Words as u8);
             };
             let found = read_site(alloc, source, &asked.macros, &mut world.files);
-            serve(
+            Some(serve(
                 alloc,
                 &asked,
                 found,
                 &mut world.ports,
                 &mut world.link,
                 &world.clock,
-            )
+            ))
         }
+        Task::Listen(_) => None,
     }
 }
 

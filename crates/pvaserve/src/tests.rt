@@ -1,4 +1,4 @@
-use crate::program::run;
+use crate::program::run_alone;
 use pva_outside::{
     FixedClock, Kinds, MemoryFile, MemoryFiles, MemoryLink, MemoryPorts, MemorySink, PlainLink,
     Turn, World,
@@ -153,7 +153,7 @@ fn scripted_world(alloc: Global, input: Vec<u8>, script: Vec<Turn>) -> World<Scr
 /// What a run came to: its status, what was printed and what was written to the link, and how many ports were asked for.
 #[derive(Drop)]
 struct Outcome {
-    status: u8,
+    status: Option<u8>,
     printed: Vec<u8>,
     written: Vec<u8>,
     ports: usize,
@@ -177,7 +177,7 @@ fn outcome_of(
         Vec::from_slice(alloc, drives)?,
         Vec::from_slice(alloc, prints)?,
     );
-    let status = run(alloc, words, &mut world);
+    let status = run_alone(alloc, words, &mut world);
     Ok(Outcome {
         status,
         printed: Vec::from_slice(alloc, world.sink.written())?,
@@ -190,7 +190,7 @@ fn outcome_of(
 fn a_first_client_gets_the_value_of_the_record(rt: HostRuntime) -> Result<(), Fail> {
     let alloc = rt.alloc();
     let mut world = ready_world(alloc, joined(alloc, &FIRST_CLIENT)?);
-    assert_eq!(rt; run(alloc, &["--inetd", "X=42"], &mut world), 0);
+    assert_eq!(rt; run_alone(alloc, &["--inetd", "X=42"], &mut world), Some(0));
     assert_eq!(rt;
         world.link.written(),
         joined(alloc, &FIRST_SERVER)?.as_slice()
@@ -208,7 +208,7 @@ fn a_put_is_done_and_the_get_after_it_shows_it(rt: HostRuntime) -> Result<(), Fa
     )?;
     let output = [FIRST_SERVER.as_slice(), &PUTTING_SERVER, &[SEVEN]].concat(alloc)?;
     let mut world = ready_world(alloc, input);
-    assert_eq!(rt; run(alloc, &["--inetd", "X=42"], &mut world), 0);
+    assert_eq!(rt; run_alone(alloc, &["--inetd", "X=42"], &mut world), Some(0));
     assert_eq!(rt; world.link.written(), joined(alloc, &output)?.as_slice());
     Ok(())
 }
@@ -226,7 +226,7 @@ fn one_put_is_one_entry_and_a_second_is_above_the_limit(rt: HostRuntime) -> Resu
     .concat(alloc)?;
     let mut world = ready_world(alloc, joined(alloc, &input)?);
     let words = ["--inetd", "X=42", "--journal", "200"];
-    assert_eq!(rt; run(alloc, &words, &mut world), 0);
+    assert_eq!(rt; run_alone(alloc, &words, &mut world), Some(0));
     assert_eq!(rt; world.link.written(), joined(alloc, &output)?.as_slice());
     Ok(())
 }
@@ -258,8 +258,8 @@ fn sources_that_are_served_and_others(rt: HostRuntime) -> Result<(), Fail> {
     ] {
         let mut world = ready_world(alloc, Vec::new(alloc));
         assert_eq!(rt;
-            run(alloc, &["--inetd", source], &mut world),
-            status,
+            run_alone(alloc, &["--inetd", source], &mut world),
+            Some(status),
             "{source}"
         );
         let written = if status == 0 { GREETING } else { &[] };
@@ -278,6 +278,20 @@ fn words_that_are_not_taken(rt: HostRuntime) {
         &["X=42"],
         &["--help"],
         &["--listen", "X=42"],
+        &["--listen", "127.0.0.1:5075"],
+        &["--listen", "127.0.0.1:65536", "X=42"],
+        &["--listen", "127.0.0.1:5075", "--inetd", "X=42"],
+        &["--listen", "127.0.0.1:5075", "--drill", "7", "X=42"],
+        &[
+            "--listen",
+            "127.0.0.1:5075",
+            "X=42",
+            "--turns",
+            "2147483648",
+        ],
+        &["--listen", "127.0.0.1:5075", "X=42", "--udp", "65536"],
+        &["--inetd", "X=42", "--beacon", "127.0.0.1"],
+        &["--inetd", "X=42", "--guid", "0123456789abcdef0123456"],
         &["--inetd=true", "X=42"],
         &["--inetd", "--check", "X=42"],
         &["--inetd", "X=42", "Y=42"],
@@ -302,7 +316,7 @@ fn words_that_are_not_taken(rt: HostRuntime) {
         &["--drill", "7", "--turns", "0"],
     ] {
         let mut world = ready_world(alloc, Vec::new(alloc));
-        assert_eq!(rt; run(alloc, words, &mut world), 2, "{words:?}");
+        assert_eq!(rt; run_alone(alloc, words, &mut world), Some(2), "{words:?}");
         assert!(rt; world.link.written().is_empty());
     }
 }
@@ -318,8 +332,8 @@ fn streams_that_end_inside_a_frame_or_have_a_fault(rt: HostRuntime) -> Result<()
     ] {
         let mut world = ready_world(alloc, Vec::from_slice(alloc, input)?);
         assert_eq!(rt;
-            run(alloc, &["--inetd", "X=42"], &mut world),
-            status,
+            run_alone(alloc, &["--inetd", "X=42"], &mut world),
+            Some(status),
             "{input:?}"
         );
         assert_eq!(rt; world.link.written(), GREETING, "{input:?}");
@@ -340,7 +354,7 @@ fn a_link_that_fails(rt: HostRuntime) -> Result<(), Fail> {
     ] {
         let script = Vec::from_slice(alloc, script)?;
         let mut world = scripted_world(alloc, joined(alloc, &FIRST_CLIENT)?, script);
-        assert_eq!(rt; run(alloc, &["--inetd", "X=42"], &mut world), 6);
+        assert_eq!(rt; run_alone(alloc, &["--inetd", "X=42"], &mut world), Some(6));
         assert_eq!(rt; world.link.written(), written);
     }
     Ok(())
@@ -357,7 +371,7 @@ fn pieces_of_one_byte_between_idle_calls_are_answered_the_same(
         script.push(Turn::Idle)?;
     }
     let mut world = scripted_world(alloc, joined(alloc, &FIRST_CLIENT)?, script);
-    assert_eq!(rt; run(alloc, &["--inetd", "X=42"], &mut world), 0);
+    assert_eq!(rt; run_alone(alloc, &["--inetd", "X=42"], &mut world), Some(0));
     assert_eq!(rt;
         world.link.written(),
         joined(alloc, &FIRST_SERVER)?.as_slice()
@@ -475,7 +489,7 @@ fn a_text_is_checked_and_no_port_is_made(rt: HostRuntime) -> Result<(), Fail> {
     for (text, status, printed) in CHECKED {
         let words = ["--check", "a.db", "--macros", "P=X.Y,P=BL:M1"];
         let outcome = outcome_of(alloc, &words, text, &[], &[1], &[], &[])?;
-        assert_eq!(rt; outcome.status, status);
+        assert_eq!(rt; outcome.status, Some(status));
         assert_eq!(rt; outcome.printed.as_slice(), printed);
         assert_eq!(rt; outcome.written.as_slice(), b"".as_slice());
         assert_eq!(rt; outcome.ports, 0);
@@ -487,7 +501,7 @@ fn a_text_is_checked_and_no_port_is_made(rt: HostRuntime) -> Result<(), Fail> {
 fn a_template_without_its_macro(rt: HostRuntime) -> Result<(), Fail> {
     let alloc = rt.alloc();
     let outcome = outcome_of(alloc, &["--check", "a.db"], TEMPLATE, &[], &[], &[], &[])?;
-    assert_eq!(rt; outcome.status, 4);
+    assert_eq!(rt; outcome.status, Some(4));
     assert_eq!(rt;
         outcome.printed.as_slice(),
         b"line 2: UnknownMacro\n".as_slice()
@@ -518,7 +532,7 @@ fn groups_of_two_hundred_fifty_six_members_and_of_more(rt: HostRuntime) -> Resul
         let text = text_of_members(alloc, count)?;
         let words = ["--check", "a.db"];
         let outcome = outcome_of(alloc, &words, text.as_bytes(), &[], &[], &[], &[])?;
-        assert_eq!(rt; outcome.status, status);
+        assert_eq!(rt; outcome.status, Some(status));
         assert_eq!(rt; outcome.printed.as_slice(), printed);
     }
     Ok(())
@@ -541,7 +555,7 @@ fn faults_are_found_in_the_order_of_words_files_text_ports_and_serving(
         (&["--check", "a.db"], ported, 6, 0),
     ] {
         let outcome = outcome_of(alloc, words, text, &[], &[2], &[], &[1])?;
-        assert_eq!(rt; outcome.status, status);
+        assert_eq!(rt; outcome.status, Some(status));
         assert_eq!(rt; outcome.ports, ports);
         let greeted = if status == 8 { GREETING } else { b"" };
         assert_eq!(rt; outcome.written.as_slice(), greeted);
@@ -559,7 +573,7 @@ fn a_site_of_four_thousand_records(rt: HostRuntime) -> Result<(), Fail> {
     }
     let words = ["--check", "a.db"];
     let outcome = outcome_of(alloc, &words, text.as_bytes(), &[], &[], &[], &[])?;
-    assert_eq!(rt; outcome.status, 0);
+    assert_eq!(rt; outcome.status, Some(0));
     assert_eq!(rt;
         outcome.printed.as_slice(),
         b"4000 records, 0 groups\n".as_slice()
@@ -612,7 +626,7 @@ fn puts_that_records_take_and_refuse(rt: HostRuntime) -> Result<(), Fail> {
     for (text, put, answer) in ANSWERED {
         let input = [validation, channel, BEGIN, put];
         let outcome = outcome_of(alloc, &["--inetd", "a.db"], text, &input, &[], &[], &[])?;
-        assert_eq!(rt; outcome.status, 0);
+        assert_eq!(rt; outcome.status, Some(0));
         assert!(rt; outcome.written.as_slice().ends_with(answer));
     }
     Ok(())
@@ -666,7 +680,7 @@ fn alarms_of_values_and_of_ports(rt: HostRuntime) -> Result<(), Fail> {
     for (text, first, second, shown) in SHOWN {
         let input = [validation, channel, begin_get, BEGIN, first, second, GET];
         let outcome = outcome_of(alloc, &["--inetd", "a.db"], text, &input, &[], &[1], &[])?;
-        assert_eq!(rt; outcome.status, 0);
+        assert_eq!(rt; outcome.status, Some(0));
         assert!(rt; outcome.written.as_slice().ends_with(shown));
     }
     Ok(())
@@ -684,7 +698,7 @@ fn each_drill_of_one_number_comes_to_the_same(rt: HostRuntime) -> Result<(), Fai
         &["--big", "X=42", "--journal", "0", "--drill", "7"],
     ] {
         let outcome = outcome_of(alloc, words, &[], &[], &[], &[], &[])?;
-        assert_eq!(rt; outcome.status, 0);
+        assert_eq!(rt; outcome.status, Some(0));
         assert_eq!(rt; outcome.printed.as_slice(), DRILLED);
         assert!(rt; outcome.written.is_empty());
         assert_eq!(rt; outcome.ports, 0);
@@ -696,7 +710,7 @@ fn each_drill_of_one_number_comes_to_the_same(rt: HostRuntime) -> Result<(), Fai
 fn a_drill_whose_print_fails(rt: HostRuntime) -> Result<(), Fail> {
     let alloc = rt.alloc();
     let outcome = outcome_of(alloc, &["--drill", "7"], &[], &[], &[], &[], &[1])?;
-    assert_eq!(rt; outcome.status, 6);
+    assert_eq!(rt; outcome.status, Some(6));
     assert!(rt; outcome.printed.is_empty());
     Ok(())
 }

@@ -1,7 +1,10 @@
 // The words of the command line.
-ghost use Rattle.std.specs.Prelude.{◌≡◌, ◌≢◌, ◌<◌, ◌^◌, ℕ, List, Option, false, IfOk, MatchOption, codes, is_some, map, option_map, ◌||◌};
+ghost use Rattle.std.specs.Prelude.{◌≡◌, ◌≢◌, ◌<◌, ◌^◌, ℕ, List, Option, None, false, IfOk, MatchOption, codes, is_some, map, option_map, ◌||◌};
 ghost use Rattle.clap.specs.Words.{FailsBy, app_of, found_of, is_broken, kind_of, rows_of, with_rule};
-ghost use Rattle.pvaserve.specs.Words.{AreRead, AreMacrosIn, IsDrill, IsSourceIn, IsSourceNeeded, IsTask, IsTaskIn, needs_source, RowsAreRead, bare_app, flag_rule, given, is_set, option_rule, order_by, server_app, task_by, word_faults, word_rows};
+ghost use Rattle.pvaserve.specs.Words.{AreRead, AreMacrosIn, IsDrill, IsIfGiven, IsListen, IsSourceIn, IsSourceNeeded, IsTask, IsTaskIn, most_turns, needs_source, RowsAreRead, bare_app, flag_rule, given, is_set, option_rule, order_by, server_app, task_by, word_faults, word_rows};
+ghost use Rattle.prog_network.specs.Addresses.{IsAddress};
+ghost use Rattle.prog_network.specs.Guids.{IsGuid};
+ghost use Rattle.pva_outside.specs.declared.peer.Peer.{Peer as PeerSaid};
 ghost use Rattle.prog_source.specs.Words.{IsCountOr, source_of};
 ghost use Rattle.db_text.specs.Macros.{Macros};
 ghost use Rattle.pvaserve.specs.Words as specs;
@@ -9,7 +12,9 @@ ghost use Rattle.prog_source.specs.Words as source;
 
 use clap::error::ErrorKind;
 use clap::{Arg, ArgAction, ArgMatches, Command, Error};
+use prog_network::{read_address, read_guid};
 use prog_source::{Source, count_within, read_macros, read_source};
+use pva_outside::Peer;
 use pva_wire::Order;
 use pvd_type::{Name, NoMemory};
 use std::alloc::{AllocError, Global};
@@ -20,6 +25,12 @@ pub(crate) const JOURNAL: u64 = 268_435_456;
 /// How many calls of the link one connection may take, at the most.
 const TURNS: u64 = 1 << 62;
 
+/// How many accepts a server of many clients may make, at the most.
+const ACCEPTS: u64 = 0x7FFF_FFFF;
+
+/// The port of searches, unless the words say otherwise (pvAccess Protocol Specification, "Channel Discovery").
+const SEARCHES: u64 = 5_076;
+
 /// What is to be done.
 #[derive(Clone, Copy, Debug, PartialEq, Eq)]
 pub enum Task {
@@ -27,6 +38,8 @@ pub enum Task {
     Inetd,
     /// Say what a source has, or where it is wrong.
     Check,
+    /// Serve many clients, who connect to this address.
+    Listen(Peer),
     /// Run the drill of this number.
     Drill(u64),
 }
@@ -40,7 +53,14 @@ pub struct Asked<'a> {
     pub macros: Vec<(Name, Name)>,
     pub order: Order,
     pub journal: u64,
+    /// How many calls of its link the one connection may take, or how many accepts a server of many clients may make.
     pub turns: u64,
+    /// The port that searches come to.
+    pub udp: u16,
+    /// Where beacons go, if any are to be sent.
+    pub beacon: Option<Peer>,
+    /// What tells the server from all others.
+    pub guid: Option<[u8; 12]>,
 }
 
 /// Why words ask for nothing.
@@ -100,11 +120,15 @@ fn server_command<'a>(alloc: Global) -> Result<Command<'a>, AllocError>
 {
     let command = with_flag(bare_command(alloc), alloc, "inetd")?;
     let command = with_flag(command, alloc, "check")?;
+    let command = with_option(command, alloc, "listen")?;
     let command = with_option(command, alloc, "drill")?;
     let command = with_option(command, alloc, "macros")?;
     let command = with_flag(command, alloc, "big")?;
     let command = with_option(command, alloc, "journal")?;
     let command = with_option(command, alloc, "turns")?;
+    let command = with_option(command, alloc, "udp")?;
+    let command = with_option(command, alloc, "beacon")?;
+    let command = with_option(command, alloc, "guid")?;
     command.arg(Arg::new(alloc, "source"))
 }
 
@@ -172,14 +196,45 @@ fn drill_by(text: &str) -> Option<Task>
     }
 }
 
-/// The task that the flags and the option for the drill name, where they name exactly one.
-#[tactic(auto, using(crate::proofs::Rows::named_task, crate::proofs::Rows::inetd_too, crate::proofs::Rows::check_too, crate::proofs::Rows::drill_alone))]
-fn task_of(drill: Option<&str>, inetd: bool, check: bool) -> Option<Task>
-    ensures { MatchOption result ((task : Task) → ¬ (IsTask (option_map (λ s. s.now) drill.entry) inetd check task)) (IsTask (option_map (λ s. s.now) drill.entry) inetd check) }
+/// The server of many clients at the address that a text says.
+#[tactic(auto, using(crate::proofs::Rows::no_listen))]
+fn listen_by(text: &str) -> Option<Task>
+    ensures { MatchOption result ((task : Task) → ¬ (IsListen text.now task)) (IsListen text.now) }
 {
-    let Some(text) = drill else {
+    match read_address(text) {
+        Some(at) => Some(Task::Listen(at)),
+        None => None,
+    }
+}
+
+/// The task that the flags and the option for a server of many clients name, where they name exactly one.
+#[tactic(auto, using(crate::proofs::Rows::named_task, crate::proofs::Rows::inetd_beside, crate::proofs::Rows::check_beside, crate::proofs::Rows::listen_alone))]
+fn undrilled_task(listen: Option<&str>, inetd: bool, check: bool) -> Option<Task>
+    ensures { MatchOption result ((task : Task) → ¬ (IsTask None (option_map (λ s. s.now) listen.entry) inetd check task)) (IsTask None (option_map (λ s. s.now) listen.entry) inetd check) }
+{
+    let Some(text) = listen else {
         return task_by(inetd, check);
     };
+    if inetd {
+        return None;
+    }
+    if check {
+        return None;
+    }
+    listen_by(text)
+}
+
+/// The task that the flags and the options for the drill and for a server of many clients name, where they name exactly one.
+#[tactic(auto, using(crate::proofs::Rows::both_options, crate::proofs::Rows::inetd_too, crate::proofs::Rows::check_too, crate::proofs::Rows::drill_alone))]
+fn task_of(drill: Option<&str>, listen: Option<&str>, inetd: bool, check: bool) -> Option<Task>
+    ensures { MatchOption result ((task : Task) → ¬ (IsTask (option_map (λ s. s.now) drill.entry) (option_map (λ s. s.now) listen.entry) inetd check task)) (IsTask (option_map (λ s. s.now) drill.entry) (option_map (λ s. s.now) listen.entry) inetd check) }
+{
+    let Some(text) = drill else {
+        return undrilled_task(listen, inetd, check);
+    };
+    if listen.is_some() {
+        return None;
+    }
     if inetd {
         return None;
     }
@@ -195,6 +250,7 @@ fn task_in(matches: &ArgMatches<'_>) -> Option<Task>
 {
     task_of(
         given(matches, "drill"),
+        given(matches, "listen"),
         is_set(matches, "inetd"),
         is_set(matches, "check"),
     )
@@ -207,7 +263,20 @@ fn needs_source(task: Task) -> bool
     match task {
         Task::Inetd => true,
         Task::Check => true,
+        Task::Listen(_) => true,
         Task::Drill(_) => false,
+    }
+}
+
+/// How many turns a task may take at the most.
+fn most_turns(task: Task) -> u64
+    ensures { result ≡ most_turns task }
+{
+    match task {
+        Task::Inetd => TURNS,
+        Task::Check => TURNS,
+        Task::Listen(_) => ACCEPTS,
+        Task::Drill(_) => TURNS,
     }
 }
 
@@ -253,8 +322,59 @@ fn macros_in(alloc: Global, matches: &ArgMatches<'_>) -> Result<Option<Vec<(Name
     }
 }
 
+/// The port that searches come to. None where the option for it isn't of its form.
+fn udp_in(matches: &ArgMatches<'_>) -> Option<u16>
+    ensures { MatchOption result ((n : ℕ) → ¬ (IsCountOr (given (rows_of (found_of matches.now)) (codes "udp")) 0 65535 5076 n)) (IsCountOr (given (rows_of (found_of matches.now)) (codes "udp")) 0 65535 5076) }
+{
+    let Some(count) = count_of(matches, "udp", 0, 65_535, SEARCHES) else {
+        return None;
+    };
+    Some(count as u16)
+}
+
+/// Where the option for beacons says that they go, if it is given. An outer None where it isn't of its form.
+#[tactic(auto, using(crate::proofs::Rows::no_beacon_said))]
+fn beacon_by(text: Option<&str>) -> Option<Option<Peer>>
+    ensures { MatchOption result ((p : Option PeerSaid) → ¬ (IsIfGiven IsAddress (option_map (λ s. s.now) text.entry) p)) (IsIfGiven IsAddress (option_map (λ s. s.now) text.entry)) }
+{
+    let Some(text) = text else {
+        return Some(None);
+    };
+    match read_address(text) {
+        Some(peer) => Some(Some(peer)),
+        None => None,
+    }
+}
+
+/// The GUID that the option for it says, if it is given. An outer None where it isn't of its form.
+#[tactic(auto, using(crate::proofs::Rows::no_guid_said))]
+fn guid_by(text: Option<&str>) -> Option<Option<[u8; 12]>>
+    ensures { MatchOption result ((g : Option (List ℕ)) → ¬ (IsIfGiven IsGuid (option_map (λ s. s.now) text.entry) g)) (IsIfGiven IsGuid (option_map (λ s. s.now) text.entry)) }
+{
+    let Some(text) = text else {
+        return Some(None);
+    };
+    match read_guid(text) {
+        Some(guid) => Some(Some(guid)),
+        None => None,
+    }
+}
+
+/// The same two of what the words give.
+fn beacon_in(matches: &ArgMatches<'_>) -> Option<Option<Peer>>
+    ensures { MatchOption result ((p : Option PeerSaid) → ¬ (IsIfGiven IsAddress (given (rows_of (found_of matches.now)) (codes "beacon")) p)) (IsIfGiven IsAddress (given (rows_of (found_of matches.now)) (codes "beacon"))) }
+{
+    beacon_by(given(matches, "beacon"))
+}
+
+fn guid_in(matches: &ArgMatches<'_>) -> Option<Option<[u8; 12]>>
+    ensures { MatchOption result ((g : Option (List ℕ)) → ¬ (IsIfGiven IsGuid (given (rows_of (found_of matches.now)) (codes "guid")) g)) (IsIfGiven IsGuid (given (rows_of (found_of matches.now)) (codes "guid"))) }
+{
+    guid_by(given(matches, "guid"))
+}
+
 /// What the options ask for.
-#[tactic(auto, using(crate::proofs::Rows::no_task, crate::proofs::Rows::no_source, crate::proofs::Rows::no_journal, crate::proofs::Rows::no_turns, crate::proofs::Rows::no_macros))]
+#[tactic(auto, using(crate::proofs::Rows::no_task, crate::proofs::Rows::no_source, crate::proofs::Rows::no_journal, crate::proofs::Rows::no_turns, crate::proofs::Rows::no_udp, crate::proofs::Rows::no_beacon, crate::proofs::Rows::no_guid, crate::proofs::Rows::no_macros))]
 fn asked_of<'a>(alloc: Global, matches: &ArgMatches<'a>) -> Result<Asked<'a>, WordsStop>
     ensures { RowsAreRead (rows_of (found_of matches.now)) result }
 {
@@ -267,7 +387,17 @@ fn asked_of<'a>(alloc: Global, matches: &ArgMatches<'a>) -> Result<Asked<'a>, Wo
     let Some(journal) = count_of(matches, "journal", 0, u64::MAX, JOURNAL) else {
         return Err(WordsStop::Refused);
     };
-    let Some(turns) = count_of(matches, "turns", 1, TURNS, TURNS) else {
+    let most = most_turns(task);
+    let Some(turns) = count_of(matches, "turns", 1, most, most) else {
+        return Err(WordsStop::Refused);
+    };
+    let Some(udp) = udp_in(matches) else {
+        return Err(WordsStop::Refused);
+    };
+    let Some(beacon) = beacon_in(matches) else {
+        return Err(WordsStop::Refused);
+    };
+    let Some(guid) = guid_in(matches) else {
         return Err(WordsStop::Refused);
     };
     let Some(macros) = macros_in(alloc, matches)? else {
@@ -280,6 +410,9 @@ fn asked_of<'a>(alloc: Global, matches: &ArgMatches<'a>) -> Result<Asked<'a>, Wo
         order: order_of(matches),
         journal,
         turns,
+        udp,
+        beacon,
+        guid,
     })
 }
 
