@@ -16,11 +16,11 @@ use Rattle.cli_session.specs.declared.ask.Ask.{Ask}
 use Rattle.cli_session.specs.declared.fault.ClientFault.{ClientFault}
 use Rattle.cli_session.specs.declared.fault.ClientFault.TheVariants as faults
 use Rattle.srv_stream.specs.Moves.{Moves}
-use Rattle.pvac.specs.Dialing.{AtTold, HasOperated, IsUndialed, Operates, name_line}
+use Rattle.pvac.specs.Dialing.{AtClosed, AtTold, HasOperated, IsSound, IsUndialed, Operates, name_line}
 use Rattle.pvac.specs.Networking.{GoesOn, Seeks, patience_left, plan_of, status_of}
 use Rattle.pvac.specs.Running.{status_of_fault, status_of_stop}
 use Rattle.pvac.specs.Ends.{HasPrinted, text_for}
-use Rattle.pvac.specs.Statuses.{HasBadBytes, HasBadWords, HasReadBad, IsCause, IsSpent, IsWhole, StatusesHaveCauses, datagrams_in}
+use Rattle.pvac.specs.Statuses.{FaultlessRunsEnd, HasBadBytes, HasBadWords, HasReadBad, IsCause, IsClosed, IsSearchedInVain, IsSpent, IsWhole, MayEnd, MaySearch, MeetsNoFault, StatusesHaveCauses, datagrams_in}
 use Rattle.pvac.specs.Telling.{Puts}
 use Rattle.pvac.specs.declared.networking.Route.{Route}
 use Rattle.pvac.specs.declared.networking.Route.TheVariants as routes
@@ -29,6 +29,8 @@ use Rattle.pvac.specs.declared.outcome.Outcome.TheVariants as outcomes
 use Rattle.pvac.specs.declared.outcome.Patience.{Patience}
 use Rattle.pvac.specs.declared.stop.Ending.{Ending}
 use Rattle.pvac.specs.declared.stop.Ending.TheVariants as endings
+use Rattle.pvac.specs.declared.stop.Status.{Status}
+use Rattle.pvac.specs.declared.stop.Status.TheVariants as status
 use Rattle.pvac.specs.declared.stop.Stop.{Stop}
 use Rattle.pvac.specs.declared.stop.Stop.TheVariants as stops
 
@@ -121,7 +123,7 @@ module _ (ask : Ask) (route : Route) (p q : Patience) (d d' : DatagramsView) (le
 
   -- the channel's name wasn't printed
   unprinted_cause : (stop : Stop) → Puts start now before after (name_line ask) (Err stop) → IsCause ask route p d d' old new start now before after (status_of_stop stop)
-  unprinted_cause stops.Sink puts = inr (inr (inr (inr puts.1)))
+  unprinted_cause stops.Sink puts = inl (inr (inr (inr puts.1)))
   unprinted_cause stops.NoMemory puts = tt
   unprinted_cause (stops.Frame fault) puts = absurd puts
   unprinted_cause (stops.Client fault) puts = absurd puts
@@ -132,28 +134,50 @@ module _ (ask : Ask) (route : Route) (p q : Patience) (d d' : DatagramsView) (le
   whole : (to : Peer) (ending : Ending) → HasOperated ask q to old new start now before after (outcomes.Told ending) → IsWhole ask old new start now before after ending
   whole to ending o =
       let told : AtTold ask o.begin o.end start now before after o.conversed.read o.conversed.written ending = o.conversed.cause in record {
-        to = to;
-        begin = o.begin;
-        end = o.end;
-        dialed = o.dialed;
-        dials = o.dials;
-        back = o.back;
         read = o.conversed.read;
-        moves = subst (Moves o.begin o.end o.conversed.read) told.all o.conversed.moves;
+        moved = record {
+          to = to;
+          begin = o.begin;
+          end = o.end;
+          dialed = o.dialed;
+          dials = o.dials;
+          back = o.back;
+          moves = subst (Moves o.begin o.end o.conversed.read) told.all o.conversed.moves;
+        };
         ended = told.ended;
         printed = told.printed;
+      }
+
+  closed : (to : Peer) → HasOperated ask q to old new start now before after outcomes.Closed → IsClosed ask old new start now before after
+  closed to o =
+      let cut : AtClosed ask o.begin o.end start now before after o.conversed.read o.conversed.written = o.conversed.cause in record {
+        read = o.conversed.read;
+        moved = record {
+          to = to;
+          begin = o.begin;
+          end = o.end;
+          dialed = o.dialed;
+          dials = o.dials;
+          back = o.back;
+          moves = subst (Moves o.begin o.end o.conversed.read) cut.all o.conversed.moves;
+        };
+        unended = cut.unended;
+        sound = cut.sound;
+        all_read = cut.all_read;
+        printed = cut.printed;
+        ends = back_ends o.end o.dials o.back cut.ends;
       }
 
   operated : (to : Peer) (outcome : Outcome) → HasOperated ask q to old new start now before after outcome → IsCause ask route p d d' old new start now before after (status_of outcome)
   operated to (outcomes.Told endings.Finished) o = whole to endings.Finished o
   operated to (outcomes.Told endings.Refused) o = whole to endings.Refused o
-  operated to (outcomes.Stopped stops.Sink) o = inr (inr (inr (inr o.conversed.cause.stopped.stopped.1)))
+  operated to (outcomes.Stopped stops.Sink) o = inl (inr (inr (inr o.conversed.cause.stopped.stopped.1)))
   operated to (outcomes.Stopped stops.NoMemory) o = tt
   operated to (outcomes.Stopped (stops.Frame fault)) o =
       let s = o.conversed.cause.stopped in read_bad to (stops.Frame fault) HasBadBytes o (inr (fault, s.refused, s.stopped.1.1)) s.stopped.0
   operated to (outcomes.Stopped (stops.Client fault)) o = client_cause to fault o
-  operated to outcomes.Closed o = inr (inr (inr (inl (back_ends o.end o.dials o.back o.conversed.cause.ends))))
-  operated to outcomes.Failed o = inr (inr (inl (back_faults o.end o.dials o.back o.conversed.cause.faults)))
+  operated to outcomes.Closed o = inr (closed to o)
+  operated to outcomes.Failed o = inl (inr (inr (inl (back_faults o.end o.dials o.back o.conversed.cause.faults))))
   operated to outcomes.Unfound o = absurd o.conversed.cause
   operated to outcomes.Idle o = subst (λ (n : ℕ). RoseBy n old.link_idles new.link_idles) left.same (back_idles o.end o.dials o.back q.idle o.conversed.cause.idles)
   operated to outcomes.Spent o =
@@ -170,7 +194,7 @@ module _ (ask : Ask) (route : Route) (p q : Patience) (d d' : DatagramsView) (le
       }
 
   undialed : (to : Peer) (outcome : Outcome) → IsUndialed to old new outcome → IsCause ask route p d d' old new start now before after (status_of outcome)
-  undialed to outcomes.Failed u = inr (inl u.faults)
+  undialed to outcomes.Failed u = inl (inr (inl u.faults))
   undialed to (outcomes.Stopped stops.NoMemory) u = tt
   undialed to (outcomes.Stopped stops.Sink) u = absurd u
   undialed to (outcomes.Stopped (stops.Frame fault)) u = absurd u
@@ -224,8 +248,8 @@ module _ (ask : Ask) (to : Peer) (rounds : ℕ) (p : Patience) (d d' : Datagrams
   goes_on (ends.Found server calls) outcome s g = operates_cause ask (routes.Sought to rounds) p (patience_left (plan_of to rounds p) calls) d d' (found_left server calls s) old new start now before after server outcome g
   goes_on ends.Unfound outcome (inl h) g = subst Cause (sym g.outcome_is) h
   goes_on ends.Unfound outcome (inr h) g = absurd h
-  goes_on ends.Failed outcome (inl h) g = subst Cause (sym g.outcome_is) (inl (subst (λ (n : ℕ). Rose n d'.faults) h.binds.binds.2 h.cause.failed.faults))
-  goes_on ends.Failed outcome (inr h) g = subst Cause (sym g.outcome_is) (inl h.binds.1)
+  goes_on ends.Failed outcome (inl h) g = subst Cause (sym g.outcome_is) (inl (inl (subst (λ (n : ℕ). Rose n d'.faults) h.binds.binds.2 h.cause.failed.faults)))
+  goes_on ends.Failed outcome (inr h) g = subst Cause (sym g.outcome_is) (inl (inl h.binds.1))
   goes_on ends.Spent outcome s g = subst Cause (sym g.outcome_is) (spent_all s (sym g.undialed))
   goes_on ends.NoMemory outcome s g = subst Cause (sym g.outcome_is) tt
 
@@ -239,3 +263,36 @@ statuses_have_causes ask (routes.Sought to rounds) p d d' old new start now befo
 statuses_have_causes ask route p d d' old new start now before after outcome (inr u) =
     subst (λ (o : Outcome). IsCause ask route p d d' old new start now before after (status_of o)) (sym u.outcome_is)
     (unprinted_cause ask route p p d d' (subst (λ (v : DatagramsView). Left p p d v) (sym u.unsent) (left_none p d)) old new start now before after u.stop u.puts)
+
+-- By contraposition: where a run meets no fault, it has no cause that is one.
+
+in_vain : (ask : Ask) (route : Route) (p : Patience) (d d' : DatagramsView) → IsSearchedInVain ask route p d d' → MaySearch route
+in_vain ask (routes.Known server) p d d' v = absurd v
+in_vain ask (routes.Sought to rounds) p d d' v = tt
+
+module _ (ask : Ask) (route : Route) (p : Patience) (d d' : DatagramsView) (old new : DialerView) (start now : Option (List ℕ)) (before after : ℕ) (f : MeetsNoFault ask p d d' old new before after) where
+  bad_words : HasReadBad ask HasBadWords old new start now before after → ⊥
+  bad_words r =
+      let sound : IsSound ask r.read = f.sound r.read r.written r.moved in
+      let clash : None ≡ Some (faults.Words r.bad.0) = sym sound.events ∙ r.bad.1 in absurd cc
+
+  bad_bytes : (read : List ℕ) → IsSound ask read → HasBadBytes ask read → ⊥
+  bad_bytes read sound (inl b) = let clash : None ≡ Some b.0 = sym sound.events ∙ b.1 in absurd cc
+  bad_bytes read sound (inr b) = let clash : None ≡ Some b.0 = sym (sound.headers b.2) ∙ b.1 in absurd cc
+
+  usual : (code : Status) → IsCause ask route p d d' old new start now before after code → MayEnd route code
+  usual status.Done c = tt
+  usual status.Refused c = tt
+  usual status.NoMemory c = tt
+  usual status.Unfound c = in_vain ask route p d d' c
+  usual status.Outside (inl c) = absurd (f.faults c)
+  usual status.Outside (inr c) = absurd (f.ends c.ends)
+  usual status.Idle c = absurd (f.idles c)
+  usual status.Spent c = absurd (f.turns c)
+  usual status.Words c = absurd (bad_words c)
+  usual status.Stream c = absurd (bad_bytes c.read (f.sound c.read c.written c.moved) c.bad)
+  usual status.Site c = absurd c
+
+pub faultless_runs_end : FaultlessRunsEnd
+faultless_runs_end ask route p d d' old new start now before after outcome n f =
+    usual ask route p d d' old new start now before after f (status_of outcome) (statuses_have_causes ask route p d d' old new start now before after outcome n)

@@ -208,14 +208,20 @@ module _ {ask : Ask} {begin wire : Wire} {start now : Option (List ℕ)} {before
       }
 
   -- the link failed
-  failed : (p : Patience) (wire2 : Wire) (now2 : Option (List ℕ)) (after2 : ℕ) → Rests wire wire2 → Rose wire.faults wire2.faults → wire2.ends ≡ wire.ends → IsQuiet now now2 after after2
+  failed : (p : Patience) (wire2 : Wire) (now2 : Option (List ℕ)) (after2 : ℕ) → IsOpen v → Rests wire wire2 → Rose wire.faults wire2.faults → wire2.ends ≡ wire.ends → IsQuiet now now2 after after2
       → HasConversed ask p begin wire2 start now2 before after2 outcomes.Failed
-  failed p wire2 now2 after2 rests_ rose ends quiet = record {
+  failed p wire2 now2 after2 open_ rests_ rose ends quiet = record {
     read = c.read;
     written = c.written;
     moves = moves_rest c.moves rests_;
     begins = begins;
-    cause = record { sound = sound; printed = printed_so now2 after2 quiet; faults = subst (λ (n : ℕ). Rose n wire2.faults) c.faults rose; ends = ends ∙ c.ends };
+    cause = record {
+      undone = undone open_;
+      sound = sound;
+      printed = printed_so now2 after2 quiet;
+      faults = subst (λ (n : ℕ). Rose n wire2.faults) c.faults rose;
+      ends = ends ∙ c.ends;
+    };
   }
 
   -- the client stopped at a piece
@@ -247,7 +253,7 @@ module _ {ask : Ask} {begin wire : Wire} {start now : Option (List ℕ)} {before
       ends = subst (λ (n : ℕ). Rose n wire2.ends) c.ends r.0.ends;
     };
   }
-  read_ended p wire2 now2 after2 w outcomes.Failed empty none r = failed p wire2 now2 after2 r.0.rests r.0.faults r.0.ends r.1
+  read_ended p wire2 now2 after2 w outcomes.Failed empty none r = failed p wire2 now2 after2 (inr none) r.0.rests r.0.faults r.0.ends r.1
   read_ended p wire2 now2 after2 w (outcomes.Stopped stops.NoMemory) empty none (inl r) = stopped_at p wire2 now2 after2 w stops.NoMemory r
   read_ended p wire2 now2 after2 w (outcomes.Stopped stops.NoMemory) empty none (inr r) = short p wire2 now2 after2 r.0.rests r.0.counts.faults r.0.counts.ends r.1
   read_ended p wire2 now2 after2 w (outcomes.Stopped stops.Sink) empty none r = stopped_at p wire2 now2 after2 w stops.Sink r
@@ -258,23 +264,23 @@ module _ {ask : Ask} {begin wire : Wire} {start now : Option (List ℕ)} {before
   read_ended p wire2 now2 after2 w outcomes.Idle empty none r = absurd r
   read_ended p wire2 now2 after2 w outcomes.Spent empty none r = absurd r
 
-  write_ended : (p : Patience) (wire2 : Wire) (now2 : Option (List ℕ)) (after2 : ℕ) (w : ClientView) (outcome : Outcome) → WritesSome wire wire2 v w (Err outcome) → IsQuiet now now2 after after2
+  write_ended : (p : Patience) (wire2 : Wire) (now2 : Option (List ℕ)) (after2 : ℕ) (w : ClientView) (outcome : Outcome) → IsOpen v → WritesSome wire wire2 v w (Err outcome) → IsQuiet now now2 after after2
       → HasConversed ask p begin wire2 start now2 before after2 outcome
-  write_ended p wire2 now2 after2 w outcomes.Failed x quiet = failed p wire2 now2 after2 x.rests x.faults x.ends quiet
-  write_ended p wire2 now2 after2 w (outcomes.Stopped stops.NoMemory) x quiet = short p wire2 now2 after2 x.rests x.counts.faults x.counts.ends quiet
-  write_ended p wire2 now2 after2 w (outcomes.Stopped stops.Sink) x quiet = absurd x
-  write_ended p wire2 now2 after2 w (outcomes.Stopped (stops.Client fault)) x quiet = absurd x
-  write_ended p wire2 now2 after2 w (outcomes.Stopped (stops.Frame fault)) x quiet = absurd x
-  write_ended p wire2 now2 after2 w (outcomes.Told ending) x quiet = absurd x
-  write_ended p wire2 now2 after2 w outcomes.Closed x quiet = absurd x
-  write_ended p wire2 now2 after2 w outcomes.Unfound x quiet = absurd x
-  write_ended p wire2 now2 after2 w outcomes.Idle x quiet = absurd x
-  write_ended p wire2 now2 after2 w outcomes.Spent x quiet = absurd x
+  write_ended p wire2 now2 after2 w outcomes.Failed open_ x quiet = failed p wire2 now2 after2 open_ x.rests x.faults x.ends quiet
+  write_ended p wire2 now2 after2 w (outcomes.Stopped stops.NoMemory) open_ x quiet = short p wire2 now2 after2 x.rests x.counts.faults x.counts.ends quiet
+  write_ended p wire2 now2 after2 w (outcomes.Stopped stops.Sink) open_ x quiet = absurd x
+  write_ended p wire2 now2 after2 w (outcomes.Stopped (stops.Client fault)) open_ x quiet = absurd x
+  write_ended p wire2 now2 after2 w (outcomes.Stopped (stops.Frame fault)) open_ x quiet = absurd x
+  write_ended p wire2 now2 after2 w (outcomes.Told ending) open_ x quiet = absurd x
+  write_ended p wire2 now2 after2 w outcomes.Closed open_ x quiet = absurd x
+  write_ended p wire2 now2 after2 w outcomes.Unfound open_ x quiet = absurd x
+  write_ended p wire2 now2 after2 w outcomes.Idle open_ x quiet = absurd x
+  write_ended p wire2 now2 after2 w outcomes.Spent open_ x quiet = absurd x
 
   pub conversing_stopped : (p : Patience) (wire2 : Wire) (now2 : Option (List ℕ)) (after2 : ℕ) (w : ClientView) (outcome : Outcome) → IsOpen v → Turns wire wire2 v w now now2 after after2 (Err outcome)
       → HasConversed ask p begin wire2 start now2 before after2 outcome
   conversing_stopped p wire2 now2 after2 w outcome open_ (inl x) = read_ended p wire2 now2 after2 w outcome x.0 (unended x.0 open_) x.1
-  conversing_stopped p wire2 now2 after2 w outcome open_ (inr x) = write_ended p wire2 now2 after2 w outcome x.1 x.2
+  conversing_stopped p wire2 now2 after2 w outcome open_ (inr x) = write_ended p wire2 now2 after2 w outcome open_ x.1 x.2
 
 -- a read at which the client stopped
 pub read_stopped : {wire wire2 : Wire} {v w : ClientView} {now now2 : Option (List ℕ)} {after after2 : ℕ} (stop : Stop) → ReadOn wire wire2 v w now now2 after after2 (Err stop) → ReadsSome wire wire2 v w now now2 after after2 (Err (outcomes.Stopped stop))

@@ -1,4 +1,5 @@
--- What an operation of a client comes to over a link that it dials (pvAccess Protocol Specification, "Connection Management").
+-- What an operation of a client comes to over a link that it dials (pvAccess Protocol Specification, "Connection
+-- Management").
 use Rattle.std.specs.Prelude.{◌≡◌, ◌⊎◌, ℕ, ◌+◌, ◌++◌, ◌∷◌, [], ◌<◌, ◌≤◌, ◌^◌, List, length, Option, None, Some}
 use Rattle.pva_frames.specs.Assembled.{fault_from}
 use Rattle.pva_outside.specs.Count.{Rose}
@@ -31,8 +32,8 @@ pub record IsSound (ask : Ask) (read : List ℕ) : Type 0 where
 -- How an exchange over a link ends, behind which this was read, written and printed.
 
 -- The operation ended so. All that the client says was written.
-pub record AtTold (ask : Ask) (begin end : Wire) (start now : Option (List ℕ)) (before after : ℕ) (read written : List ℕ)
-    (ending : Ending) : Type 0 where
+pub record AtTold (ask : Ask) (begin end : Wire) (start now : Option (List ℕ)) (before after : ℕ)
+    (read written : List ℕ) (ending : Ending) : Type 0 where
   pub ended : ended_by ask read ≡ Some ending
   pub sound : IsSound ask read
   pub all : written ≡ said_to ask read
@@ -47,7 +48,8 @@ pub record AtStopped (ask : Ask) (begin end : Wire) (start now : Option (List �
   pub faults : end.faults ≡ begin.faults
   pub ends : end.ends ≡ begin.ends
 
--- The server ended the stream before the operation ended. All that it sent was read, and all that the client says was written.
+-- The server ended the stream before the operation ended. All that it sent was read, and all that the client says was
+-- written.
 pub record AtClosed (ask : Ask) (begin end : Wire) (start now : Option (List ℕ)) (before after : ℕ)
     (read written : List ℕ) : Type 0 where
   pub unended : ended_by ask read ≡ None
@@ -58,17 +60,18 @@ pub record AtClosed (ask : Ask) (begin end : Wire) (start now : Option (List ℕ
   pub faults : end.faults ≡ begin.faults
   pub ends : Rose begin.ends end.ends
 
--- The link failed.
+-- a further call was due: to read, or to write what is left
+abbrev pub IsUndone : Ask → List ℕ → List ℕ → Type 0
+IsUndone ask read written = (ended_by ask read ≡ None) ⊎ IsProperPrefixOf written (said_to ask read)
+
+-- The link failed at a call that was due.
 pub record AtFailed (ask : Ask) (begin end : Wire) (start now : Option (List ℕ)) (before after : ℕ)
     (read written : List ℕ) : Type 0 where
+  pub undone : IsUndone ask read written
   pub sound : IsSound ask read
   pub printed : HasPrinted start now before after (text_for ask read)
   pub faults : Rose begin.faults end.faults
   pub ends : end.ends ≡ begin.ends
-
--- a further call was due: to read, or to write what is left
-abbrev pub IsUndone : Ask → List ℕ → List ℕ → Type 0
-IsUndone ask read written = (ended_by ask read ≡ None) ⊎ IsProperPrefixOf written (said_to ask read)
 
 -- Nothing moved any more, as often as ends an exchange.
 pub record AtIdle (ask : Ask) (idle : ℕ) (begin end : Wire) (start now : Option (List ℕ)) (before after : ℕ)
@@ -106,8 +109,8 @@ HasCause ask p begin end start now before after read written outcomes.Spent =
     AtSpent ask p.turns begin end start now before after read written
 HasCause ask p begin end start now before after read written outcomes.Unfound = ⊥
 
--- An exchange over a link: what was read of it and written to it, where it tells its bytes, and why it ended. What was written is a
--- front of what the client says to what was read.
+-- An exchange over a link: what was read of it and written to it, where it tells its bytes, and why it ended. What was
+-- written is a front of what the client says to what was read.
 pub record HasConversed (ask : Ask) (p : Patience) (begin end : Wire) (start now : Option (List ℕ)) (before after : ℕ)
     (outcome : Outcome) : Type 0 where
   pub read : List ℕ

@@ -15,8 +15,8 @@ use Rattle.cli_session.specs.declared.fault.ClientFault.TheVariants as faults
 use Rattle.cli_text.specs.declared.fault.PutText.{PutText}
 use Rattle.pva_frames.specs.Assembled.{fault_from}
 use Rattle.pva_frames.specs.declared.fault.FrameFault.{FrameFault}
-use Rattle.srv_stream.specs.Moves.{Moves}
-use Rattle.pvac.specs.Dialing.{said_to}
+use Rattle.srv_stream.specs.Moves.{IsAll, Moves}
+use Rattle.pvac.specs.Dialing.{IsSound, said_to}
 use Rattle.pvac.specs.Ends.{Begins, HasPrinted, events_in, text_for}
 use Rattle.pvac.specs.Exchanging.{ended_by}
 use Rattle.pvac.specs.Networking.{Networks, plan_of, status_of}
@@ -30,28 +30,6 @@ use Rattle.pvac.specs.declared.stop.Ending.TheVariants as endings
 use Rattle.pvac.specs.declared.stop.Status.{Status}
 use Rattle.pvac.specs.declared.stop.Status.TheVariants as status
 
--- The operation ended so over a link that was taken back. All that the client tells of what was read was printed, and all that it
--- says to that was written.
-pub record IsWhole (ask : Ask) (old new : DialerView) (start now : Option (List ℕ)) (before after : ℕ) (ending : Ending)
-    : Type 0 where
-  pub to : Peer
-  pub begin : Wire
-  pub end : Wire
-  pub dialed : DialerView
-  pub dials : HasDialed old dialed begin to
-  pub back : new ≡ with_link_back dialed end
-  pub read : List ℕ
-  pub moves : Moves begin end read (said_to ask read)
-  pub ended : ended_by ask read ≡ Some ending
-  pub printed : HasPrinted start now before after (text_for ask read)
-
--- A count of faults rose, of the datagrams, the dialer, the link or the sink; or the link's end was met.
-abbrev pub HasFailed : DatagramsView → DatagramsView → DialerView → DialerView → ℕ → ℕ → Type 0
-HasFailed d d' old new before after =
-    Rose d.faults d'.faults
-    ⊎ (Rose old.faults new.faults
-    ⊎ (Rose old.link_faults new.link_faults ⊎ (Rose old.link_ends new.link_ends ⊎ Rose before after)))
-
 -- A link was dialed and taken back, which gave and took these bytes.
 pub record HasMoved (old new : DialerView) (read written : List ℕ) : Type 0 where
   pub to : Peer
@@ -62,6 +40,31 @@ pub record HasMoved (old new : DialerView) (read written : List ℕ) : Type 0 wh
   pub back : new ≡ with_link_back dialed end
   pub moves : Moves begin end read written
 
+-- The operation ended so over a link that was taken back. All that the client tells of what was read was printed, and
+-- all that it says to that was written.
+pub record IsWhole (ask : Ask) (old new : DialerView) (start now : Option (List ℕ)) (before after : ℕ) (ending : Ending)
+    : Type 0 where
+  pub read : List ℕ
+  pub moved : HasMoved old new read (said_to ask read)
+  pub ended : ended_by ask read ≡ Some ending
+  pub printed : HasPrinted start now before after (text_for ask read)
+
+-- A count of faults rose, of the datagrams, the dialer, the link or the sink.
+abbrev pub HasFailed : DatagramsView → DatagramsView → DialerView → DialerView → ℕ → ℕ → Type 0
+HasFailed d d' old new before after =
+    Rose d.faults d'.faults ⊎ (Rose old.faults new.faults ⊎ (Rose old.link_faults new.link_faults ⊎ Rose before after))
+
+-- The server ended the stream before the operation ended, and the link was taken back. All that it sent was read; all
+-- that the client tells of that was printed, and all that it says to that was written.
+pub record IsClosed (ask : Ask) (old new : DialerView) (start now : Option (List ℕ)) (before after : ℕ) : Type 0 where
+  pub read : List ℕ
+  pub moved : HasMoved old new read (said_to ask read)
+  pub unended : ended_by ask read ≡ None
+  pub sound : IsSound ask read
+  pub all_read : IsAll moved.begin.left read
+  pub printed : HasPrinted start now before after (text_for ask read)
+  pub ends : Rose old.link_ends new.link_ends
+
 -- no link was dialed, or it gave and took these bytes
 abbrev pub MayHaveMoved : DialerView → DialerView → List ℕ → List ℕ → Type 0
 MayHaveMoved old new read written = HasMoved old new read written ⊎ ((read ≡ []) × (written ≡ []))
@@ -70,7 +73,8 @@ MayHaveMoved old new read written = HasMoved old new read written ⊎ ((read ≡
 abbrev pub datagrams_in : List Traffic → ℕ
 datagrams_in traffic = length traffic - nothings traffic
 
--- All turns were made. In each a datagram came or was sent, a byte was read or written, or nothing moved and was counted as that.
+-- All turns were made. In each a datagram came or was sent, a byte was read or written, or nothing moved and was
+-- counted as that.
 pub record IsSpent (p : Patience) (d d' : DatagramsView) (old new : DialerView) : Type 0 where
   pub traffic : List Traffic
   pub traffic_is : d'.traffic ≡ and_all d.traffic traffic
@@ -81,7 +85,7 @@ pub record IsSpent (p : Patience) (d d' : DatagramsView) (old new : DialerView) 
       → d.idles + old.link_idles + p.turns
       ≤ d'.idles + new.link_idles + datagrams_in traffic + length read + length written
 
--- No server that was searched has the channel.
+-- No server that was searched answered that it has the channel.
 abbrev pub IsSearchedInVain : Ask → Route → Patience → DatagramsView → DatagramsView → Type 0
 IsSearchedInVain ask (routes.Known server) p d d' = ⊥
 IsSearchedInVain ask (routes.Sought to rounds) p d d' = HasSearched ask.name (plan_of to rounds p) d d' ends.Unfound
@@ -114,7 +118,8 @@ IsCause ask route p d d' old new start now before after status.Done =
 IsCause ask route p d d' old new start now before after status.Refused =
     IsWhole ask old new start now before after endings.Refused
 IsCause ask route p d d' old new start now before after status.Unfound = IsSearchedInVain ask route p d d'
-IsCause ask route p d d' old new start now before after status.Outside = HasFailed d d' old new before after
+IsCause ask route p d d' old new start now before after status.Outside =
+    HasFailed d d' old new before after ⊎ IsClosed ask old new start now before after
 IsCause ask route p d d' old new start now before after status.Idle = RoseBy p.idle old.link_idles new.link_idles
 IsCause ask route p d d' old new start now before after status.Spent = IsSpent p d d' old new
 IsCause ask route p d d' old new start now before after status.Words =
@@ -131,3 +136,36 @@ StatusesHaveCauses =
     (start now : Option (List ℕ)) (before after : ℕ) (outcome : Outcome)
     → Networks ask route p d d' old new start now before after outcome
     → IsCause ask route p d d' old new start now before after (status_of outcome)
+
+-- How a run ends that meets no fault.
+
+-- No count of faults rose, no link's end was met, the links weren't idle as often as ends a run, the turns weren't
+-- spent, and the client takes all that was read. Of a dialer that tells no bytes this says nothing: they could be any.
+pub record MeetsNoFault (ask : Ask) (p : Patience) (d d' : DatagramsView) (old new : DialerView) (before after : ℕ)
+    : Type 0 where
+  pub faults : ¬ (HasFailed d d' old new before after)
+  pub ends : ¬ (Rose old.link_ends new.link_ends)
+  pub idles : ¬ (RoseBy p.idle old.link_idles new.link_idles)
+  pub turns : ¬ (IsSpent p d d' old new)
+  pub sound : (read written : List ℕ) → HasMoved old new read written → IsSound ask read
+
+-- a server that is searched may not be found
+abbrev pub MaySearch : Route → Type 0
+MaySearch (routes.Known server) = ⊥
+MaySearch (routes.Sought to rounds) = ⊤
+
+-- how such a run may end
+abbrev pub MayEnd : Route → Status → Type 0
+MayEnd route status.Done = ⊤
+MayEnd route status.Refused = ⊤
+MayEnd route status.NoMemory = ⊤
+MayEnd route status.Unfound = MaySearch route
+MayEnd route other = ⊥
+
+abbrev pub FaultlessRunsEnd : Type 0
+FaultlessRunsEnd =
+    (ask : Ask) (route : Route) (p : Patience) (d d' : DatagramsView) (old new : DialerView)
+    (start now : Option (List ℕ)) (before after : ℕ) (outcome : Outcome)
+    → Networks ask route p d d' old new start now before after outcome
+    → MeetsNoFault ask p d d' old new before after
+    → MayEnd route (status_of outcome)

@@ -62,7 +62,7 @@ Usage: pvac get     NAME [OPTIONS]               prints the channel's value, a l
                  --within, after how many rounds in which neither end has a byte (200)
 --piece N        with --within, how many bytes each end gives the other in a round at most (4096)
 --turns N        how many calls of the network a run may make; with --within, how many rounds it may take
-                 (4611686018427387904)
+                 (4611686018427387904). The dial takes up to 5 s, and counts in neither --idle nor --turns
 -h, --help       shows this text, as the first word
 -V, --version    shows the version, as the first word
 
@@ -111,9 +111,9 @@ Examples without it, with the file slide.db:
     pvac --within X=42 monitor X --count 1
     pvac --within X=42 call server channels
 
-Status: 0 done; 1 the server refused; 2 words that aren't taken, or that give no value of the channel; 3 no server has the
-channel; 4 a file, a port, a print or the network failed, or the server ended; 5 the server's bytes are wrong; 6 nothing
-came any more; 7 no memory; 8 the database text is wrong; 9 the turns were spent.
+Status: 0 done; 1 the server refused; 2 words that aren't taken, or that give no value of the channel; 3 no server answered
+that it has the channel; 4 a file, a port, a print or the network failed, or the server ended; 5 the server's bytes are wrong;
+6 nothing came any more; 7 no memory; 8 the database text is wrong; 9 the turns were spent.
 ";
 
 /// What `--version` shows.

@@ -51,6 +51,9 @@ const CREATED: &[u8] = b"\xCA\x02\x40\x07\x09\x00\x00\x00\x01\x00\x00\x00\x00\x0
 const REFUSED: &[u8] =
     b"\xCA\x02\x40\x07\x1C\x00\x00\x00\x01\x00\x00\x00\x00\x00\x00\x00\x02\x11channel not found\x00";
 
+/// A channel that wasn't asked for was created.
+const UNASKED: &[u8] = b"\xCA\x02\x40\x07\x09\x00\x00\x00\x02\x00\x00\x00\x05\x00\x00\x00\xFF";
+
 /// What begins no header.
 const WRONG: &[u8] = b"\xCB";
 
@@ -64,6 +67,41 @@ const DESCRIPTION: &[u8] =
 const GOT: &[u8] =
     b"\xCA\x02\x40\x0A\x26\x00\x00\x00\x01\x00\x00\x00\x00\xFF\x02\xBA\x03\x2A\x00\x00\x00\x00\x00\x00\x00\x00\x00\x00\x00\x00\x00\x00\x00\x00\x00\x00\x00\x00\x00\x00\x00\x00\x00\x00\x00\x00";
 
+/// What a server of X=42 sends to a put, up to the value that X has before it.
+const SENT_PRESENT: &[&[u8]] = &[
+    GREETING,
+    VALIDATED,
+    CREATED,
+    b"\xCA\x02\x40\x0B\x8B\x00\x00\x00\x01\x00\x00\x00\x08\xFF",
+    DESCRIPTION,
+    b"\xCA\x02\x40\x0B\x26\x00\x00\x00\x01\x00\x00\x00\x40\xFF\x02\xBA\x03\x2A\x00\x00\x00\x00\x00\x00\x00\x00\x00\x00\x00\x00\x00\x00\x00\x00\x00\x00\x00\x00\x00\x00\x00\x00\x00\x00\x00\x00",
+];
+
+/// What it sends to a put-get of 7, which the client begins with a put for the value that X has before.
+const SENT_SEVEN: &[&[u8]] = &[
+    GREETING,
+    VALIDATED,
+    CREATED,
+    b"\xCA\x02\x40\x0B\x8B\x00\x00\x00\x02\x00\x00\x00\x08\xFF",
+    DESCRIPTION,
+    b"\xCA\x02\x40\x0B\x26\x00\x00\x00\x02\x00\x00\x00\x40\xFF\x02\xBA\x03\x2A\x00\x00\x00\x00\x00\x00\x00\x00\x00\x00\x00\x00\x00\x00\x00\x00\x00\x00\x00\x00\x00\x00\x00\x00\x00\x00\x00\x00",
+    b"\xCA\x02\x40\x0C\x10\x01\x00\x00\x01\x00\x00\x00\x08\xFF",
+    DESCRIPTION,
+    DESCRIPTION,
+    b"\xCA\x02\x40\x0C\x26\x00\x00\x00\x01\x00\x00\x00\x00\xFF\x02\xBA\x03\x07\x00\x00\x00\x00\x00\x00\x00\x00\x00\x00\x00\x00\x00\x00\x00\x00\x00\x00\x00\x00\x00\x00\x00\x00\x00\x00\x00\x00",
+];
+
+/// What it sends to a monitor: all fields, and then that the value is 6 and changed more than once.
+const SENT_UPDATES: &[&[u8]] = &[
+    GREETING,
+    VALIDATED,
+    CREATED,
+    b"\xCA\x02\x40\x0D\x8B\x00\x00\x00\x01\x00\x00\x00\x08\xFF",
+    DESCRIPTION,
+    b"\xCA\x02\x40\x0D\x26\x00\x00\x00\x01\x00\x00\x00\x00\x02\xBA\x03\x2A\x00\x00\x00\x00\x00\x00\x00\x00\x00\x00\x00\x00\x00\x00\x00\x00\x00\x00\x00\x00\x00\x00\x00\x00\x00\x00\x00\x00\x00",
+    b"\xCA\x02\x40\x0D\x0D\x00\x00\x00\x01\x00\x00\x00\x00\x01\x02\x06\x00\x00\x00\x01\x02",
+];
+
 /// What a server of X=42 sends to a get.
 const SENT: &[&[u8]] = &[GREETING, VALIDATED, CREATED, BEGUN, DESCRIPTION, GOT];
 
@@ -74,7 +112,7 @@ const SENT_BIG: &[&[u8]] = &[
     b"\xCA\x02\xC0\x07\x00\x00\x00\x09\x00\x00\x00\x01\x00\x00\x00\x00\xFF",
     b"\xCA\x02\xC0\x0A\x00\x00\x00\x8B\x00\x00\x00\x01\x08\xFF",
     DESCRIPTION,
-    b"\xCA\x02\xC0\x0A\x00\x00\x00\x26\x00\x00\x00\x01\x00\xFF\x02\xBA\x03\x00\x00\x00\x2A\x00\x00\x00\x00\x00\x00\x00\x00\x00\x00\x00\x00\x00\x00\x00\x00\x00\x00\x00\x00\x00\x00\x00\x00\x00\x00",
+    b"\xCA\x02\xC0\x0A\x00\x00\x00\x26\x00\x00\x00\x01\x00\xFF\x02\xBA\x03\x00\x00\x00\x2A\x00\x00\x00\x00\x00\x00\x00\x00\x00\x00\x00\x00\x00\x00\x00\x00\x00\x00\x00\x00\x00\x00\x00\x00\x00",
 ];
 
 /// What a server sends whose channel is a double, 1.0.
@@ -93,13 +131,39 @@ const VALIDATES: &[u8] =
 /// It asks for the channel X.
 const CREATES: &[u8] = b"\xCA\x02\x00\x07\x08\x00\x00\x00\x01\x00\x01\x00\x00\x00\x01X";
 
+/// Its request ends.
+const ENDS: &[u8] = b"\xCA\x02\x00\x0F\x08\x00\x00\x00\x00\x00\x00\x00\x01\x00\x00\x00";
+
 /// What the client says to the server of X=42.
 const SAID: &[&[u8]] = &[
     VALIDATES,
     CREATES,
     b"\xCA\x02\x00\x0A\x15\x00\x00\x00\x00\x00\x00\x00\x01\x00\x00\x00\x08\x80\x00\x01\x05field\x80\x00\x00",
     b"\xCA\x02\x00\x0A\x09\x00\x00\x00\x00\x00\x00\x00\x01\x00\x00\x00\x00",
-    b"\xCA\x02\x00\x0F\x08\x00\x00\x00\x00\x00\x00\x00\x01\x00\x00\x00",
+    ENDS,
+];
+
+/// What it says in a put-get of 7: a put begins, asks for the value before and ends; then the put-get begins, and X is to be 7.
+const SAID_SEVEN: &[&[u8]] = &[
+    VALIDATES,
+    CREATES,
+    b"\xCA\x02\x00\x0B\x15\x00\x00\x00\x00\x00\x00\x00\x02\x00\x00\x00\x08\x80\x00\x01\x05field\x80\x00\x00",
+    b"\xCA\x02\x00\x0B\x09\x00\x00\x00\x00\x00\x00\x00\x02\x00\x00\x00\x40",
+    b"\xCA\x02\x00\x0F\x08\x00\x00\x00\x00\x00\x00\x00\x02\x00\x00\x00",
+    b"\xCA\x02\x00\x0C\x18\x00\x00\x00\x00\x00\x00\x00\x01\x00\x00\x00\x08\x80\x00\x01\x08getField\x80\x00\x00",
+    b"\xCA\x02\x00\x0C\x0F\x00\x00\x00\x00\x00\x00\x00\x01\x00\x00\x00\x00\x01\x02\x07\x00\x00\x00",
+    ENDS,
+];
+
+/// What it says in a monitor of two updates with a window of one: the monitor begins and is started, and the first update is
+/// acknowledged.
+const SAID_MONITOR: &[&[u8]] = &[
+    VALIDATES,
+    CREATES,
+    b"\xCA\x02\x00\x0D\x4B\x00\x00\x00\x00\x00\x00\x00\x01\x00\x00\x00\x88\x80\x00\x02\x05field\x80\x00\x00\x06record\x80\x00\x01\x08_options\x80\x00\x02\x09queueSize\x60\x08pipeline\x60\x014\x04true\x01\x00\x00\x00",
+    b"\xCA\x02\x00\x0D\x09\x00\x00\x00\x00\x00\x00\x00\x01\x00\x00\x00\x44",
+    b"\xCA\x02\x00\x0D\x0D\x00\x00\x00\x00\x00\x00\x00\x01\x00\x00\x00\x80\x01\x00\x00\x00",
+    ENDS,
 ];
 
 /// The same in big endian.
@@ -122,6 +186,29 @@ timeStamp.nanoseconds 0
 timeStamp.userTag 0
 ";
 
+/// What a put-get of 7 prints.
+const SEVEN: &str = "X
+value 7
+alarm.severity 0
+alarm.status 0
+alarm.message \"\"
+timeStamp.secondsPastEpoch 0
+timeStamp.nanoseconds 0
+timeStamp.userTag 0
+";
+
+/// What a monitor of the two updates prints.
+const UPDATES: &str = "X
+value 42
+alarm.severity 0
+alarm.status 0
+alarm.message \"\"
+timeStamp.secondsPastEpoch 0
+timeStamp.nanoseconds 0
+timeStamp.userTag 0
+value 6 overrun
+";
+
 fn joined(alloc: Global, parts: &[&[u8]]) -> Result<Vec<u8>, AllocError> {
     let mut bytes = Vec::new(alloc);
     for part in parts {
@@ -130,7 +217,7 @@ fn joined(alloc: Global, parts: &[&[u8]]) -> Result<Vec<u8>, AllocError> {
     Ok(bytes)
 }
 
-/// What the server sends to a get.
+/// What the server sends.
 #[derive(Clone, Copy)]
 enum Sends {
     /// It has X=42.
@@ -139,8 +226,16 @@ enum Sends {
     BigEndian,
     /// Its channel is a double, 1.0.
     Double,
+    /// The value before a put of X=42.
+    Present,
+    /// A put-get of X that gives 7.
+    Seven,
+    /// Two updates of X.
+    Updates,
     /// It has no such channel.
     Refusal,
+    /// It created another channel.
+    Unasked,
     /// The stream ends before a channel is created.
     Greeting,
     /// What follows the greeting begins no message.
@@ -154,7 +249,11 @@ fn sent(sends: Sends) -> &'static [&'static [u8]] {
         Sends::FortyTwo => SENT,
         Sends::BigEndian => SENT_BIG,
         Sends::Double => SENT_DOUBLE,
+        Sends::Present => SENT_PRESENT,
+        Sends::Seven => SENT_SEVEN,
+        Sends::Updates => SENT_UPDATES,
         Sends::Refusal => &[GREETING, VALIDATED, REFUSED],
+        Sends::Unasked => &[GREETING, VALIDATED, UNASKED],
         Sends::Greeting => &[GREETING, VALIDATED],
         Sends::Wrong => &[GREETING, WRONG],
         Sends::WrongBehind => &[GREETING, VALIDATED, CREATED, BEGUN, DESCRIPTION, GOT, WRONG],
@@ -171,6 +270,10 @@ enum Says {
     Get,
     /// The same in big endian.
     BigEndian,
+    /// All of a put-get of 7.
+    Seven,
+    /// All of a monitor of two updates, which acknowledges the first.
+    Monitor,
 }
 
 fn said(says: Says) -> &'static [&'static [u8]] {
@@ -179,6 +282,8 @@ fn said(says: Says) -> &'static [&'static [u8]] {
         Says::Channel => &[VALIDATES, CREATES],
         Says::Get => SAID,
         Says::BigEndian => SAID_BIG,
+        Says::Seven => SAID_SEVEN,
+        Says::Monitor => SAID_MONITOR,
     }
 }
 
@@ -192,6 +297,10 @@ enum Prints {
     FortyTwo,
     /// That X is 1.0.
     Double,
+    /// That X is 7.
+    Seven,
+    /// That X is 42, and then 6.
+    Updates,
 }
 
 fn printed(prints: Prints) -> &'static str {
@@ -200,6 +309,8 @@ fn printed(prints: Prints) -> &'static str {
         Prints::Name => "X\n",
         Prints::FortyTwo => FORTY_TWO,
         Prints::Double => "X\nbits:0x3ff0000000000000\n",
+        Prints::Seven => SEVEN,
+        Prints::Updates => UPDATES,
     }
 }
 
@@ -372,6 +483,59 @@ static ROWS: &[Row] = &[
         told: DONE,
         prints: Prints::FortyTwo,
         says: Says::BigEndian,
+    },
+    Row {
+        shows: "words that give no value of the channel",
+        words: &["--server", "10.0.0.7:5075", "put", "X", "abc"],
+        case: Case {
+            sends: Sends::Present,
+            ..SERVED
+        },
+        told: Told { status: 2, ..DONE },
+        prints: Prints::Name,
+        says: Says::Nothing,
+    },
+    Row {
+        shows: "a put-get over a link",
+        words: &["--server", "10.0.0.7:5075", "putget", "X", "7"],
+        case: Case {
+            sends: Sends::Seven,
+            ..SERVED
+        },
+        told: DONE,
+        prints: Prints::Seven,
+        says: Says::Seven,
+    },
+    Row {
+        shows: "a monitor over a link, whose first update is acknowledged",
+        words: &[
+            "--server",
+            "10.0.0.7:5075",
+            "monitor",
+            "--count",
+            "2",
+            "--pipeline",
+            "1",
+            "X",
+        ],
+        case: Case {
+            sends: Sends::Updates,
+            ..SERVED
+        },
+        told: DONE,
+        prints: Prints::Updates,
+        says: Says::Monitor,
+    },
+    Row {
+        shows: "a channel that wasn't asked for",
+        words: BY_SERVER,
+        case: Case {
+            sends: Sends::Unasked,
+            ..SERVED
+        },
+        told: Told { status: 5, ..DONE },
+        prints: Prints::Name,
+        says: Says::Nothing,
     },
     Row {
         shows: "a channel that is refused",
@@ -791,6 +955,7 @@ impl Dialer for WaitingDialer {
 #[test]
 fn a_link_that_idles_until_the_validation_was_written(rt: HostRuntime) -> Result<(), Fail> {
     let alloc = rt.alloc();
+    let words = ["--server", "10.0.0.7:5075", "--idle", "1000", "get", "X"];
     let mut world = world(alloc, &[], &[], &[])?;
     let said = joined(alloc, SAID)?;
     let mut network = Network {
@@ -802,7 +967,7 @@ fn a_link_that_idles_until_the_validation_was_written(rt: HostRuntime) -> Result
             ends: 0,
         },
     };
-    assert_eq!(rt; run(alloc, BY_SERVER, &mut world, &mut network), 0);
+    assert_eq!(rt; run(alloc, &words, &mut world, &mut network), 0);
     assert_eq!(rt; world.sink.written(), FORTY_TWO.as_bytes());
     assert_eq!(rt; network.dialer.written.as_slice(), said.as_slice());
     Ok(())

@@ -24,7 +24,7 @@ pub enum Outcome {
     Closed,
     /// The datagrams, the dialer or the link failed.
     Failed,
-    /// No server has the channel.
+    /// No server answered that it has the channel.
     Unfound,
     /// Nothing moved any more.
     Idle,

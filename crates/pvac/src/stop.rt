@@ -51,7 +51,7 @@ pub enum Status {
     Refused,
     /// The words aren't taken, or give no value of the channel.
     Words,
-    /// No server has the channel.
+    /// No server answered that it has the channel.
     Unfound,
     /// A file can't be read, a port can't be made, a print or the network failed, or the server's end closed before the operation
     /// ended.

@@ -325,6 +325,7 @@ fn runs_print_what_the_operation_tells(rt: HostRuntime) -> Result<(), Fail> {
 
 /// Runs whose bytes pass in pieces, each with its status and what it prints.
 static PIECEWISE: &[Row] = &[
+    (&["--within", "X=42", "info", "X"], 0, INFO),
     (
         &[
             "--within", "slide.db", "--macros", "P=BL:M1", "get", "BL:M1:G",
