@@ -3,9 +3,4 @@ mod Outcomes
 mod Command
 mod Rows
 mod Completing
-mod Pumping
-mod Uncounted
-mod Drawing
-mod Totalling
-mod Summing
 mod Served

@@ -3,6 +3,7 @@ use Rattle.std.proofs.Common.{◌≡◌, ℕ, ℤ, List, Option, None, Some, Res
 use Rattle.std.proofs.lemmas.Bool.{false≢true}
 use Rattle.pva_outside.specs.Count.{Rose}
 use Rattle.desk_api.specs.declared.history.SiteData.{SiteData}
+use Rattle.prog_drill.specs.Drilling.{TellsDrill, drill_lines}
 use Rattle.prog_source.specs.Opening.{Opens}
 use Rattle.pva_outside.specs.declared.peer.Peer.{Peer}
 use Rattle.pvaserve.specs.Running.{Checking, Does, Drilling, IsLeft, Outside, Runs, Serving, Tells, status_by}
@@ -81,6 +82,19 @@ runs_drill words asked n told old new status task taken drills files ports wire 
   files = files;
   unasked = record { ports_are = ports; wire = wire; status_is = refl };
 }))
+
+-- What is printed of a drill.
+pub drilled : (n : ℕ) (lines bytes : List ℕ) (old new : Option (List ℕ)) (faults faults' status : ℕ) (printed : Printed) → TellsDrill n lines → bytes ≡ lines → IsPrinted old new faults faults' bytes printed
+    → status ≡ status_by 0 printed → Drilling n old new faults faults' status
+drilled n lines bytes old new faults faults' status printed tells same prints is =
+    inl (
+      tells.run,
+      record {
+        printed = printed;
+        prints = subst (λ (l : List ℕ). IsPrinted old new faults faults' l printed) (same ∙ tells.lines_are) prints;
+        status_is = is;
+      },
+    )
 
 pub drilling_rose : (n : ℕ) (old new : Option (List ℕ)) (faults faults' status : ℕ) → Drilling n old new faults faults' status → status ≡ 6 → Rose faults faults'
 drilling_rose n old new faults faults' status (inl (run, told)) six = tells_rose _ 0 old new faults faults' status (λ e. absurd (omega (arith, e))) (inl told) six

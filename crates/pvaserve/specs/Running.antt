@@ -15,7 +15,7 @@ use Rattle.srv_stream.specs.Served.{Served}
 use Rattle.srv_stream.specs.Streams.{moment_told}
 use Rattle.srv_stream.specs.declared.ended.Ended.{Ended}
 use Rattle.srv_stream.specs.declared.ended.Ended.TheVariants as ends
-use Rattle.pvaserve.specs.Drilling.{DrillRun, drill_lines}
+use Rattle.prog_drill.specs.Drilling.{DrillRun, drill_lines}
 use Rattle.prog_source.specs.Opening.{Opens, AllMade, OneUnmade, SomeMade}
 use Rattle.pvaserve.specs.Telling.{counts_line, fault_line}
 use Rattle.prog_source.specs.Printing.{IsPrinted}

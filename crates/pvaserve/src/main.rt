@@ -2,9 +2,6 @@
 //! it checks the text, or drills itself.
 #![tactic(auto)]
 
-mod counting;
-mod drill_client;
-mod drilling;
 mod program;
 mod server;
 mod telling;

@@ -2,18 +2,18 @@
 ghost use Rattle.std.specs.Prelude.{◌≡◌, ◌⊎◌, IfSome, length, map};
 ghost use Rattle.pva_outside.specs.Count.{Rose};
 ghost use Rattle.desk_core.specs.Ports.{ports_there, ports_wanted};
-ghost use Rattle.pvaserve.specs.Running.{Checking, RunsAlone, Serves, Serving, SiteServes, Tells};
+ghost use Rattle.pvaserve.specs.Running.{Checking, Drilling, RunsAlone, Serves, Serving, SiteServes, Tells};
 ghost use Rattle.pvaserve.specs.Completeness.{Completes};
 ghost use Rattle.pvaserve.specs.Running as running;
 ghost use Rattle.pvaserve.specs.Telling.{counts_line, fault_line};
 ghost use Rattle.pvaserve.specs.Words as words;
 ghost use Rattle.srv_stream.specs.Faults.{EndsAtFirstFault, FirstFault};
 
-use crate::drilling::drill;
 use crate::telling::{line_of_fault, line_of_site};
 use crate::words::{Asked, Task, WordsStop, read_words};
-use desk_api::{Site, SiteFault};
+use desk_api::{Moment, Site, SiteFault};
 use desk_core::SoloDesk;
+use prog_drill::drill;
 use prog_source::{PortsStop, Printed, SourceStop, make_ports, print, read_site};
 use pva_outside::{Clock, Kinds, Link, Port, PortMaker, Sink, World};
 use srv_stream::{Ended, serve_connection};
@@ -107,7 +107,7 @@ fn serve_site<M: PortMaker, L: Link, C: Clock>(
 }
 
 /// The status that tells what became of a line, where this one tells that it was printed whole.
-pub(crate) fn status_by(whole: u8, printed: Printed) -> u8
+fn status_by(whole: u8, printed: Printed) -> u8
     ensures { result ≡ running.status_by whole printed }
 {
     match printed {
@@ -115,6 +115,17 @@ pub(crate) fn status_by(whole: u8, printed: Printed) -> u8
         Printed::Failed => Status::Outside as u8,
         Printed::NoMemory => Status::NoMemory as u8,
     }
+}
+
+/// Runs the drill of this number, and prints what it comes to.
+fn run_drill<C: Clock, S: Sink>(alloc: Global, number: u64, clock: &C, sink: &mut S) -> u8
+    ensures { Drilling number (S.written sink.old) (S.written sink.new) (S.faults sink.old) (S.faults sink.new) result }
+{
+    let (seconds, nanoseconds) = clock.now();
+    let Ok(lines) = drill(alloc, number, Moment::new(seconds, nanoseconds)) else {
+        return Status::NoMemory as u8;
+    };
+    status_by(Status::Done as u8, print(sink, lines.as_bytes()))
 }
 
 /// Prints what a site has.
@@ -201,7 +212,7 @@ pub fn run_alone<W: Kinds>(alloc: Global, words: &[&str], world: &mut World<W>) 
         Err(WordsStop::NoMemory) => return Some(Status::NoMemory as u8),
     };
     match asked.task {
-        Task::Drill(number) => Some(drill(alloc, number, &world.clock, &mut world.sink)),
+        Task::Drill(number) => Some(run_drill(alloc, number, &world.clock, &mut world.sink)),
         Task::Check => {
             let Some(source) = asked.source else {
                 return Some(Status::Words as u8);

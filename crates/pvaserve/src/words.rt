@@ -20,7 +20,7 @@ use pvd_type::{Name, NoMemory};
 use std::alloc::{AllocError, Global};
 
 /// What the entries of the history may weigh together, unless the words say otherwise.
-pub(crate) const JOURNAL: u64 = 268_435_456;
+const JOURNAL: u64 = 268_435_456;
 
 /// How many calls of the link one connection may take, at the most.
 const TURNS: u64 = 1 << 62;

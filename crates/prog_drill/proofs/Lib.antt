@@ -1,0 +1,5 @@
+mod Pumping
+mod Uncounted
+mod Drawing
+mod Totalling
+mod Summing

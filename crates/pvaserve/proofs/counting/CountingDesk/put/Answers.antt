@@ -1,5 +1,0 @@
-use Rattle.pvaserve.proofs.Uncounted.{by_put}
-use Rattle.pvaserve.proofs.counting.CountingDesk.put.Goals as goal
-
-pub invariant_of-self : goal.invariant_of-self
-invariant_of-self c = record { counted = by_put _ _ c.args.self.now.updates _ _ c.put.ensures.calls c.args.self.now.counted }

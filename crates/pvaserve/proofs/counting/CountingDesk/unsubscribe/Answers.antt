@@ -1,5 +1,0 @@
-use Rattle.pvaserve.proofs.Uncounted.{by_ending}
-use Rattle.pvaserve.proofs.counting.CountingDesk.unsubscribe.Goals as goal
-
-pub invariant_of-self : goal.invariant_of-self
-invariant_of-self c = record { counted = by_ending _ _ c.args.self.now.updates _ c.unsubscribe.ensures.calls c.args.self.now.counted }
