@@ -18,21 +18,21 @@ use Rattle.cli_session.specs.declared.fault.ClientFault.TheVariants as faults
 use Rattle.srv_stream.specs.Moves.{Moves}
 use Rattle.pvac.specs.Dialing.{AtClosed, AtTold, HasOperated, IsSound, IsUndialed, Operates, name_line}
 use Rattle.pvac.specs.Networking.{GoesOn, Seeks, patience_left, plan_of, status_of}
-use Rattle.pvac.specs.Running.{status_of_fault, status_of_stop}
-use Rattle.pvac.specs.Ends.{HasPrinted, text_for}
+use Rattle.cli_within.specs.Running.{status_of_fault, status_of_stop}
+use Rattle.cli_within.specs.Ends.{HasPrinted, text_for}
 use Rattle.pvac.specs.Statuses.{FaultlessRunsEnd, HasBadBytes, HasBadWords, HasReadBad, IsCause, IsClosed, IsSearchedInVain, IsSpent, IsWhole, MayEnd, MaySearch, MeetsNoFault, StatusesHaveCauses, datagrams_in}
-use Rattle.pvac.specs.Telling.{Puts}
+use Rattle.cli_within.specs.Telling.{Puts}
 use Rattle.pvac.specs.declared.networking.Route.{Route}
 use Rattle.pvac.specs.declared.networking.Route.TheVariants as routes
 use Rattle.pvac.specs.declared.outcome.Outcome.{Outcome}
 use Rattle.pvac.specs.declared.outcome.Outcome.TheVariants as outcomes
 use Rattle.pvac.specs.declared.outcome.Patience.{Patience}
-use Rattle.pvac.specs.declared.stop.Ending.{Ending}
-use Rattle.pvac.specs.declared.stop.Ending.TheVariants as endings
-use Rattle.pvac.specs.declared.stop.Status.{Status}
-use Rattle.pvac.specs.declared.stop.Status.TheVariants as status
-use Rattle.pvac.specs.declared.stop.Stop.{Stop}
-use Rattle.pvac.specs.declared.stop.Stop.TheVariants as stops
+use Rattle.cli_within.specs.declared.stop.Ending.{Ending}
+use Rattle.cli_within.specs.declared.stop.Ending.TheVariants as endings
+use Rattle.cli_within.specs.declared.stop.Status.{Status}
+use Rattle.cli_within.specs.declared.stop.Status.TheVariants as status
+use Rattle.cli_within.specs.declared.stop.Stop.{Stop}
+use Rattle.cli_within.specs.declared.stop.Stop.TheVariants as stops
 
 -- Counts of a link that was taken back.
 

@@ -11,21 +11,21 @@ use Rattle.cli_session.specs.Text.{client_text}
 use Rattle.cli_session.specs.declared.ask.Ask.{Ask}
 use Rattle.srv_stream.specs.Moves.{Moves}
 use Rattle.pvac.specs.Dialing.{HasConversed, IsSound, IsUndone, name_line, said_to}
-use Rattle.pvac.specs.Ends.{Begins, ClientView, HasPrinted, HasTaken, events_in, text_for}
-use Rattle.pvac.specs.Exchanging.{ended_by}
+use Rattle.cli_within.specs.Ends.{Begins, ClientView, HasPrinted, HasTaken, events_in, text_for}
+use Rattle.cli_within.specs.Exchanging.{ended_by}
 use Rattle.pvac.specs.LinkCalls.{IsDone, IsDue, IsDueWithin, IsOpen, IsQuiet, ReadOn, ReadsSome, Turns, WritesSome, Wrote, idles_after}
 use Rattle.pvac.specs.declared.dialing.Due.{Due}
 use Rattle.pvac.specs.declared.dialing.Due.TheVariants as dues
 use Rattle.pvac.specs.declared.outcome.Outcome.{Outcome}
 use Rattle.pvac.specs.declared.outcome.Outcome.TheVariants as outcomes
 use Rattle.pvac.specs.declared.outcome.Patience.{Patience}
-use Rattle.pvac.specs.declared.stop.Ending.{Ending}
-use Rattle.pvac.specs.declared.stop.Stop.{Stop}
-use Rattle.pvac.specs.declared.stop.Stop.TheVariants as stops
-use Rattle.pvac.proofs.Hearing.{begins_so}
+use Rattle.cli_within.specs.declared.stop.Ending.{Ending}
+use Rattle.cli_within.specs.declared.stop.Stop.{Stop}
+use Rattle.cli_within.specs.declared.stop.Stop.TheVariants as stops
+use Rattle.cli_within.proofs.Hearing.{begins_so}
 use Rattle.pvac.proofs.Moving.{all_read, moves_got, moves_nothing, moves_rest, moves_took}
-use Rattle.pvac.proofs.Printed.{part_of_printed}
-use Rattle.pvac.proofs.Resting.{rests}
+use Rattle.cli_within.proofs.Printed.{part_of_printed}
+use Rattle.cli_within.proofs.Resting.{rests}
 
 -- What passed so far behind these calls of the link, in the last of which nothing moved so often.
 pub record Conversing (ask : Ask) (begin wire : Wire) (start now : Option (List ℕ)) (before after : ℕ) (v : ClientView) (calls idles : ℕ) : Type 0 where

@@ -9,13 +9,13 @@ use Rattle.prog_source.specs.Words.{AreMacrosOr, IsCountOr}
 use Rattle.pvac.specs.Networking.{CanSeek}
 use Rattle.pvac.specs.Over.{ArePatience, AreWanted, AsksOver, IsSourced, IsWanted, OthersAre}
 use Rattle.pvac.specs.Routes.{IsRoute, RouteIs}
-use Rattle.pvac.specs.Words.{AsksFor, given, most, word_faults, word_rows}
+use Rattle.cli_within.specs.Words.{AsksFor, given, most, word_faults, word_rows}
 use Rattle.pvac.specs.declared.networking.Route.{Route}
 use Rattle.pvac.specs.declared.outcome.Patience.{Patience}
 use Rattle.pvac.specs.declared.over_words.AskedOver.{AskedOver}
 use Rattle.pvac.specs.declared.over_words.Wanted.{Wanted}
 use Rattle.pvac.specs.declared.over_words.Wanted.TheVariants as wants
-use Rattle.pvac.proofs.Command.{refused_faulty}
+use Rattle.cli_within.proofs.Command.{refused_faulty}
 
 -- Why what is given asks for nothing over the network.
 

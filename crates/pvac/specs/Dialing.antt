@@ -11,14 +11,14 @@ use Rattle.cli_session.specs.Steps.{client_bytes, client_fault}
 use Rattle.cli_session.specs.declared.ask.Ask.{Ask}
 use Rattle.srv_stream.specs.Moves.{Moves, IsAll}
 use Rattle.srv_stream.specs.Served.{IsProperPrefixOf}
-use Rattle.pvac.specs.Ends.{events_in, text_for, Begins, HasPrinted, HasStopped}
-use Rattle.pvac.specs.Exchanging.{ended_by}
+use Rattle.cli_within.specs.Ends.{events_in, text_for, Begins, HasPrinted, HasStopped}
+use Rattle.cli_within.specs.Exchanging.{ended_by}
 use Rattle.pvac.specs.declared.outcome.Outcome.{Outcome}
 use Rattle.pvac.specs.declared.outcome.Outcome.TheVariants as outcomes
 use Rattle.pvac.specs.declared.outcome.Patience.{Patience}
-use Rattle.pvac.specs.declared.stop.Ending.{Ending}
-use Rattle.pvac.specs.declared.stop.Stop.{Stop}
-use Rattle.pvac.specs.declared.stop.Stop.TheVariants as stops
+use Rattle.cli_within.specs.declared.stop.Ending.{Ending}
+use Rattle.cli_within.specs.declared.stop.Stop.{Stop}
+use Rattle.cli_within.specs.declared.stop.Stop.TheVariants as stops
 
 -- all that the client says to these bytes of the server
 abbrev pub said_to : Ask → List ℕ → List ℕ

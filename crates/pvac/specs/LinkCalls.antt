@@ -2,15 +2,15 @@
 use Rattle.std.specs.Prelude.{◌≡◌, ◌⊎◌, ℕ, ◌+◌, ◌<◌, ◌≤◌, Bool, true, false, List, [], ◌++◌, length, take, Option, None, Some, Result, Ok, Err}
 use Rattle.pva_outside.specs.Wire.{Wire, CameToEnd, Failed, Gave, Idled, Taken, Unchanged}
 use Rattle.cli_session.specs.declared.ask.Ask.{Ask}
-use Rattle.pvac.specs.Ends.{ClientView, HasPrinted, HasTaken, Hears, text_for}
+use Rattle.cli_within.specs.Ends.{ClientView, HasPrinted, HasTaken, Hears, text_for}
 use Rattle.pvac.specs.declared.dialing.Due.{Due}
 use Rattle.pvac.specs.declared.dialing.Due.TheVariants as dues
 use Rattle.pvac.specs.declared.outcome.Outcome.{Outcome}
 use Rattle.pvac.specs.declared.outcome.Outcome.TheVariants as outcomes
 use Rattle.pvac.specs.declared.outcome.Patience.{Patience}
-use Rattle.pvac.specs.declared.stop.Ending.{Ending}
-use Rattle.pvac.specs.declared.stop.Stop.{Stop}
-use Rattle.pvac.specs.declared.stop.Stop.TheVariants as stops
+use Rattle.cli_within.specs.declared.stop.Ending.{Ending}
+use Rattle.cli_within.specs.declared.stop.Stop.{Stop}
+use Rattle.cli_within.specs.declared.stop.Stop.TheVariants as stops
 
 -- how often nothing moved since the last byte, behind a further call
 abbrev pub idles_after : ℕ → Bool → ℕ

@@ -9,19 +9,19 @@ use Rattle.cli_search.specs.declared.plan.Searched.{Searched}
 use Rattle.cli_search.specs.declared.plan.Searched.TheVariants as ends
 use Rattle.cli_session.specs.declared.ask.Ask.{Ask}
 use Rattle.pvac.specs.Dialing.{Operates, name_line}
-use Rattle.pvac.specs.Ends.{HasPrinted}
-use Rattle.pvac.specs.Running.{status_of_stop}
-use Rattle.pvac.specs.Telling.{Puts}
+use Rattle.cli_within.specs.Ends.{HasPrinted}
+use Rattle.cli_within.specs.Running.{status_of_stop}
+use Rattle.cli_within.specs.Telling.{Puts}
 use Rattle.pvac.specs.declared.networking.Route.{Route}
 use Rattle.pvac.specs.declared.networking.Route.TheVariants as routes
 use Rattle.pvac.specs.declared.outcome.Outcome.{Outcome}
 use Rattle.pvac.specs.declared.outcome.Outcome.TheVariants as outcomes
 use Rattle.pvac.specs.declared.outcome.Patience.{Patience}
-use Rattle.pvac.specs.declared.stop.Ending.TheVariants as endings
-use Rattle.pvac.specs.declared.stop.Status.{Status}
-use Rattle.pvac.specs.declared.stop.Status.TheVariants as status
-use Rattle.pvac.specs.declared.stop.Stop.{Stop}
-use Rattle.pvac.specs.declared.stop.Stop.TheVariants as stops
+use Rattle.cli_within.specs.declared.stop.Ending.TheVariants as endings
+use Rattle.cli_within.specs.declared.stop.Status.{Status}
+use Rattle.cli_within.specs.declared.stop.Status.TheVariants as status
+use Rattle.cli_within.specs.declared.stop.Stop.{Stop}
+use Rattle.cli_within.specs.declared.stop.Stop.TheVariants as stops
 
 -- the exit status
 abbrev pub status_of : Outcome → Status

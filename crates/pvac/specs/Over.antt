@@ -7,15 +7,15 @@ use Rattle.pva_outside.specs.Traffic.{DatagramsView}
 use Rattle.prog_source.specs.Words.{AreMacrosOr, IsCountOr}
 use Rattle.pvac.specs.Networking.{Networks, status_of}
 use Rattle.pvac.specs.Routes.{RouteIs}
-use Rattle.pvac.specs.Running.{Outside, Runs, number_of}
-use Rattle.pvac.specs.Words.{AsksFor, given, most, word_faults, word_rows}
+use Rattle.cli_within.specs.Running.{Outside, Runs, number_of}
+use Rattle.cli_within.specs.Words.{AsksFor, given, most, word_faults, word_rows}
 use Rattle.pvac.specs.declared.outcome.Outcome.{Outcome}
 use Rattle.pvac.specs.declared.outcome.Patience.{Patience}
 use Rattle.pvac.specs.declared.networking.Route.{Route}
 use Rattle.pvac.specs.declared.over_words.AskedOver.{AskedOver}
 use Rattle.pvac.specs.declared.over_words.Wanted.{Wanted}
 use Rattle.pvac.specs.declared.over_words.Wanted.TheVariants as wants
-use Rattle.pvac.specs.declared.stop.Status.{Status}
+use Rattle.cli_within.specs.declared.stop.Status.{Status}
 
 -- How long a search and an operation go on.
 pub record ArePatience (rows : List Row) (p : Patience) : Type 0 where

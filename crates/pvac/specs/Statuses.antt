@@ -17,18 +17,18 @@ use Rattle.pva_frames.specs.Assembled.{fault_from}
 use Rattle.pva_frames.specs.declared.fault.FrameFault.{FrameFault}
 use Rattle.srv_stream.specs.Moves.{IsAll, Moves}
 use Rattle.pvac.specs.Dialing.{IsSound, said_to}
-use Rattle.pvac.specs.Ends.{Begins, HasPrinted, events_in, text_for}
-use Rattle.pvac.specs.Exchanging.{ended_by}
+use Rattle.cli_within.specs.Ends.{Begins, HasPrinted, events_in, text_for}
+use Rattle.cli_within.specs.Exchanging.{ended_by}
 use Rattle.pvac.specs.Networking.{Networks, plan_of, status_of}
-use Rattle.pvac.specs.Running.{status_of_fault}
+use Rattle.cli_within.specs.Running.{status_of_fault}
 use Rattle.pvac.specs.declared.networking.Route.{Route}
 use Rattle.pvac.specs.declared.networking.Route.TheVariants as routes
 use Rattle.pvac.specs.declared.outcome.Outcome.{Outcome}
 use Rattle.pvac.specs.declared.outcome.Patience.{Patience}
-use Rattle.pvac.specs.declared.stop.Ending.{Ending}
-use Rattle.pvac.specs.declared.stop.Ending.TheVariants as endings
-use Rattle.pvac.specs.declared.stop.Status.{Status}
-use Rattle.pvac.specs.declared.stop.Status.TheVariants as status
+use Rattle.cli_within.specs.declared.stop.Ending.{Ending}
+use Rattle.cli_within.specs.declared.stop.Ending.TheVariants as endings
+use Rattle.cli_within.specs.declared.stop.Status.{Status}
+use Rattle.cli_within.specs.declared.stop.Status.TheVariants as status
 
 -- A link was dialed and taken back, which gave and took these bytes.
 pub record HasMoved (old new : DialerView) (read written : List ℕ) : Type 0 where

@@ -6,8 +6,7 @@ ghost use Rattle.pvac.specs.Over.{Ran, RunsOver};
 use crate::networking::run_over_network;
 use crate::outcome::status_of_outcome;
 use crate::over_words::{AskedOver, Wanted, read_wanted};
-use crate::program;
-use crate::stop::Status;
+use cli_within::Status;
 use pva_outside::{Datagrams, Dialer, Kinds, Sink, World};
 use std::alloc::Global;
 
@@ -52,7 +51,7 @@ fn run_over<G: Datagrams + Drop, D: Dialer + Drop, S: Sink>(
 ///
 /// `OP NAME [VALUE ..]` runs one operation of a client (`get`, `put`, `putget`, `monitor`, `info`, `call`) on the channel NAME, and prints
 /// NAME and then the lines of what the operation tells. With `--server A.B.C.D:PORT` it dials that server; without it, it searches for
-/// the channel first. With `--within SOURCE` it runs against a server inside the program, as `program::run` says, and no
+/// the channel first. With `--within SOURCE` it runs against a server inside the program, as `cli_within::run` says, and no
 /// network is used. The first fault is told by the status alone.
 pub fn run<W: Kinds, G: Datagrams + Drop, D: Dialer + Drop>(
     alloc: Global,
@@ -70,7 +69,7 @@ pub fn run<W: Kinds, G: Datagrams + Drop, D: Dialer + Drop>(
             Wanted::OverNetwork(asked) => {
                 run_over(alloc, asked, network, &mut world.sink).number()
             }
-            Wanted::Within => program::run(alloc, words, world),
+            Wanted::Within => cli_within::run(alloc, words, world),
             Wanted::Refused => Status::Words.number(),
         },
         Err(_) => Status::NoMemory.number(),

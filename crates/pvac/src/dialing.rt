@@ -3,13 +3,12 @@ ghost use Rattle.std.specs.Prelude.{◌≡◌, ◌<◌, [], ℕ, List, Option, t
 ghost use Rattle.pva_outside.specs.Dials.{DialerView, HasDialed};
 ghost use Rattle.cli_session.specs.declared.ask.Ask.{Ask as AskSaid};
 ghost use Rattle.pvac.specs.Dialing.{HasConversed, Operates, name_line};
-ghost use Rattle.pvac.specs.Ends.{HasPrinted, HasTaken, client_view};
+ghost use Rattle.cli_within.specs.Ends.{HasPrinted, HasTaken, client_view};
 ghost use Rattle.pvac.specs.LinkCalls.{IsDone, IsDue, IsDueWithin, ReadsSome, WritesSome, Turns, idles_after};
 
-use crate::client_end::ClientEnd;
 use crate::outcome::{Outcome, Patience};
-use crate::stop::{Ending, Stop};
 use cli_session::Ask;
+use cli_within::{ClientEnd, Ending, Stop};
 use pva_outside::{DialStep, Dialer, Link, Peer, ReadStep, Sink, WriteStep};
 use std::alloc::Global;
 

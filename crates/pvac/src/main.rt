@@ -2,30 +2,21 @@
 #![tactic(auto)]
 
 mod client;
-mod client_end;
 #[cfg(test)]
 mod client_tests;
 mod dialing;
-mod fields;
-mod laws;
 mod network_laws;
 #[cfg(test)]
 mod network_tests;
 mod networking;
 mod outcome;
 mod over_words;
-mod program;
-mod rounds;
 mod routes;
-mod server_end;
-mod stop;
 #[cfg(test)]
 mod tests;
-mod verb;
-mod words;
 
 use crate::client::{Network, run};
-use crate::stop::Status;
+use cli_within::Status;
 use pva_net::{TcpDialer, UdpDatagrams};
 use pva_outside::{FilePorts, Kinds, PlainLink, StreamSink, SystemClock, SystemFiles, World};
 use std::alloc::{AllocError, Global};

@@ -1,15 +1,14 @@
 // An operation over the network: the search for the channel's server, the dial, and what then passes over the link.
 ghost use Rattle.std.specs.Prelude.{◌≡◌, ◌≤◌, ℕ, List, Option, length};
 ghost use Rattle.pvac.specs.Dialing.{name_line};
-ghost use Rattle.pvac.specs.Ends.{HasPrinted};
+ghost use Rattle.cli_within.specs.Ends.{HasPrinted};
 ghost use Rattle.pvac.specs.Networking.{CanSeek, Networks, Seeks, Takes};
 
-use crate::client_end::print_name;
 use crate::dialing::operate;
 use crate::outcome::{Outcome, Patience};
-use crate::stop::Stop;
 use cli_search::{Plan, Searched, find};
 use cli_session::Ask;
+use cli_within::{Stop, print_name};
 use pva_outside::{Datagrams, Dialer, Peer, Sink};
 use std::alloc::Global;
 

@@ -2,7 +2,7 @@
 ghost use Rattle.std.specs.Prelude.{◌≡◌};
 ghost use Rattle.pvac.specs.Networking as networking;
 
-use crate::stop::{Ending, Status, Stop, status_of_stop};
+use cli_within::{Ending, Status, Stop, status_of_stop};
 
 /// How long an operation over a link goes on.
 #[derive(Clone, Copy, Debug, PartialEq, Eq)]

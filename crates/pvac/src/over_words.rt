@@ -3,7 +3,7 @@ ghost use Rattle.std.specs.Prelude.{◌≡◌, ◌≢◌, None, IfOk, MatchOptio
 ghost use Rattle.clap.specs.Words.{found_of, rows_of};
 ghost use Rattle.pvac.specs.Over.{ArePatience, AreWanted, AsksOver, IsWanted, TellOthers};
 ghost use Rattle.pvac.specs.Routes.{RouteIs};
-ghost use Rattle.pvac.specs.Words.{given};
+ghost use Rattle.cli_within.specs.Words.{given};
 ghost use Rattle.pvac.specs.declared.networking.Route.{Route as RouteSaid};
 ghost use Rattle.pvac.specs.declared.outcome.Patience.{Patience as PatienceSaid};
 ghost use Rattle.pvac.specs.declared.over_words.AskedOver.{AskedOver as AskedSaid};
@@ -11,11 +11,9 @@ ghost use Rattle.pvac.specs.declared.over_words.AskedOver.{AskedOver as AskedSai
 use crate::networking::Route;
 use crate::outcome::Patience;
 use crate::routes::route_of;
-use crate::words::{
-    MOST, TURNS, WordsStop, ask_in, count_of, given, macros_in, matches_of, stop_of,
-};
 use clap::ArgMatches;
 use cli_session::Ask;
+use cli_within::{MOST, TURNS, WordsStop, ask_in, count_of, given, macros_in, matches_of, stop_of};
 use pvd_type::NoMemory;
 use std::alloc::Global;
 

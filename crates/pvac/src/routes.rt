@@ -5,8 +5,8 @@ ghost use Rattle.pva_outside.specs.declared.peer.Peer.{Peer as PeerSaid};
 ghost use Rattle.pvac.specs.Routes.{AreEnds, IsAddress, IsAddressOr, IsHost, IsIpv4, RouteIs, this_machine};
 ghost use Rattle.pvac.specs.declared.networking.Route.{Route as RouteSaid};
 
-use crate::fields::pieces;
 use crate::networking::Route;
+use cli_within::pieces;
 use prog_source::count_within;
 use pva_outside::Peer;
 use pvd_type::NoMemory;

@@ -1,7 +1,5 @@
-use crate::client_end::ClientEnd;
-use crate::program::run;
-use crate::stop::{End, Ending, status_of};
 use cli_session::{Ask, Operation};
+use cli_within::{ClientEnd, End, Ending, run, status_of};
 use pva_outside::{
     FixedClock, Kinds, MemoryFile, MemoryFiles, MemoryPorts, MemorySink, PlainLink, World,
 };

@@ -1,5 +1,5 @@
 use Rattle.std.proofs.Common.{ℕ, ◌+◌, ◌≤◌, sym, subst, arith}
-use Rattle.pvac.specs.Ends.{client_view}
+use Rattle.cli_within.specs.Ends.{client_view}
 use Rattle.pvac.proofs.Conversing.{Conversing, conversing_ended, conversing_on, conversing_start, conversing_stopped, idles_within}
 use Rattle.pvac.proofs.dialing.converse.Goals as goal
 

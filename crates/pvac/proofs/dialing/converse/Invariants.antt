@@ -1,7 +1,7 @@
 use Rattle.std.proofs.Common.{ℕ, ◌≤◌, ◌-◌, List, [], Option}
 use Rattle.cli_session.specs.declared.ask.Ask.{Ask}
 use Rattle.pvac.specs.Dialing.{name_line}
-use Rattle.pvac.specs.Ends.{HasPrinted, HasTaken, client_view}
+use Rattle.cli_within.specs.Ends.{HasPrinted, HasTaken, client_view}
 use Rattle.pvac.proofs.Conversing.{Conversing}
 use Rattle.pvac.proofs.dialing.converse.Given as goal
 

@@ -1,5 +1,5 @@
 use Rattle.std.proofs.Common.{inl}
-use Rattle.pvac.specs.Ends.{client_view}
+use Rattle.cli_within.specs.Ends.{client_view}
 use Rattle.pvac.proofs.Conversing.{done_so}
 use Rattle.pvac.proofs.dialing.done.Goals as goal
 

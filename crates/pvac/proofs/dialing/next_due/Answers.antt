@@ -1,4 +1,4 @@
-use Rattle.pvac.specs.Ends.{client_view}
+use Rattle.cli_within.specs.Ends.{client_view}
 use Rattle.pvac.proofs.Conversing.{due_so}
 use Rattle.pvac.proofs.dialing.next_due.Goals as goal
 

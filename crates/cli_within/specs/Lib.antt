@@ -1,0 +1,12 @@
+pub mod Words
+pub mod Asking
+pub mod Answers
+pub mod Updates
+pub mod Ends
+pub mod Telling
+pub mod Serving
+pub mod Rounding
+pub mod Exchanging
+pub mod Running
+pub mod Clear
+pub mod Laws

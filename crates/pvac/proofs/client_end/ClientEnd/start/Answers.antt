@@ -1,6 +1,0 @@
-use Rattle.std.proofs.Common.{refl}
-use Rattle.pvac.proofs.Ready.{taken_nothing}
-use Rattle.pvac.proofs.client_end.ClientEnd.start.Goals as goal
-
-pub returns : goal.returns
-returns c = taken_nothing c.args.ask _ c.start.ensures.ask c.start.ensures.stands c.new.ensures refl

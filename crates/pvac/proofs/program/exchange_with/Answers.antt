@@ -1,8 +1,0 @@
-use Rattle.pvac.proofs.Making.{has_not_run, has_run}
-use Rattle.pvac.proofs.program.exchange_with.Goals as goal
-
-pub returns-in_default : goal.returns-in_default
-returns-in_default g c = has_not_run _ _ _ _ _ _
-
-pub returns : goal.returns
-returns g c = has_run _ _ _ _ _ _ _ _ c.exchange.result c.in-Ok.desk.log c.exchange.new.desk.log c.in-Ok.ensures.seat c.exchange.ensures c.exchange.new.desk.stands.own
