@@ -38,11 +38,11 @@ use Rattle.cli_within.specs.declared.stop.End.TheVariants as ends
 use Rattle.cli_within.specs.declared.stop.Ending.{Ending}
 use Rattle.cli_within.specs.declared.stop.Stop.{Stop}
 use Rattle.cli_within.specs.declared.stop.Stop.TheVariants as stops
-use Rattle.cli_within.proofs.Finishing.{endings_told, folds_behind, folds_ended, none_at_first}
+use Rattle.srv_stream.proofs.Finishing.{endings_told, folds_behind, folds_ended, none_at_first}
 use Rattle.cli_within.proofs.Hearing.{stopped_print}
-use Rattle.cli_within.proofs.Passing.{none_left_there}
+use Rattle.srv_stream.proofs.Passing.{none_left_there}
 use Rattle.cli_within.proofs.Printed.{part_of_printed, printed_nothing, puts_as}
-use Rattle.cli_within.proofs.Resting.{rests}
+use Rattle.srv_stream.proofs.Resting.{rests}
 use Rattle.cli_within.proofs.Rounding.{begins_now}
 use Rattle.cli_within.proofs.Serving.{served_first}
 

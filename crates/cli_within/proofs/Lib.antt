@@ -5,9 +5,6 @@ mod Growing
 pub mod Printed
 pub mod Hearing
 mod Ready
-pub mod Resting
-mod Passing
-mod Finishing
 mod Telling
 mod Serving
 mod Rounding

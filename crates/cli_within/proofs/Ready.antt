@@ -17,9 +17,9 @@ use Rattle.cli_within.specs.declared.stop.Stop.{Stop}
 use Rattle.cli_within.specs.declared.stop.Stop.TheVariants as stops
 use Rattle.cli_within.proofs.Growing.{text_grows}
 use Rattle.cli_within.proofs.Hearing.{begins_so, begins_with}
-use Rattle.cli_within.proofs.Passing.{joined}
+use Rattle.srv_stream.proofs.Passing.{joined}
 use Rattle.cli_within.proofs.Printed.{part_of_printed}
-use Rattle.cli_within.proofs.Resting.{rests}
+use Rattle.srv_stream.proofs.Resting.{rests}
 
 -- What was heard so far of what stood ready.
 pub record ReadySoFar (old now : ClientView) (w w' : Option (List ℕ)) (n n' : ℕ) : Type 0 where

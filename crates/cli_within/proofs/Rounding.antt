@@ -25,7 +25,7 @@ use Rattle.cli_within.specs.declared.stop.Stop.{Stop}
 use Rattle.cli_within.specs.declared.stop.Stop.TheVariants as stops
 use Rattle.cli_within.proofs.Hearing.{begins_so}
 use Rattle.cli_within.proofs.Printed.{part_of_printed, printed_as}
-use Rattle.cli_within.proofs.Resting.{rests}
+use Rattle.srv_stream.proofs.Resting.{rests}
 use Rattle.cli_within.proofs.Serving.{served_first, served_took}
 
 -- what is given of the bytes that there are

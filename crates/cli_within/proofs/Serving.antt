@@ -30,9 +30,9 @@ use Rattle.srv_stream.specs.Views.{first_view}
 use Rattle.srv_stream.specs.declared.ended.Ended.{Ended}
 use Rattle.srv_stream.specs.declared.ended.Ended.TheVariants as ends
 use Rattle.cli_within.specs.Serving.{HasServed, HasBroken, Closes, Serves, Fills}
-use Rattle.cli_within.proofs.Finishing.{next_slots, next_told, pops_events, pops_slots, pops_told, sends_bytes}
-use Rattle.cli_within.proofs.Passing.{fed_on_more, fed_part_more, fed_up_to_more}
-use Rattle.cli_within.proofs.Resting.{rests}
+use Rattle.srv_stream.proofs.Finishing.{next_slots, next_told, pops_events, pops_slots, pops_told, sends_bytes}
+use Rattle.srv_stream.proofs.Passing.{fed_on_more, fed_part_more, fed_up_to_more}
+use Rattle.srv_stream.proofs.Resting.{rests}
 
 -- Without trouble each event was answered, and no header refused.
 untroubled : (site : SiteData) (s : State) (remaining : List Event) (left : Result Unfinished FrameFault) → Stands site s remaining left None → (remaining ≡ []) × (refused left ≡ None)

@@ -25,7 +25,7 @@ use Rattle.cli_within.specs.declared.stop.Stop.TheVariants as stops
 use Rattle.cli_within.proofs.Hearing.{begins_so}
 use Rattle.pvac.proofs.Moving.{all_read, moves_got, moves_nothing, moves_rest, moves_took}
 use Rattle.cli_within.proofs.Printed.{part_of_printed}
-use Rattle.cli_within.proofs.Resting.{rests}
+use Rattle.srv_stream.proofs.Resting.{rests}
 
 -- What passed so far behind these calls of the link, in the last of which nothing moved so often.
 pub record Conversing (ask : Ask) (begin wire : Wire) (start now : Option (List ℕ)) (before after : ℕ) (v : ClientView) (calls idles : ℕ) : Type 0 where

@@ -1,6 +1,6 @@
-mod Resting
-mod Passing
-mod Finishing
+pub mod Resting
+pub mod Passing
+pub mod Finishing
 mod Feeding
 mod Moving
 mod Stopping
