@@ -5,7 +5,6 @@ mod Growing
 pub mod Printed
 pub mod Hearing
 mod Ready
-mod Telling
 mod Serving
 mod Rounding
 mod Exchanged

@@ -1,7 +1,7 @@
 pub mod Resting
 pub mod Passing
 pub mod Finishing
-mod Feeding
+pub mod Feeding
 mod Moving
 mod Stopping
 mod Answering

@@ -1,7 +1,7 @@
 use Rattle.std.proofs.Common.{◌∙◌, ℤ, SFits, w64, ap, to_z-of_z, rules}
 use Rattle.journal_core.specs.Moments.{Moment}
 use Rattle.srv_stream.specs.Views.{view_of}
-use Rattle.cli_within.proofs.Telling.{feeds_told, told_is}
+use Rattle.srv_stream.proofs.Feeding.{feeds_told, told_is}
 use Rattle.cli_within.proofs.server_end.feed.Goals as goal
 
 pub feed-requires-clause-site : goal.feed-requires-clause-site
