@@ -8,6 +8,8 @@ mod listened;
 mod listening;
 mod network;
 mod opening;
+#[cfg(test)]
+mod server_tests;
 mod setup;
 #[cfg(test)]
 mod tests;

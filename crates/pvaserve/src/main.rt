@@ -4,6 +4,8 @@
 
 mod program;
 mod server;
+#[cfg(test)]
+mod server_tests;
 mod telling;
 #[cfg(test)]
 mod tests;
