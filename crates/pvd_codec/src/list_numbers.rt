@@ -1,5 +1,6 @@
 ghost use Rattle.std.specs.Prelude.{◌≡◌, ◌+◌, ◌*◌, ◌++◌, ◌≤◌, ℕ, List, Ok, length, IfOk};
 ghost use Rattle.std.specs.Int.{w16, w32, w64, cast_signed};
+ghost use Rattle.pva_wire.specs.declared.order.Order.TheVariants.{Little, Big};
 ghost use Rattle.pvd_codec.specs.Reading.{Gives, valued, items_at};
 
 use crate::fault::ValueStop;
@@ -21,17 +22,27 @@ trait FromBytes {
 
     ghost size: { ℕ };
 
-    /// Appends the next few numbers, where there is room for them, and else answers want of memory. Returns the bytes behind
-    /// them. The test for room tells the compiler that nothing moves while they are copied.
+    /// Appends the next few numbers, lowest byte first, where there is room for them, and else answers want of memory. Returns the
+    /// bytes behind them. The test for room tells the compiler that nothing moves while they are copied.
     fn append<'a>(
         items: &mut Vec<Self>,
-        order: Order,
         count: usize,
         bytes: &'a [u8],
     ) -> Result<&'a [u8], AllocError>
         requires few { count ≤ 128 }
         requires enough { count * size ≤ length bytes.now }
-        ensures numbers { IfOk result (λ rest. (xs : List Self) × (items.new.items ≡ items.old.items ++ xs) × (length xs ≡ count) × (items_at (valued meaning order size) count bytes.now ≡ Ok (xs, rest.now))) }
+        ensures numbers { IfOk result (λ rest. (xs : List Self) × (items.new.items ≡ items.old.items ++ xs) × (length xs ≡ count) × (items_at (valued meaning Little size) count bytes.now ≡ Ok (xs, rest.now))) }
+        ensures left { IfOk result (λ rest. count * size + length rest.now ≡ length bytes.now) };
+
+    /// The same, highest byte first. Where there are `TURNED` numbers, the array and the room have lengths that the compiler knows.
+    fn append_turned<'a>(
+        items: &mut Vec<Self>,
+        count: usize,
+        bytes: &'a [u8],
+    ) -> Result<&'a [u8], AllocError>
+        requires few { count ≤ 32 }
+        requires enough { count * size ≤ length bytes.now }
+        ensures numbers { IfOk result (λ rest. (xs : List Self) × (items.new.items ≡ items.old.items ++ xs) × (length xs ≡ count) × (items_at (valued meaning Big size) count bytes.now ≡ Ok (xs, rest.now))) }
         ensures left { IfOk result (λ rest. count * size + length rest.now ≡ length bytes.now) };
 }
 
@@ -42,7 +53,6 @@ impl FromBytes for i16 {
 
     fn append<'a>(
         items: &mut Vec<i16>,
-        order: Order,
         count: usize,
         bytes: &'a [u8],
     ) -> Result<&'a [u8], AllocError> {
@@ -50,28 +60,37 @@ impl FromBytes for i16 {
         if items.capacity() - items.len() < count {
             return Err(AllocError);
         }
-        match order {
-            Order::Little => {
-                let mut room = [0i16; COPIED];
-                let numbers = &mut room[..count];
-                LittleEndian::read_i16_into(part, numbers);
-                items.extend_from_slice(numbers)?;
-                Ok(rest)
+        let mut room = [0i16; COPIED];
+        let numbers = &mut room[..count];
+        LittleEndian::read_i16_into(part, numbers);
+        items.extend_from_slice(numbers)?;
+        Ok(rest)
+    }
+
+    #[inline(always)]
+    fn append_turned<'a>(
+        items: &mut Vec<i16>,
+        count: usize,
+        bytes: &'a [u8],
+    ) -> Result<&'a [u8], AllocError> {
+        let (part, rest) = bytes.split_at(count * 2);
+        if count == TURNED {
+            if items.capacity() - items.len() < TURNED {
+                return Err(AllocError);
             }
-            Order::Big if count == TURNED => {
-                let mut room = [0i16; TURNED];
-                BigEndian::read_i16_into(part, &mut room);
-                items.extend_from_slice(&room)?;
-                Ok(rest)
-            }
-            Order::Big => {
-                let mut room = [0i16; COPIED];
-                let numbers = &mut room[..count];
-                BigEndian::read_i16_into(part, numbers);
-                items.extend_from_slice(numbers)?;
-                Ok(rest)
-            }
+            let mut room = [0i16; TURNED];
+            BigEndian::read_i16_into(part, &mut room);
+            items.extend_from_slice(&room)?;
+            return Ok(rest);
         }
+        if items.capacity() - items.len() < count {
+            return Err(AllocError);
+        }
+        let mut room = [0i16; TURNED];
+        let numbers = &mut room[..count];
+        BigEndian::read_i16_into(part, numbers);
+        items.extend_from_slice(numbers)?;
+        Ok(rest)
     }
 }
 
@@ -82,7 +101,6 @@ impl FromBytes for i32 {
 
     fn append<'a>(
         items: &mut Vec<i32>,
-        order: Order,
         count: usize,
         bytes: &'a [u8],
     ) -> Result<&'a [u8], AllocError> {
@@ -90,28 +108,37 @@ impl FromBytes for i32 {
         if items.capacity() - items.len() < count {
             return Err(AllocError);
         }
-        match order {
-            Order::Little => {
-                let mut room = [0i32; COPIED];
-                let numbers = &mut room[..count];
-                LittleEndian::read_i32_into(part, numbers);
-                items.extend_from_slice(numbers)?;
-                Ok(rest)
+        let mut room = [0i32; COPIED];
+        let numbers = &mut room[..count];
+        LittleEndian::read_i32_into(part, numbers);
+        items.extend_from_slice(numbers)?;
+        Ok(rest)
+    }
+
+    #[inline(always)]
+    fn append_turned<'a>(
+        items: &mut Vec<i32>,
+        count: usize,
+        bytes: &'a [u8],
+    ) -> Result<&'a [u8], AllocError> {
+        let (part, rest) = bytes.split_at(count * 4);
+        if count == TURNED {
+            if items.capacity() - items.len() < TURNED {
+                return Err(AllocError);
             }
-            Order::Big if count == TURNED => {
-                let mut room = [0i32; TURNED];
-                BigEndian::read_i32_into(part, &mut room);
-                items.extend_from_slice(&room)?;
-                Ok(rest)
-            }
-            Order::Big => {
-                let mut room = [0i32; COPIED];
-                let numbers = &mut room[..count];
-                BigEndian::read_i32_into(part, numbers);
-                items.extend_from_slice(numbers)?;
-                Ok(rest)
-            }
+            let mut room = [0i32; TURNED];
+            BigEndian::read_i32_into(part, &mut room);
+            items.extend_from_slice(&room)?;
+            return Ok(rest);
         }
+        if items.capacity() - items.len() < count {
+            return Err(AllocError);
+        }
+        let mut room = [0i32; TURNED];
+        let numbers = &mut room[..count];
+        BigEndian::read_i32_into(part, numbers);
+        items.extend_from_slice(numbers)?;
+        Ok(rest)
     }
 }
 
@@ -122,7 +149,6 @@ impl FromBytes for i64 {
 
     fn append<'a>(
         items: &mut Vec<i64>,
-        order: Order,
         count: usize,
         bytes: &'a [u8],
     ) -> Result<&'a [u8], AllocError> {
@@ -130,28 +156,37 @@ impl FromBytes for i64 {
         if items.capacity() - items.len() < count {
             return Err(AllocError);
         }
-        match order {
-            Order::Little => {
-                let mut room = [0i64; COPIED];
-                let numbers = &mut room[..count];
-                LittleEndian::read_i64_into(part, numbers);
-                items.extend_from_slice(numbers)?;
-                Ok(rest)
+        let mut room = [0i64; COPIED];
+        let numbers = &mut room[..count];
+        LittleEndian::read_i64_into(part, numbers);
+        items.extend_from_slice(numbers)?;
+        Ok(rest)
+    }
+
+    #[inline(always)]
+    fn append_turned<'a>(
+        items: &mut Vec<i64>,
+        count: usize,
+        bytes: &'a [u8],
+    ) -> Result<&'a [u8], AllocError> {
+        let (part, rest) = bytes.split_at(count * 8);
+        if count == TURNED {
+            if items.capacity() - items.len() < TURNED {
+                return Err(AllocError);
             }
-            Order::Big if count == TURNED => {
-                let mut room = [0i64; TURNED];
-                BigEndian::read_i64_into(part, &mut room);
-                items.extend_from_slice(&room)?;
-                Ok(rest)
-            }
-            Order::Big => {
-                let mut room = [0i64; COPIED];
-                let numbers = &mut room[..count];
-                BigEndian::read_i64_into(part, numbers);
-                items.extend_from_slice(numbers)?;
-                Ok(rest)
-            }
+            let mut room = [0i64; TURNED];
+            BigEndian::read_i64_into(part, &mut room);
+            items.extend_from_slice(&room)?;
+            return Ok(rest);
         }
+        if items.capacity() - items.len() < count {
+            return Err(AllocError);
+        }
+        let mut room = [0i64; TURNED];
+        let numbers = &mut room[..count];
+        BigEndian::read_i64_into(part, numbers);
+        items.extend_from_slice(numbers)?;
+        Ok(rest)
     }
 }
 
@@ -162,7 +197,6 @@ impl FromBytes for u16 {
 
     fn append<'a>(
         items: &mut Vec<u16>,
-        order: Order,
         count: usize,
         bytes: &'a [u8],
     ) -> Result<&'a [u8], AllocError> {
@@ -170,28 +204,37 @@ impl FromBytes for u16 {
         if items.capacity() - items.len() < count {
             return Err(AllocError);
         }
-        match order {
-            Order::Little => {
-                let mut room = [0u16; COPIED];
-                let numbers = &mut room[..count];
-                LittleEndian::read_u16_into(part, numbers);
-                items.extend_from_slice(numbers)?;
-                Ok(rest)
+        let mut room = [0u16; COPIED];
+        let numbers = &mut room[..count];
+        LittleEndian::read_u16_into(part, numbers);
+        items.extend_from_slice(numbers)?;
+        Ok(rest)
+    }
+
+    #[inline(always)]
+    fn append_turned<'a>(
+        items: &mut Vec<u16>,
+        count: usize,
+        bytes: &'a [u8],
+    ) -> Result<&'a [u8], AllocError> {
+        let (part, rest) = bytes.split_at(count * 2);
+        if count == TURNED {
+            if items.capacity() - items.len() < TURNED {
+                return Err(AllocError);
             }
-            Order::Big if count == TURNED => {
-                let mut room = [0u16; TURNED];
-                BigEndian::read_u16_into(part, &mut room);
-                items.extend_from_slice(&room)?;
-                Ok(rest)
-            }
-            Order::Big => {
-                let mut room = [0u16; COPIED];
-                let numbers = &mut room[..count];
-                BigEndian::read_u16_into(part, numbers);
-                items.extend_from_slice(numbers)?;
-                Ok(rest)
-            }
+            let mut room = [0u16; TURNED];
+            BigEndian::read_u16_into(part, &mut room);
+            items.extend_from_slice(&room)?;
+            return Ok(rest);
         }
+        if items.capacity() - items.len() < count {
+            return Err(AllocError);
+        }
+        let mut room = [0u16; TURNED];
+        let numbers = &mut room[..count];
+        BigEndian::read_u16_into(part, numbers);
+        items.extend_from_slice(numbers)?;
+        Ok(rest)
     }
 }
 
@@ -202,7 +245,6 @@ impl FromBytes for u32 {
 
     fn append<'a>(
         items: &mut Vec<u32>,
-        order: Order,
         count: usize,
         bytes: &'a [u8],
     ) -> Result<&'a [u8], AllocError> {
@@ -210,28 +252,37 @@ impl FromBytes for u32 {
         if items.capacity() - items.len() < count {
             return Err(AllocError);
         }
-        match order {
-            Order::Little => {
-                let mut room = [0u32; COPIED];
-                let numbers = &mut room[..count];
-                LittleEndian::read_u32_into(part, numbers);
-                items.extend_from_slice(numbers)?;
-                Ok(rest)
+        let mut room = [0u32; COPIED];
+        let numbers = &mut room[..count];
+        LittleEndian::read_u32_into(part, numbers);
+        items.extend_from_slice(numbers)?;
+        Ok(rest)
+    }
+
+    #[inline(always)]
+    fn append_turned<'a>(
+        items: &mut Vec<u32>,
+        count: usize,
+        bytes: &'a [u8],
+    ) -> Result<&'a [u8], AllocError> {
+        let (part, rest) = bytes.split_at(count * 4);
+        if count == TURNED {
+            if items.capacity() - items.len() < TURNED {
+                return Err(AllocError);
             }
-            Order::Big if count == TURNED => {
-                let mut room = [0u32; TURNED];
-                BigEndian::read_u32_into(part, &mut room);
-                items.extend_from_slice(&room)?;
-                Ok(rest)
-            }
-            Order::Big => {
-                let mut room = [0u32; COPIED];
-                let numbers = &mut room[..count];
-                BigEndian::read_u32_into(part, numbers);
-                items.extend_from_slice(numbers)?;
-                Ok(rest)
-            }
+            let mut room = [0u32; TURNED];
+            BigEndian::read_u32_into(part, &mut room);
+            items.extend_from_slice(&room)?;
+            return Ok(rest);
         }
+        if items.capacity() - items.len() < count {
+            return Err(AllocError);
+        }
+        let mut room = [0u32; TURNED];
+        let numbers = &mut room[..count];
+        BigEndian::read_u32_into(part, numbers);
+        items.extend_from_slice(numbers)?;
+        Ok(rest)
     }
 }
 
@@ -242,7 +293,6 @@ impl FromBytes for u64 {
 
     fn append<'a>(
         items: &mut Vec<u64>,
-        order: Order,
         count: usize,
         bytes: &'a [u8],
     ) -> Result<&'a [u8], AllocError> {
@@ -250,34 +300,80 @@ impl FromBytes for u64 {
         if items.capacity() - items.len() < count {
             return Err(AllocError);
         }
-        match order {
-            Order::Little => {
-                let mut room = [0u64; COPIED];
-                let numbers = &mut room[..count];
-                LittleEndian::read_u64_into(part, numbers);
-                items.extend_from_slice(numbers)?;
-                Ok(rest)
+        let mut room = [0u64; COPIED];
+        let numbers = &mut room[..count];
+        LittleEndian::read_u64_into(part, numbers);
+        items.extend_from_slice(numbers)?;
+        Ok(rest)
+    }
+
+    #[inline(always)]
+    fn append_turned<'a>(
+        items: &mut Vec<u64>,
+        count: usize,
+        bytes: &'a [u8],
+    ) -> Result<&'a [u8], AllocError> {
+        let (part, rest) = bytes.split_at(count * 8);
+        if count == TURNED {
+            if items.capacity() - items.len() < TURNED {
+                return Err(AllocError);
             }
-            Order::Big if count == TURNED => {
-                let mut room = [0u64; TURNED];
-                BigEndian::read_u64_into(part, &mut room);
-                items.extend_from_slice(&room)?;
-                Ok(rest)
-            }
-            Order::Big => {
-                let mut room = [0u64; COPIED];
-                let numbers = &mut room[..count];
-                BigEndian::read_u64_into(part, numbers);
-                items.extend_from_slice(numbers)?;
-                Ok(rest)
-            }
+            let mut room = [0u64; TURNED];
+            BigEndian::read_u64_into(part, &mut room);
+            items.extend_from_slice(&room)?;
+            return Ok(rest);
         }
+        if items.capacity() - items.len() < count {
+            return Err(AllocError);
+        }
+        let mut room = [0u64; TURNED];
+        let numbers = &mut room[..count];
+        BigEndian::read_u64_into(part, numbers);
+        items.extend_from_slice(numbers)?;
+        Ok(rest)
     }
 }
 
-/// So many numbers, for which there are bytes enough. It stays apart from its caller, since its room would else stand on the stack at
-/// each level of a value.
+/// So many numbers, lowest byte first. It stays apart from its caller, as the next one does, since its room would else stand on the
+/// stack at each level of a value.
 #[inline(never)]
+fn copied_at<T: FromBytes + Drop>(
+    alloc: Global,
+    count: usize,
+    bytes: &[u8],
+) -> Result<(Vec<T>, &[u8]), ValueStop>
+    requires { count * T.size ≤ length bytes.now }
+    ensures { Gives (λ x. (x.0.items, x.1.now)) result (items_at (valued T.meaning Little T.size) count bytes.now) }
+{
+    let mut items = Vec::with_capacity(alloc, count)?;
+    let mut rest = bytes;
+    while items.len() < count {
+        let next = (count - items.len()).min(COPIED);
+        rest = T::append(&mut items, next, rest)?;
+    }
+    Ok((items, rest))
+}
+
+/// So many numbers, highest byte first.
+#[inline(never)]
+fn turned_at<T: FromBytes + Drop>(
+    alloc: Global,
+    count: usize,
+    bytes: &[u8],
+) -> Result<(Vec<T>, &[u8]), ValueStop>
+    requires { count * T.size ≤ length bytes.now }
+    ensures { Gives (λ x. (x.0.items, x.1.now)) result (items_at (valued T.meaning Big T.size) count bytes.now) }
+{
+    let mut items = Vec::with_capacity(alloc, count)?;
+    let mut rest = bytes;
+    while items.len() < count {
+        let next = (count - items.len()).min(TURNED);
+        rest = T::append_turned(&mut items, next, rest)?;
+    }
+    Ok((items, rest))
+}
+
+/// So many numbers, for which there are bytes enough.
 pub fn numbers_at<T: FromBytes + Drop>(
     alloc: Global,
     order: Order,
@@ -287,16 +383,8 @@ pub fn numbers_at<T: FromBytes + Drop>(
     requires { count * T.size ≤ length bytes.now }
     ensures { Gives (λ x. (x.0.items, x.1.now)) result (items_at (valued T.meaning order T.size) count bytes.now) }
 {
-    let count = count as usize;
-    let few = match order {
-        Order::Little => COPIED,
-        Order::Big => TURNED,
-    };
-    let mut items = Vec::with_capacity(alloc, count)?;
-    let mut rest = bytes;
-    while items.len() < count {
-        let next = (count - items.len()).min(few);
-        rest = T::append(&mut items, order, next, rest)?;
+    match order {
+        Order::Little => copied_at(alloc, count as usize, bytes),
+        Order::Big => turned_at(alloc, count as usize, bytes),
     }
-    Ok((items, rest))
 }

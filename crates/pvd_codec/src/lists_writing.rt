@@ -1,6 +1,6 @@
 ghost use Rattle.std.specs.Prelude.{◌≡◌, ◌++◌, ◌*◌, ◌≤◌, length, OnOk, OnErr};
 ghost use Rattle.std.specs.List.{flat_map};
-ghost use Rattle.pva_wire.specs.declared.order.Order.TheVariants.{Little};
+ghost use Rattle.pva_wire.specs.declared.order.Order.TheVariants.{Little, Big};
 ghost use Rattle.pvd_value.specs.Data.{Single, byte, short, int, long, ubyte, ushort, uint, ulong};
 ghost use Rattle.pvd_codec.specs.Written.{Begins, canonical_single, CanSingle, CanEach};
 
@@ -8,7 +8,10 @@ use byteorder::{BigEndian, ByteOrder, LittleEndian};
 use pva_wire::Order;
 use pvd_type::NoMemory;
 
-// The numbers of a list are written at once, into room that was made for all of them.
+// The numbers of a list are written a few at a time, each few by way of a small array, into room that was made for all of them.
+
+/// How many numbers are written at a time with their highest byte first: few enough that they stay in the processor's registers.
+const TURNED: usize = 32;
 
 /// A signed number, whose range a contract knows once it is read.
 trait Signed {
@@ -60,18 +63,25 @@ fn read_all<T: Signed>(numbers: &[T])
     }
 }
 
-/// A number of a list, which is appended with its lowest byte first, as the machine has it in memory.
+/// A number of a list.
 trait Number {
     ghost single: { Self → Single };
 
     /// How many bytes the number has.
     fn width() -> usize;
 
-    /// Appends a few numbers, one after another, where there is room for them, and else answers want of memory. The test for room
-    /// tells the compiler that nothing moves between the two copies, so that it makes one of them.
+    /// Appends a few numbers, lowest byte first, as the machine has them in memory, where there is room for them, and else answers
+    /// want of memory. The test for room tells the compiler that nothing moves between the two copies, so that it makes one of them.
     fn append(out: &mut Vec<u8>, numbers: &[Self]) -> Result<(), NoMemory>
         requires { length numbers.now ≤ 128 }
         ensures written { OnOk result (out.new.items ≡ out.old.items ++ flat_map (λ x. canonical_single Little (single x)) numbers.now) }
+        ensures begins { OnErr result (Begins out.old.items out.new.items) };
+
+    /// Appends a few numbers, highest byte first, where there is room for them, and else answers want of memory. Where there are
+    /// `TURNED` numbers, the array and the room have lengths that the compiler knows.
+    fn append_turned(out: &mut Vec<u8>, numbers: &[Self]) -> Result<(), NoMemory>
+        requires { length numbers.now ≤ 32 }
+        ensures written { OnOk result (out.new.items ≡ out.old.items ++ flat_map (λ x. canonical_single Big (single x)) numbers.now) }
         ensures begins { OnErr result (Begins out.old.items out.new.items) };
 }
 
@@ -89,6 +99,27 @@ impl Number for i16 {
             return Err(NoMemory);
         }
         put_i16s(bytes, Order::Little, numbers);
+        out.extend_from_slice(bytes)?;
+        Ok(())
+    }
+
+    #[inline(always)]
+    fn append_turned(out: &mut Vec<u8>, numbers: &[i16]) -> Result<(), NoMemory> {
+        if numbers.len() == TURNED {
+            let mut room = [0u8; 64];
+            if out.capacity() - out.len() < 64 {
+                return Err(NoMemory);
+            }
+            put_i16s(&mut room, Order::Big, numbers);
+            out.extend_from_slice(&room)?;
+            return Ok(());
+        }
+        let mut room = [0u8; 64];
+        let bytes = &mut room[..numbers.len() * 2];
+        if out.capacity() - out.len() < bytes.len() {
+            return Err(NoMemory);
+        }
+        put_i16s(bytes, Order::Big, numbers);
         out.extend_from_slice(bytes)?;
         Ok(())
     }
@@ -111,6 +142,27 @@ impl Number for i32 {
         out.extend_from_slice(bytes)?;
         Ok(())
     }
+
+    #[inline(always)]
+    fn append_turned(out: &mut Vec<u8>, numbers: &[i32]) -> Result<(), NoMemory> {
+        if numbers.len() == TURNED {
+            let mut room = [0u8; 128];
+            if out.capacity() - out.len() < 128 {
+                return Err(NoMemory);
+            }
+            put_i32s(&mut room, Order::Big, numbers);
+            out.extend_from_slice(&room)?;
+            return Ok(());
+        }
+        let mut room = [0u8; 128];
+        let bytes = &mut room[..numbers.len() * 4];
+        if out.capacity() - out.len() < bytes.len() {
+            return Err(NoMemory);
+        }
+        put_i32s(bytes, Order::Big, numbers);
+        out.extend_from_slice(bytes)?;
+        Ok(())
+    }
 }
 
 impl Number for i64 {
@@ -127,6 +179,27 @@ impl Number for i64 {
             return Err(NoMemory);
         }
         put_i64s(bytes, Order::Little, numbers);
+        out.extend_from_slice(bytes)?;
+        Ok(())
+    }
+
+    #[inline(always)]
+    fn append_turned(out: &mut Vec<u8>, numbers: &[i64]) -> Result<(), NoMemory> {
+        if numbers.len() == TURNED {
+            let mut room = [0u8; 256];
+            if out.capacity() - out.len() < 256 {
+                return Err(NoMemory);
+            }
+            put_i64s(&mut room, Order::Big, numbers);
+            out.extend_from_slice(&room)?;
+            return Ok(());
+        }
+        let mut room = [0u8; 256];
+        let bytes = &mut room[..numbers.len() * 8];
+        if out.capacity() - out.len() < bytes.len() {
+            return Err(NoMemory);
+        }
+        put_i64s(bytes, Order::Big, numbers);
         out.extend_from_slice(bytes)?;
         Ok(())
     }
@@ -149,6 +222,27 @@ impl Number for u16 {
         out.extend_from_slice(bytes)?;
         Ok(())
     }
+
+    #[inline(always)]
+    fn append_turned(out: &mut Vec<u8>, numbers: &[u16]) -> Result<(), NoMemory> {
+        if numbers.len() == TURNED {
+            let mut room = [0u8; 64];
+            if out.capacity() - out.len() < 64 {
+                return Err(NoMemory);
+            }
+            put_u16s(&mut room, Order::Big, numbers);
+            out.extend_from_slice(&room)?;
+            return Ok(());
+        }
+        let mut room = [0u8; 64];
+        let bytes = &mut room[..numbers.len() * 2];
+        if out.capacity() - out.len() < bytes.len() {
+            return Err(NoMemory);
+        }
+        put_u16s(bytes, Order::Big, numbers);
+        out.extend_from_slice(bytes)?;
+        Ok(())
+    }
 }
 
 impl Number for u32 {
@@ -165,6 +259,27 @@ impl Number for u32 {
             return Err(NoMemory);
         }
         put_u32s(bytes, Order::Little, numbers);
+        out.extend_from_slice(bytes)?;
+        Ok(())
+    }
+
+    #[inline(always)]
+    fn append_turned(out: &mut Vec<u8>, numbers: &[u32]) -> Result<(), NoMemory> {
+        if numbers.len() == TURNED {
+            let mut room = [0u8; 128];
+            if out.capacity() - out.len() < 128 {
+                return Err(NoMemory);
+            }
+            put_u32s(&mut room, Order::Big, numbers);
+            out.extend_from_slice(&room)?;
+            return Ok(());
+        }
+        let mut room = [0u8; 128];
+        let bytes = &mut room[..numbers.len() * 4];
+        if out.capacity() - out.len() < bytes.len() {
+            return Err(NoMemory);
+        }
+        put_u32s(bytes, Order::Big, numbers);
         out.extend_from_slice(bytes)?;
         Ok(())
     }
@@ -187,6 +302,27 @@ impl Number for u64 {
         out.extend_from_slice(bytes)?;
         Ok(())
     }
+
+    #[inline(always)]
+    fn append_turned(out: &mut Vec<u8>, numbers: &[u64]) -> Result<(), NoMemory> {
+        if numbers.len() == TURNED {
+            let mut room = [0u8; 256];
+            if out.capacity() - out.len() < 256 {
+                return Err(NoMemory);
+            }
+            put_u64s(&mut room, Order::Big, numbers);
+            out.extend_from_slice(&room)?;
+            return Ok(());
+        }
+        let mut room = [0u8; 256];
+        let bytes = &mut room[..numbers.len() * 8];
+        if out.capacity() - out.len() < bytes.len() {
+            return Err(NoMemory);
+        }
+        put_u64s(bytes, Order::Big, numbers);
+        out.extend_from_slice(bytes)?;
+        Ok(())
+    }
 }
 
 /// Appends numbers, lowest byte first, into room that was made for all of them before. They go by way of a small array, for
@@ -203,6 +339,36 @@ fn write_little<T: Number>(out: &mut Vec<u8>, values: &[T]) -> Result<(), NoMemo
         rest = after;
     }
     Ok(())
+}
+
+/// Appends numbers, highest byte first, where there is room for all of them, and else answers want of memory.
+#[inline(always)]
+fn append_all<T: Number>(out: &mut Vec<u8>, values: &[T]) -> Result<(), NoMemory>
+    ensures written { OnOk result (out.new.items ≡ out.old.items ++ flat_map (λ x. canonical_single Big (T.single x)) values.now) }
+    ensures begins { OnErr result (Begins out.old.items out.new.items) }
+{
+    let mut rest = values;
+    while !rest.is_empty() {
+        let (numbers, after) = rest.split_at(rest.len().min(TURNED));
+        T::append_turned(out, numbers)?;
+        rest = after;
+    }
+    Ok(())
+}
+
+/// Appends numbers, highest byte first. Meanwhile the bytes are in a variable of this function, so that the compiler keeps their count
+/// in a register: behind a reference it would store three words with each few numbers.
+#[inline(never)]
+fn write_big<T: Number>(out: &mut Vec<u8>, values: &[T]) -> Result<(), NoMemory>
+    ensures written { OnOk result (out.new.items ≡ out.old.items ++ flat_map (λ x. canonical_single Big (T.single x)) values.now) }
+    ensures begins { OnErr result (Begins out.old.items out.new.items) }
+{
+    out.reserve(values.len().saturating_mul(T::width()))?;
+    let empty = Vec::new(*out.allocator());
+    let mut held = std::mem::replace(out, empty);
+    let done = append_all(&mut held, values);
+    *out = held;
+    done
 }
 
 /// Appends bytes as they stand.
@@ -246,13 +412,10 @@ pub fn write_i16s(out: &mut Vec<u8>, order: Order, values: &[i16]) -> Result<(),
     ensures begins { OnErr result (Begins out.old.items out.new.items) }
 {
     read_all(values);
-    if let Order::Little = order {
-        return write_little(out, values);
+    match order {
+        Order::Little => write_little(out, values),
+        Order::Big => write_big(out, values),
     }
-    let start = out.len();
-    out.resize(start + values.len() * 2, 0)?;
-    put_i16s(&mut out[start..], order, values);
-    Ok(())
 }
 
 /// Puts signed numbers of four bytes into the room for them.
@@ -273,13 +436,10 @@ pub fn write_i32s(out: &mut Vec<u8>, order: Order, values: &[i32]) -> Result<(),
     ensures begins { OnErr result (Begins out.old.items out.new.items) }
 {
     read_all(values);
-    if let Order::Little = order {
-        return write_little(out, values);
+    match order {
+        Order::Little => write_little(out, values),
+        Order::Big => write_big(out, values),
     }
-    let start = out.len();
-    out.resize(start + values.len() * 4, 0)?;
-    put_i32s(&mut out[start..], order, values);
-    Ok(())
 }
 
 /// Puts signed numbers of eight bytes into the room for them.
@@ -300,13 +460,10 @@ pub fn write_i64s(out: &mut Vec<u8>, order: Order, values: &[i64]) -> Result<(),
     ensures begins { OnErr result (Begins out.old.items out.new.items) }
 {
     read_all(values);
-    if let Order::Little = order {
-        return write_little(out, values);
+    match order {
+        Order::Little => write_little(out, values),
+        Order::Big => write_big(out, values),
     }
-    let start = out.len();
-    out.resize(start + values.len() * 8, 0)?;
-    put_i64s(&mut out[start..], order, values);
-    Ok(())
 }
 
 /// Puts unsigned numbers of two bytes into the room for them.
@@ -326,13 +483,10 @@ pub fn write_u16s(out: &mut Vec<u8>, order: Order, values: &[u16]) -> Result<(),
     ensures can { OnOk result (CanEach (λ x. CanSingle (ushort x)) values.now) }
     ensures begins { OnErr result (Begins out.old.items out.new.items) }
 {
-    if let Order::Little = order {
-        return write_little(out, values);
+    match order {
+        Order::Little => write_little(out, values),
+        Order::Big => write_big(out, values),
     }
-    let start = out.len();
-    out.resize(start + values.len() * 2, 0)?;
-    put_u16s(&mut out[start..], order, values);
-    Ok(())
 }
 
 /// Puts unsigned numbers of four bytes into the room for them.
@@ -352,13 +506,10 @@ pub fn write_u32s(out: &mut Vec<u8>, order: Order, values: &[u32]) -> Result<(),
     ensures can { OnOk result (CanEach (λ x. CanSingle (uint x)) values.now) }
     ensures begins { OnErr result (Begins out.old.items out.new.items) }
 {
-    if let Order::Little = order {
-        return write_little(out, values);
+    match order {
+        Order::Little => write_little(out, values),
+        Order::Big => write_big(out, values),
     }
-    let start = out.len();
-    out.resize(start + values.len() * 4, 0)?;
-    put_u32s(&mut out[start..], order, values);
-    Ok(())
 }
 
 /// Puts unsigned numbers of eight bytes into the room for them.
@@ -378,11 +529,8 @@ pub fn write_u64s(out: &mut Vec<u8>, order: Order, values: &[u64]) -> Result<(),
     ensures can { OnOk result (CanEach (λ x. CanSingle (ulong x)) values.now) }
     ensures begins { OnErr result (Begins out.old.items out.new.items) }
 {
-    if let Order::Little = order {
-        return write_little(out, values);
+    match order {
+        Order::Little => write_little(out, values),
+        Order::Big => write_big(out, values),
     }
-    let start = out.len();
-    out.resize(start + values.len() * 8, 0)?;
-    put_u64s(&mut out[start..], order, values);
-    Ok(())
 }

@@ -1,0 +1,19 @@
+use Rattle.std.proofs.Common.{◌≡◌, length, rules, pos}
+use Rattle.std.specs.Int.{w16, cast_signed}
+use Rattle.pva_wire.specs.declared.order.Order.TheVariants.{Big}
+use Rattle.pvd_codec.proofs.Numbers.{numbers_appended}
+use Rattle.pvd_codec.proofs.list_numbers.I16FromBytes.append_turned.Goals as goal
+
+pub returns-then-count-eq-TURNED-clause-numbers : goal.returns-then-count-eq-TURNED-clause-numbers
+returns-then-count-eq-TURNED-clause-numbers c =
+    let dst = c.read_i16_into.new.dst in
+    let kept : length dst ≡ c.args.count = search rules in
+    numbers_appended (cast_signed w16) Big 2 (pos 0) c.args.count c.args.bytes.now c.split_at.result.0.now c.split_at.result.1.now c.args.items.now.items c.extend_from_slice.new.self.items dst
+    c.split_at.ensures.by_index.0 c.split_at.ensures.front_len kept c.in_ok-extend_from_slice.ensures.items (c.read_i16_into.ensures (pos 0))
+
+pub returns-clause-numbers : goal.returns-clause-numbers
+returns-clause-numbers c =
+    let dst = c.read_i16_into-2.new.dst in
+    let kept : length dst ≡ c.args.count = search rules in
+    numbers_appended (cast_signed w16) Big 2 (pos 0) c.args.count c.args.bytes.now c.split_at.result.0.now c.split_at.result.1.now c.args.items.now.items c.extend_from_slice-2.new.self.items dst
+    c.split_at.ensures.by_index.0 c.split_at.ensures.front_len kept c.in_ok-extend_from_slice-2.ensures.items (c.read_i16_into-2.ensures (pos 0))
