@@ -11,8 +11,6 @@ mod directory;
 mod files;
 mod index;
 mod table;
-#[cfg(test)]
-mod tests;
 
 pub use answer::TableAnswer;
 pub use ask::{Ask, AskKind};

@@ -5,8 +5,6 @@
 mod finding;
 mod plan;
 mod searching;
-#[cfg(test)]
-mod tests;
 
 pub use finding::find;
 pub use plan::{Plan, Searched};

@@ -11,12 +11,6 @@ mod laws;
 mod report;
 mod session;
 mod structures;
-#[cfg(test)]
-mod test_bytes;
-#[cfg(test)]
-mod test_client;
-#[cfg(test)]
-mod tests;
 mod turn;
 
 pub use ask::{Ask, Operation};

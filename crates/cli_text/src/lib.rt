@@ -17,6 +17,3 @@ pub use lines::print_part;
 pub use pvd_type::NoMemory;
 pub use types::print_type;
 pub use words::put_words;
-
-#[cfg(test)]
-mod tests;

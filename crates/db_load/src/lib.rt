@@ -8,8 +8,6 @@ mod laws;
 mod loading;
 mod names;
 mod records;
-#[cfg(test)]
-mod tests;
 
 pub use fault::LoadFault;
 pub use laws::one_loading;

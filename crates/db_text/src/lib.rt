@@ -7,8 +7,6 @@ mod fault;
 mod laws;
 mod macros;
 mod pieces;
-#[cfg(test)]
-mod tests;
 mod token;
 
 pub use cutting::{cut, tokens};

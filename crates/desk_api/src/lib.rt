@@ -9,18 +9,12 @@ mod history;
 mod laws;
 mod mark;
 mod put;
-#[cfg(test)]
-mod put_get_tests;
 mod records;
 mod rows;
 mod serving;
 mod site;
 mod sub;
-#[cfg(test)]
-mod tests;
 mod views;
-#[cfg(test)]
-mod views_tests;
 
 pub use channel::{Channel, ChannelKind};
 pub use desk::Desk;

@@ -5,17 +5,9 @@ mod cells;
 mod draft;
 mod driving;
 mod entering;
-#[cfg(test)]
-mod group_tests;
 mod log;
 mod looks;
-#[cfg(test)]
-mod monitor_tests;
-#[cfg(test)]
-mod put_get_tests;
 mod solo;
-#[cfg(test)]
-mod tests;
 
 pub use cells::{Cells, groups_over_records, names_and_configs, opening_of};
 pub use desk_api::{

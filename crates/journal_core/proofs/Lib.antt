@@ -1,4 +1,3 @@
 pub mod Growing
 pub mod Keeping
 pub mod Facts
-pub mod Singles

@@ -7,8 +7,6 @@ mod few;
 mod history;
 mod laws;
 mod replay;
-#[cfg(test)]
-mod tests;
 
 pub use entry::{Entry, weight};
 pub use few::Few;

@@ -11,6 +11,3 @@ pub use laws::{courses_are_those_of_queues, updates_fold};
 pub use pvd_type::NoMemory;
 pub use queue::MonQueue;
 pub use update::{Post, Prepared, Update};
-
-#[cfg(test)]
-mod tests;

@@ -5,4 +5,3 @@ pub mod Readies
 pub mod Slots
 pub mod Rolls
 pub mod Answers
-pub mod Tags

@@ -20,6 +20,3 @@ pub use slots::NotBegun;
 pub use subscriptions::{Readied, Subscriptions};
 pub use views::Views;
 pub use watching::{Ready, Watching};
-
-#[cfg(test)]
-mod tests;

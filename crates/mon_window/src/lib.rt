@@ -4,6 +4,3 @@
 mod window;
 
 pub use window::{Window, WindowFault};
-
-#[cfg(test)]
-mod tests;

@@ -12,6 +12,3 @@ pub use kind::{NtKind, kind_of};
 pub use laws::types_are_recognised;
 pub use parts::{alarm, time};
 pub use types::{nt_enum, nt_scalar, nt_scalar_array, nt_table, nt_uri};
-
-#[cfg(test)]
-mod tests;

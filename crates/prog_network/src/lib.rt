@@ -3,8 +3,6 @@
 
 mod addresses;
 mod guids;
-#[cfg(test)]
-mod tests;
 
 pub use addresses::read_address;
 pub use guids::read_guid;

@@ -20,6 +20,3 @@ pub use laws::{
 };
 pub use pva_wire::NoMemory;
 pub use writing::{begin_message, end_message, write_control, write_message};
-
-#[cfg(test)]
-mod tests;

@@ -13,13 +13,9 @@ mod replies_writing;
 mod requests;
 mod requests_writing;
 mod subcommand;
-#[cfg(test)]
-mod tests;
 mod to_client;
 mod to_server;
 mod writing;
-#[cfg(test)]
-mod written_tests;
 
 pub use command::Command;
 pub use fault::MessageFault;

@@ -10,8 +10,6 @@ mod patience;
 mod tcp_dialer;
 mod tcp_link;
 mod tcp_listener;
-#[cfg(test)]
-mod tests;
 mod udp_datagrams;
 
 pub use bell::Bell;

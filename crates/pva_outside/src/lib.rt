@@ -33,8 +33,6 @@ mod sink;
 mod streams;
 mod system_clock;
 mod system_files;
-#[cfg(test)]
-mod tests;
 mod world;
 
 pub use binding::BindStep;

@@ -12,8 +12,6 @@ mod reading;
 mod response;
 mod search;
 mod setup;
-#[cfg(test)]
-mod tests;
 mod writing;
 
 pub use answering::answer;

@@ -8,8 +8,6 @@ mod reading;
 mod request;
 mod said;
 mod selecting;
-#[cfg(test)]
-mod tests;
 
 pub use laws::requests_are_sound;
 pub use reading::read_request;

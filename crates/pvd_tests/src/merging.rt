@@ -1,4 +1,5 @@
-use crate::values::{bits, discard, filled, has, pairs};
+use crate::shapes::discard;
+use crate::values::{bits, filled, has, pairs};
 use pvd_type::{BitSet, PvType};
 use pvd_value::{PvValue, differs, differs_in, fits, merge, same_value, take_leaves};
 use std::alloc::Global;

@@ -1,19 +1,7 @@
+use crate::shapes::{member, structure};
 use pvd_type::*;
 use std::alloc::Global;
 use std::test::Fail;
-
-/// A member with this name.
-fn member(alloc: Global, name: &str, shape: Shape) -> Result<Member, NoMemory> {
-    Ok(Member {
-        name: Name::of(alloc, name)?,
-        shape,
-    })
-}
-
-/// A structure with this id.
-fn structure(alloc: Global, id: &str, members: Vec<Member>) -> Result<Shape, NoMemory> {
-    Ok(Shape::Struct(Node::of(alloc, Name::of(alloc, id)?, members)?))
-}
 
 /// The time stamp of Normative Types: seconds, nanoseconds and a tag.
 fn time_stamp(alloc: Global) -> Result<Shape, NoMemory> {

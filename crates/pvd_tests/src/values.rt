@@ -1,3 +1,4 @@
+use crate::shapes::discard;
 use pvd_type::{BitSet, Extent, Member, Name, NoMemory, Node, PvType, Scalar, Shape};
 use pvd_value::{Items, PvValue, ValueBits, blank, fits, leaf, leaves_of};
 use std::alloc::Global;
@@ -15,9 +16,6 @@ fn node(alloc: Global, id: &str, names: &[&str], shape: &Shape) -> Result<Arc<No
     }
     Node::of(alloc, Name::of(alloc, id)?, members)
 }
-
-/// Lets a value go.
-pub fn discard<T: Drop>(_value: T) {}
 
 /// A structure of two structures `a` and `b`, each of the ints `x` and `y`: a is 1, its ints 2 and 3, b is 4, its ints 5 and 6.
 pub fn pairs(alloc: Global) -> Result<PvType, Fail> {

@@ -9,8 +9,6 @@ mod parts;
 mod plain;
 mod puts;
 mod shown;
-#[cfg(test)]
-mod tests;
 mod types;
 
 pub use desc::{desc_type, desc_view};

@@ -45,6 +45,3 @@ pub use record_text::{FieldText, Info, RecText};
 pub use severity::{Severity, Status};
 pub use shared::{SharedItems, SharedText};
 pub use state::RecState;
-
-#[cfg(test)]
-mod tests;

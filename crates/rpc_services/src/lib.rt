@@ -5,8 +5,6 @@
 mod answers;
 mod asking;
 mod parts;
-#[cfg(test)]
-mod tests;
 
 pub use answers::{channels, info, table};
 pub use asking::{RpcOp, RpcRefusal, operation};

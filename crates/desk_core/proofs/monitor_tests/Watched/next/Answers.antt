@@ -1,4 +1,0 @@
-use Rattle.desk_core.proofs.monitor_tests.Watched.next.Goals as goal
-
-pub invariant_of-self : goal.invariant_of-self
-invariant_of-self c = record { living = c.next.ensures c.args.self.now.sub.slot c.args.self.now.living }

@@ -1,0 +1,4 @@
+use Rattle.desk_tests.proofs.monitors.Watched.next.Goals as goal
+
+pub invariant_of-self : goal.invariant_of-self
+invariant_of-self c = record { living = c.next.ensures c.args.self.now.sub.slot c.args.self.now.living }
