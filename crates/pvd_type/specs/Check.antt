@@ -56,7 +56,7 @@ type_fault t = first_fault 0 (all_visits t)
 abbrev pub IsType : Tree → Type 0
 IsType t = type_fault t ≡ None
 
--- what a check that answers this fault says of the tree: memory is asked for only where there is no fault
+-- what a check that answers this fault says of the tree: want of memory is answered only where there is no fault
 abbrev pub IsFault : Tree → TypeFault → Type 0
 IsFault t NoMemory = IsType t
 IsFault t fault = type_fault t ≡ Some fault

@@ -69,7 +69,7 @@ impl Eq for PvType {
 
 impl PvType {
     /// Checks a shape. The first fault in depth-first order is answered, and at one node the first in the order of [`TypeFault`].
-    /// Memory is asked for only where there is no fault.
+    /// Want of memory is answered only where there is no fault.
     pub fn check(alloc: Global, shape: Shape) -> Result<PvType, TypeFault>
         ensures ok { IfOk result (λ ty. (ty ≡ shape_view shape) × IsType (shape_view shape)) }
         ensures fault { IfErr result (IsFault (shape_view shape)) }

@@ -9,9 +9,8 @@ use crate::value::{Items, PvValue};
 use pvd_type::{Extent, Member, Name, NoMemory, PvType, Scalar, Shape};
 use std::alloc::Global;
 
-/// How many bytes the lists of a fixed length in one blank value may take in all: as many as the largest payload has. A type with
-/// more has no value that could be sent.
-const ROOM: u64 = 1 << 26;
+/// How many bytes the lists of a fixed length in one blank value may take in all: as many as the largest payload has.
+pub const BLANK_ROOM: u64 = 1 << 26;
 
 /// The value that a type begins with: zeros, `false`, empty texts and lists, null unions and variants; lists of a fixed length are full of zeros.
 /// Where these lists take more than 67,108,864 bytes in all, that is `NoMemory`.
@@ -26,8 +25,16 @@ pub fn blank(alloc: Global, ty: &PvType) -> Result<PvValue, NoMemory>
 pub fn blank_shape(alloc: Global, shape: &Shape) -> Result<PvValue, NoMemory>
     ensures { IfOk result (λ v. view v ≡ blank_of (shape_view shape.now)) }
 {
-    let mut room = ROOM;
+    let mut room = BLANK_ROOM;
     blank_at(shape, alloc, &mut room)
+}
+
+/// The blank value of one of several parts of a type, whose lists of a fixed length take together at most `room` bytes: those of this
+/// part are taken off it, and where it has too few that is `NoMemory`.
+pub fn blank_within(alloc: Global, shape: &Shape, room: &mut u64) -> Result<PvValue, NoMemory>
+    ensures { IfOk result (λ v. view v ≡ blank_of (shape_view shape.now)) }
+{
+    blank_at(shape, alloc, room)
 }
 
 /// Takes the bytes of a list of a fixed length from those that are left for all of a blank value.

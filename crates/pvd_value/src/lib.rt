@@ -12,7 +12,7 @@ mod moving;
 mod same;
 mod value;
 
-pub use blanking::{blank, blank_shape};
+pub use blanking::{BLANK_ROOM, blank, blank_shape, blank_within};
 pub use differing::differs;
 pub use fitting::{fits, member_shape};
 pub use leaves::{ValueBits, leaf, leaves_of};
