@@ -79,6 +79,7 @@ fn before(out: &mut Vec<u8>, case: &str) -> Result<(), AllocError> {
         "cached" => defined(out, 0x81, 4095, &[0x00]),
         "nested" => defined(out, 0x80, 4000, &[0x80, 0, 0]),
         "empty" => defined(out, 0x80, 4000, &[0x80, 0, 0]),
+        "short" => defined(out, 0x80, 4000, &[0x60]),
         _ => Ok(()),
     }
 }
@@ -102,6 +103,17 @@ fn payload(out: &mut Vec<u8>, case: &str) -> Result<(), AllocError> {
         "deep" => deep(out),
         "named" => named(out),
         "chain" => chain(out),
+        "again" => again(out),
+        "narrow" => narrow(out),
+        "high" => list(out, &[1, 0xFD, 0xFF, 0xFF, 0x20, 0], SIZE / 6),
+        "ids" => chains(out, 8, 2_400_000),
+        "many" => chains(out, 1000, 22_000),
+        "claims" => claims(out),
+        "short" => short(out),
+        "unmarked" => {
+            out.extend_from_slice(&[1, 2, 1])?;
+            Ok(())
+        }
         "siblings" => siblings(out),
         "texts" => {
             size(out, SIZE)?;
@@ -174,6 +186,68 @@ fn chain(out: &mut Vec<u8>) -> Result<(), AllocError> {
     Ok(())
 }
 
+/// A union of 4,092 members whose names of 16,000 letters differ at the end, and 2,100 structures with it as their member.
+fn again(out: &mut Vec<u8>) -> Result<(), AllocError> {
+    size(out, 2101)?;
+    out.extend_from_slice(&[1, 0xFD, 0, 1, 0x81, 0])?;
+    size(out, 4092)?;
+    for number in 0..4092 {
+        name(out, number, 16_000)?;
+        out.push(0x00)?;
+    }
+    out.push(0xFF)?;
+    repeat(out, &[1, 0x80, 0, 1, 1, b'a', 0xFE, 0, 1, 0xFF], 2100)
+}
+
+/// Null unions of 132 members, each of 31 structures inside one another, of one member each.
+fn narrow(out: &mut Vec<u8>) -> Result<(), AllocError> {
+    size(out, 2700)?;
+    for _ in 0..2700u32 {
+        out.extend_from_slice(&[1, 0x81, 0, 132])?;
+        for member in 0..132u32 {
+            out.extend_from_slice(&[2, letter(member), letter(member / 16)])?;
+            repeat(out, &[0x80, 1, b'i', 1, 1, b'a'], 30)?;
+            out.push(0x20)?;
+        }
+        out.push(0xFF)?;
+    }
+    Ok(())
+}
+
+/// Variants of a byte, each defined under so many ids that follow one another.
+fn chains(out: &mut Vec<u8>, ids: u32, times: u32) -> Result<(), AllocError> {
+    size(out, times)?;
+    for number in 0..times {
+        out.push(1)?;
+        for place in 0..ids {
+            let id = number.wrapping_mul(ids).wrapping_add(place).wrapping_mul(40_503) % 65_536;
+            out.extend_from_slice(&[0xFD, (id / 256) as u8, (id % 256) as u8])?;
+        }
+        out.extend_from_slice(&[0x20, 0])?;
+    }
+    Ok(())
+}
+
+/// Fifteen lists of variants inside one another, each of which says that it has as many elements as there are bytes.
+fn claims(out: &mut Vec<u8>) -> Result<(), AllocError> {
+    for _ in 0..15u32 {
+        size(out, SIZE - 1024)?;
+        out.extend_from_slice(&[1, 0x8A])?;
+    }
+    size(out, SIZE - 1024)?;
+    repeat(out, &[0], SIZE - 1024)
+}
+
+/// Structures of 4,000 texts of one letter.
+fn short(out: &mut Vec<u8>) -> Result<(), AllocError> {
+    size(out, 8380)?;
+    for _ in 0..8380u32 {
+        out.extend_from_slice(&[1, 0xFE, 0, 1])?;
+        repeat(out, &[1, b'a'], 4000)?;
+    }
+    Ok(())
+}
+
 /// 4,095 siblings whose names of 16,384 letters differ at the end.
 fn siblings(out: &mut Vec<u8>) -> Result<(), AllocError> {
     out.extend_from_slice(&[0x80, 0])?;
@@ -204,6 +278,30 @@ fn described(alloc: Global, bytes: &[u8]) -> Option<PvType> {
     }
 }
 
+/// A structure of a boolean and 4,094 lists of 67,108,864 bytes each.
+fn of_fixed_lists(alloc: Global) -> Option<PvType> {
+    let mut bytes: Vec<u8> = Vec::new(alloc);
+    match fixed_lists(&mut bytes) {
+        Ok(()) => described(alloc, &bytes),
+        Err(_) => None,
+    }
+}
+
+fn fixed_lists(out: &mut Vec<u8>) -> Result<(), AllocError> {
+    out.extend_from_slice(&[0x80, 0])?;
+    size(out, 4095)?;
+    for number in 0..4095 {
+        name(out, number, 4)?;
+        if number == 0 {
+            out.push(0x00)?;
+        } else {
+            out.push(0x38)?;
+            size(out, SIZE)?;
+        }
+    }
+    Ok(())
+}
+
 /// The type of the greatest depth with a variant as its leaf.
 fn deepest_type(alloc: Global) -> Option<PvType> {
     let mut bytes: Vec<u8> = Vec::new(alloc);
@@ -219,7 +317,7 @@ fn read(alloc: Global, case: &str, ty: &PvType, known: &mut Registry, bytes: &[u
     match case {
         "copy" => Vec::from_slice(alloc, bytes).is_ok(),
         "named" | "chain" | "siblings" => read_desc(alloc, &mut from, known).is_ok(),
-        "zeros" | "part" => read_part(alloc, &mut from, known, ty).is_ok(),
+        "zeros" | "part" | "unmarked" => read_part(alloc, &mut from, known, ty).is_ok(),
         _ => read_full(alloc, &mut from, known, ty).is_ok(),
     }
 }
@@ -237,6 +335,7 @@ fn measure(rt: &HostRuntime, case: &str, reads: bool) -> io::Result<()> {
     let made = match case {
         "structures" => described(alloc, &[0x88, 0x80, 0, 1, 1, b'a', 0x20]),
         "deep" => deepest_type(alloc),
+        "unmarked" => of_fixed_lists(alloc),
         _ => PvType::check(alloc, shape(case)).ok(),
     };
     let Some(ty) = made else {
@@ -266,7 +365,7 @@ fn main(rt: HostRuntime) -> io::Result<()> {
 RT
 cd "$work/crates/hostile_bench"
 rt run 2>"$work/log" >/dev/null || { cat "$work/log"; exit 1; }
-for case in copy deep nulls bytes defined cached empty nested named chain siblings texts words letters types structures zeros part; do
+for case in copy deep nulls bytes defined high ids many cached empty nested again narrow named chain siblings texts words letters short types structures claims zeros part unmarked; do
     (ulimit -v 8000000; /usr/bin/time -f '%M %U %S' -o "$work/made" out/hostile_bench "$case" only)
     (ulimit -v 8000000; ulimit -s 2048; /usr/bin/time -f '%M %U %S' -o "$work/peak" out/hostile_bench "$case" || echo "$case: ended with no answer")
     cat "$work/made" "$work/peak" | grep -v '[A-Za-z]' | tr '\n' ' ' |
