@@ -1,7 +1,7 @@
 ghost use Rattle.std.specs.Prelude.{◌≡◌, ◌∷◌, ◌≤◌, ◌<◌, ◌+◌, ◌-◌, ◌++◌, [], IfOk, OnOk, Some};
 ghost use Rattle.std.specs.Arc.{arc_value};
 ghost use Rattle.pvd_type.specs.View.{shape_view, member_view, node_view, members_view, names_of};
-ghost use Rattle.pvd_type.specs.Check.{below, first_fault, label_fault};
+ghost use Rattle.pvd_type.specs.Check.{below, first_fault, label_fault, IsType};
 ghost use Rattle.pvd_type.specs.Numbers.{nodes};
 ghost use Rattle.pvd_type.specs.Siblings.{knows};
 ghost use Rattle.pvd_desc.specs.declared.fault.DescCause.TheVariants.{UnknownCode};
@@ -15,8 +15,9 @@ use crate::items::{
     bound_at, cached, code_at, first_byte, id_at, member_count_at, name_at, null, str_at,
 };
 use crate::registry::{Definitions, Registry};
+use crate::standing::stand_below;
 use pva_wire::Order;
-use pvd_type::{Extent, Member, Name, Node, PvType, Shape, Siblings, TypeFault, check_below};
+use pvd_type::{Extent, Member, Name, Node, PvType, Shape, Siblings, TypeFault};
 use std::alloc::Global;
 use std::sync::Arc;
 
@@ -98,14 +99,15 @@ fn wants(wanted: Option<Element>, shape: &Shape) -> bool
     }
 }
 
-/// Counts the nodes of a cached type, and tests those below its root.
+/// Counts the nodes of a cached type, and tests the levels of those below its root.
 fn below_at(shape: &Shape, level: u32, seen: u32, left: usize) -> Result<u32, DescStop>
     requires level { level ≤ 32 }
     requires seen { seen ≤ 4095 }
+    requires checked { IsType (shape_view shape.now) }
     ensures value { Gives (λ n. n) result (unless (first_fault (seen + 1) (below level (shape_view shape.now))) left (seen + nodes (shape_view shape.now))) }
     ensures few { IfOk result (λ n. n ≤ 4096) }
 {
-    match check_below(shape, level, seen + 1) {
+    match stand_below(shape, level, seen + 1) {
         Ok(count) => Ok(count),
         Err(fault) => Err(DescStop::Fault(DescCause::Shape(fault), left)),
     }
