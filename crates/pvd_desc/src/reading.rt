@@ -17,7 +17,7 @@ use crate::items::{
 use crate::registry::{Definitions, Registry};
 use crate::standing::stand_below;
 use pva_wire::Order;
-use pvd_type::{Extent, Member, Name, Node, PvType, Shape, Siblings, TypeFault};
+use pvd_type::{Extent, Member, Name, NoMemory, Node, PvType, Shape, Siblings, TypeFault};
 use std::alloc::Global;
 use std::sync::Arc;
 
@@ -113,6 +113,14 @@ fn below_at(shape: &Shape, level: u32, seen: u32, left: usize) -> Result<u32, De
     }
 }
 
+/// An empty list with places for so many members, or for as many as a type may have after `seen` nodes.
+fn list_for(alloc: Global, count: u32, seen: u32) -> Result<Vec<Member>, NoMemory>
+    requires { seen ≤ 4096 }
+    ensures { IfOk result (λ ms. ms.items ≡ []) }
+{
+    Ok(Vec::with_capacity(alloc, count.min(4096 - seen) as usize)?)
+}
+
 // The functions of the cycle below pass `room`, the 33 levels less that of the node, in place of the
 // level: each step down takes one from it, so the recursion ends, and the last one finds no room.
 // `seen` counts the nodes before this one; a node's own fault stands at its code byte.
@@ -166,7 +174,7 @@ fn fields_at<'a>(
     ensures value { Gives (λ x. (members_view x.0.items, x.1, x.2.now, laid base.now changed.new)) result (fields_with order (node_at order room) [] count seen (laid base.now changed.old) bytes.now) }
     ensures few { IfOk result (λ x. x.1 ≤ 4096) }
 {
-    let mut members: Vec<Member> = Vec::new(alloc);
+    let mut members = list_for(alloc, count, seen)?;
     let mut siblings = Siblings::new(alloc);
     let mut seen = seen;
     let mut rest = bytes;
@@ -435,8 +443,10 @@ fn alone_at<'a>(
     }
 }
 
-/// How many bytes a node of a type counts for, in memory and in the time to test it.
-const NODE: u64 = 128;
+/// How many bytes a node of a type counts for: its place in the list of the node above it, its name, what
+/// a structure or a union has of its own (a count of copies, and the lists of its id and its members),
+/// and the time to test it.
+const NODE: u64 = 192;
 
 /// A description and what follows it; None is the null description. What it defines goes into
 /// `changed`, which hides the types of `base`. After a refusal `changed` may hold a part of that.
