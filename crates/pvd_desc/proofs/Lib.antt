@@ -11,3 +11,4 @@ pub mod Calls
 pub mod Parts
 pub mod FoundThere
 pub mod Alone
+pub mod Places

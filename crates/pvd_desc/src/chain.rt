@@ -41,6 +41,15 @@ pub fn known<'a>(base: &'a Registry, changed: &'a Definitions, id: u16) -> Optio
 /// How many bytes a type takes in memory beside four for each of its nodes.
 const TYPE: u64 = 256;
 
+/// How many bytes an id with its share in a type counts for, in memory and in the time to put it.
+const ID: u64 = 128;
+
+/// How many bytes a set of ids may take.
+const SET: u64 = 8192;
+
+/// Of so many ids at most one that stands twice is put twice, since a set of them costs more.
+const FEW: usize = 8;
+
 /// Puts a type of so many nodes under each of the ids, which share it in memory.
 pub fn define_all(
     alloc: Global,
@@ -57,11 +66,29 @@ pub fn define_all(
     }
     changed.spend(TYPE + 4 * nodes as u64)?;
     let ty = Arc::new(alloc, PvType::of_checked(alloc, shape.clone_in(alloc)?)?)?;
-    define_each(alloc, changed, ids, &ty)
+    if ids.len() <= FEW {
+        return define_each(changed, ids, &ty);
+    }
+    define_once(alloc, changed, ids, &ty)
+}
+
+/// Puts a type under each of the ids.
+fn define_each(
+    changed: &mut Definitions,
+    ids: &[u16],
+    ty: &Arc<PvType, Global>,
+) -> Result<(), NoMemory>
+    ensures { OnOk result ((base : Types) → laid base changed.new ≡ define_all ids.now (arc_value ty.now) (laid base changed.old)) }
+{
+    for id in ids {
+        changed.spend(ID)?;
+        changed.define(*id, ty)?;
+    }
+    Ok(())
 }
 
 /// Puts a type under each of the ids, once where one stands there again.
-fn define_each(
+fn define_once(
     alloc: Global,
     changed: &mut Definitions,
     ids: &[u16],
@@ -69,11 +96,13 @@ fn define_each(
 ) -> Result<(), NoMemory>
     ensures { OnOk result ((base : Types) → laid base changed.new ≡ define_all ids.now (arc_value ty.now) (laid base changed.old)) }
 {
+    changed.spend(SET)?;
     let mut done = BitSet::new(alloc);
     'ids: for id in ids {
         if done.contains(*id as u32) {
             continue 'ids;
         }
+        changed.spend(ID)?;
         changed.define(*id, ty)?;
         done.insert(*id as u32)?;
     }

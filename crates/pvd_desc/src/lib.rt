@@ -9,6 +9,7 @@ mod items;
 mod laws;
 mod reading;
 mod registry;
+mod standing;
 #[cfg(test)]
 mod tests;
 mod writing;

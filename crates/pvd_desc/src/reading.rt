@@ -1,7 +1,7 @@
 ghost use Rattle.std.specs.Prelude.{◌≡◌, ◌∷◌, ◌≤◌, ◌<◌, ◌+◌, ◌-◌, ◌++◌, [], IfOk, OnOk, Some};
 ghost use Rattle.std.specs.Arc.{arc_value};
 ghost use Rattle.pvd_type.specs.View.{shape_view, member_view, node_view, members_view, names_of};
-ghost use Rattle.pvd_type.specs.Check.{below, first_fault, label_fault};
+ghost use Rattle.pvd_type.specs.Check.{below, first_fault, label_fault, IsType};
 ghost use Rattle.pvd_type.specs.Numbers.{nodes};
 ghost use Rattle.pvd_type.specs.Siblings.{knows};
 ghost use Rattle.pvd_desc.specs.declared.fault.DescCause.TheVariants.{UnknownCode};
@@ -15,8 +15,9 @@ use crate::items::{
     bound_at, cached, code_at, first_byte, id_at, member_count_at, name_at, null, str_at,
 };
 use crate::registry::{Definitions, Registry};
+use crate::standing::stand_below;
 use pva_wire::Order;
-use pvd_type::{Extent, Member, Name, Node, PvType, Shape, Siblings, TypeFault, check_below};
+use pvd_type::{Extent, Member, Name, NoMemory, Node, PvType, Shape, Siblings, TypeFault};
 use std::alloc::Global;
 use std::sync::Arc;
 
@@ -98,17 +99,26 @@ fn wants(wanted: Option<Element>, shape: &Shape) -> bool
     }
 }
 
-/// Counts the nodes of a cached type, and tests those below its root.
+/// Counts the nodes of a cached type, and tests the levels of those below its root.
 fn below_at(shape: &Shape, level: u32, seen: u32, left: usize) -> Result<u32, DescStop>
     requires level { level ≤ 32 }
     requires seen { seen ≤ 4095 }
+    requires checked { IsType (shape_view shape.now) }
     ensures value { Gives (λ n. n) result (unless (first_fault (seen + 1) (below level (shape_view shape.now))) left (seen + nodes (shape_view shape.now))) }
     ensures few { IfOk result (λ n. n ≤ 4096) }
 {
-    match check_below(shape, level, seen + 1) {
+    match stand_below(shape, level, seen + 1) {
         Ok(count) => Ok(count),
         Err(fault) => Err(DescStop::Fault(DescCause::Shape(fault), left)),
     }
+}
+
+/// An empty list with places for so many members, or for as many as a type may have after `seen` nodes.
+fn list_for(alloc: Global, count: u32, seen: u32) -> Result<Vec<Member>, NoMemory>
+    requires { seen ≤ 4096 }
+    ensures { IfOk result (λ ms. ms.items ≡ []) }
+{
+    Ok(Vec::with_capacity(alloc, count.min(4096 - seen) as usize)?)
 }
 
 // The functions of the cycle below pass `room`, the 33 levels less that of the node, in place of the
@@ -164,7 +174,7 @@ fn fields_at<'a>(
     ensures value { Gives (λ x. (members_view x.0.items, x.1, x.2.now, laid base.now changed.new)) result (fields_with order (node_at order room) [] count seen (laid base.now changed.old) bytes.now) }
     ensures few { IfOk result (λ x. x.1 ≤ 4096) }
 {
-    let mut members: Vec<Member> = Vec::new(alloc);
+    let mut members = list_for(alloc, count, seen)?;
     let mut siblings = Siblings::new(alloc);
     let mut seen = seen;
     let mut rest = bytes;
@@ -433,8 +443,10 @@ fn alone_at<'a>(
     }
 }
 
-/// How many bytes a node of a type counts for, in memory and in the time to test it.
-const NODE: u64 = 128;
+/// How many bytes a node of a type counts for: its place in the list of the node above it, its name, what
+/// a structure or a union has of its own (a count of copies, and the lists of its id and its members),
+/// and the time to test it.
+const NODE: u64 = 192;
 
 /// A description and what follows it; None is the null description. What it defines goes into
 /// `changed`, which hides the types of `base`. After a refusal `changed` may hold a part of that.

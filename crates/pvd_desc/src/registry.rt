@@ -34,16 +34,16 @@ impl Model for Registry {
     ghost view = { λ a. map.from_entries (shared a.types.entries) };
 }
 
-/// How many bytes of memory a read may take at first, for types and values.
+/// How many bytes a read may spend before more are allowed, for types and values.
 const ROOM: u64 = 16_777_216;
 
 /// The types that a read has defined so far, which are put over those of the registry once the whole
-/// is read, and how much memory the read may still take. The ids of one chain of definitions share one
-/// type in memory.
+/// is read, and how many bytes the read may still spend: 16 MiB in all, and what [`Definitions::allow`]
+/// adds. The ids of one chain of definitions share one type in memory.
 #[derive(Drop)]
 pub struct Definitions {
     types: BTreeMap<u16, Arc<PvType, Global>>,
-    // how many bytes of memory may still be taken
+    // how many bytes may still be spent
     room: u64,
 }
 
@@ -108,7 +108,7 @@ impl Registry {
 }
 
 impl Definitions {
-    /// No definitions, and room for 16 MiB.
+    /// No definitions, and 16 MiB to spend.
     pub fn new(alloc: Global) -> Definitions
         ensures { result ≡ map.empty }
     {
@@ -118,15 +118,15 @@ impl Definitions {
         }
     }
 
-    /// Lets the read take so many bytes of memory more.
+    /// Lets the read spend so many bytes more than the 16 MiB that it began with and what was allowed before.
     pub fn allow(&mut self, bytes: u64)
         ensures { self.new ≡ self.old }
     {
         self.room = self.room.saturating_add(bytes);
     }
 
-    /// Counts bytes of memory that the read takes. Where they are more than it may take it is NoMemory:
-    /// few bytes of a hostile payload could stand for any number of values.
+    /// Spends bytes: what a step of the read takes of memory, and for its time. Where fewer are left it is
+    /// NoMemory, and none is spent. So few bytes of a hostile payload can't stand for any number of values.
     pub fn spend(&mut self, bytes: u64) -> Result<(), NoMemory>
         ensures { self.new ≡ self.old }
     {

@@ -16,6 +16,14 @@ fn written_back(
     Ok(out)
 }
 
+/// The fault of a description, if it has one.
+fn fault_of(alloc: Global, registry: &mut Registry, bytes: &[u8]) -> Option<DescFault> {
+    match read_desc(alloc, &mut Cursor::new(bytes, Order::Little), registry) {
+        Ok(_) => None,
+        Err(fault) => Some(fault),
+    }
+}
+
 const TIME: [u8; 49] = [
     0x80, 0x06, 0x74, 0x69, 0x6D, 0x65, 0x5F, 0x74, 0x03, 0x10, 0x73, 0x65, 0x63, 0x6F, 0x6E, 0x64,
     0x73, 0x50, 0x61, 0x73, 0x74, 0x45, 0x70, 0x6F, 0x63, 0x68, 0x23, 0x0B, 0x6E, 0x61, 0x6E, 0x6F,
@@ -164,6 +172,56 @@ fn the_33rd_level_is_too_deep(rt: HostRuntime) -> Result<(), Fail> {
                 assert_eq!(rt; fault, DescFault::Shape(TypeFault::TooDeep, 160));
             }
         }
+    }
+    Ok(())
+}
+
+#[test]
+fn names_are_told_apart_by_their_last_bytes(rt: HostRuntime) -> Result<(), Fail> {
+    let mut registry = Registry::new(rt.alloc());
+    let twice = Some(DescFault::Shape(TypeFault::SameName, 14));
+    for (first, second, third, fault) in [
+        (0x62, 0x63, 0x64, None),
+        (0x64, 0x63, 0x62, None),
+        (0x62, 0x63, 0x62, twice),
+        (0x63, 0x62, 0x63, twice),
+        (0x63, 0x62, 0x62, twice),
+    ] {
+        let bytes = [
+            0x80, 0x00, 0x03, 0x02, 0x61, first, 0x22, 0x02, 0x61, second, 0x22, 0x02, 0x61, third,
+            0x22,
+        ];
+        assert_eq!(rt; fault_of(rt.alloc(), &mut registry, &bytes), fault);
+    }
+    Ok(())
+}
+
+#[test]
+fn a_cached_type_is_tested_where_it_stands(rt: HostRuntime) -> Result<(), Fail> {
+    let mut registry = Registry::new(rt.alloc());
+    let int = [0xFD, 0x01, 0x00, 0x22];
+    assert_eq!(rt; fault_of(rt.alloc(), &mut registry, &int), None);
+    // each type has two members of the one before it, so that the last has 4,095 nodes
+    for id in 1..12u8 {
+        let next = id + 1;
+        let pair = [
+            0xFD, next, 0x00, 0x80, 0x00, 0x02, 0x01, 0x61, 0xFE, id, 0x00, 0x01, 0x62, 0xFE, id,
+            0x00,
+        ];
+        assert_eq!(rt; fault_of(rt.alloc(), &mut registry, &pair), None);
+    }
+    for (depth, id, fault) in [
+        (30, 2, None),
+        (31, 2, Some(DescFault::Shape(TypeFault::TooDeep, 155))),
+        (1, 12, None),
+        (2, 12, Some(DescFault::Shape(TypeFault::TooMany, 10))),
+    ] {
+        let mut bytes = Vec::new(rt.alloc());
+        for _ in 0..depth {
+            bytes.extend_from_slice(&[0x80, 0x00, 0x01, 0x01, 0x61])?;
+        }
+        bytes.extend_from_slice(&[0xFE, id, 0x00])?;
+        assert_eq!(rt; fault_of(rt.alloc(), &mut registry, &bytes), fault);
     }
     Ok(())
 }

@@ -19,7 +19,7 @@ element_at-define_all-requires t c =
 
 pub fields_at-returns-in_err-member-clause-value : goal.fields_at-returns-in_err-member-clause-value
 fields_at-returns-in_err-member-clause-value t c =
-    let p = err_from_is_err_and c.from_residual.result c.from_residual.ensures.1 in
+    let p = err_from_is_err_and c.from_residual-in_err-member.result c.from_residual-in_err-member.ensures.1 in
     let left : 0 < c.args.count - c.loop.counter = omega (arith, c.loop-test.true) in
     let before : c.deref.result.now ≡ c.loop.members.items = search rules in
     let fails = rw before at c.in_err-member.ensures.value in
