@@ -48,7 +48,7 @@ fn deepest_value(alloc: Global) -> Result<Vec<u8>, NoMemory> {
 }
 
 /// The type that these bytes describe.
-fn described(alloc: Global, bytes: &[u8]) -> Option<PvType> {
+pub fn described(alloc: Global, bytes: &[u8]) -> Option<PvType> {
     let mut registry = Registry::new(alloc);
     match read_desc(alloc, &mut Cursor::new(bytes, Order::Big), &mut registry) {
         Ok(ty) => ty,

@@ -26,6 +26,9 @@ use std::alloc::Global;
 /// count, a bound and a selector are judged first, at the size. TooNested stands at the description of a
 /// variant inside sixteen others, whatever stands there. After a refusal the cursor and the registry are
 /// as before.
+///
+/// NoMemory is answered too where what the bytes make would take more than 16 MiB and 15 bytes for each of
+/// them (src/reading.rt says what counts how much).
 pub fn read_full(
     alloc: Global,
     from: &mut Cursor,
@@ -53,6 +56,10 @@ pub fn read_full(
 /// numbers (pvAccess Protocol Specification, "BitSets" and "Data Encoding"). The set that is answered has
 /// leaves alone; the leaves outside it are blank. A bit at or above the count of the type's nodes is
 /// BitOutside, before any value is read. After a refusal the cursor and the registry are as before.
+///
+/// NoMemory is answered too where what the bytes make would take more than 16 MiB and 15 bytes for each of
+/// them (src/reading.rt says what counts how much), and where the lists of a fixed length that aren't
+/// marked take more than 64 MiB in all.
 pub fn read_part(
     alloc: Global,
     from: &mut Cursor,

@@ -12,7 +12,7 @@ use crate::reading::{DEPTH, value_at};
 use pva_wire::{Order, bits_at, counted_at};
 use pvd_desc::{Definitions, Registry};
 use pvd_type::{BitSet, Member, PvType, Shape, split_size};
-use pvd_value::{PvValue, ValueBits, blank_shape, leaves_of, misses};
+use pvd_value::{BLANK_ROOM, PvValue, ValueBits, blank_within, leaves_of, misses};
 use std::alloc::Global;
 
 /// Which of `count` bytes of a set holds the bits from eight times `at` on.
@@ -88,13 +88,15 @@ fn marks_at<'a>(
 }
 
 /// What stands under a number: the value where it is marked, and else the blank one, which takes no
-/// bytes.
+/// bytes. Its lists of a fixed length take their memory from `room`, as those of all blank values in the
+/// part.
 #[inline(always)]
 fn slot_at<'a>(
     alloc: Global,
     order: Order,
     base: &Registry,
     changed: &mut Definitions,
+    room: &mut u64,
     shape: &Shape,
     marked: bool,
     bytes: &'a [u8],
@@ -105,7 +107,7 @@ fn slot_at<'a>(
     if marked {
         return value_at(alloc, order, base, changed, shape, DEPTH, bytes);
     }
-    Ok((blank_shape(alloc, shape)?, bytes))
+    Ok((blank_within(alloc, shape, room)?, bytes))
 }
 
 /// The marked leaves of a node that has this number. The other leaves are blank, and a structure without
@@ -118,6 +120,7 @@ fn marked_at<'a>(
     order: Order,
     base: &Registry,
     changed: &mut Definitions,
+    room: &mut u64,
     shape: &Shape,
     sizes: &[u32],
     number: u32,
@@ -132,13 +135,14 @@ fn marked_at<'a>(
     match shape {
         Shape::Struct(node) => {
             if misses(mask, number, sizes[0]) {
-                return Ok((blank_shape(alloc, shape)?, bytes));
+                return Ok((blank_within(alloc, shape, room)?, bytes));
             }
             let (values, rest) = marked_row_at(
                 alloc,
                 order,
                 base,
                 changed,
+                room,
                 &node.members,
                 &sizes[1..],
                 number + 1,
@@ -153,6 +157,7 @@ fn marked_at<'a>(
                 order,
                 base,
                 changed,
+                room,
                 shape,
                 mask.contains(number),
                 bytes,
@@ -170,6 +175,7 @@ fn marked_row_at<'a>(
     order: Order,
     base: &Registry,
     changed: &mut Definitions,
+    room: &mut u64,
     members: &[Member],
     sizes: &[u32],
     number: u32,
@@ -192,6 +198,7 @@ fn marked_row_at<'a>(
             order,
             base,
             changed,
+            room,
             &member.shape,
             sizes,
             next,
@@ -206,7 +213,9 @@ fn marked_row_at<'a>(
     Ok((values, rest))
 }
 
-/// A part: a set of bits, and the leaves that it marks, in the order of their numbers.
+/// A part: a set of bits, and the leaves that it marks, in the order of their numbers. The lists of a
+/// fixed length among the other leaves take at most 64 MiB together, since a part of three bytes may
+/// leave thousands of them unmarked.
 #[tactic(auto, unfolding(crate::specs::Reading::part_at))]
 pub fn part_at<'a>(
     alloc: Global,
@@ -219,11 +228,13 @@ pub fn part_at<'a>(
     ensures { Gives (λ x. ((x.0, view x.1), (x.2.now, laid base.now changed.new))) result (part_at order ty.now (bytes.now, laid base.now changed.old)) }
 {
     let (mask, rest) = marks_at(alloc, order, ty, bytes)?;
+    let mut room = BLANK_ROOM;
     let (value, rest) = marked_at(
         alloc,
         order,
         base,
         changed,
+        &mut room,
         ty.shape(),
         ty.sizes(),
         0,

@@ -27,11 +27,18 @@ pub enum Element {
     Union,
 }
 
-/// How many bytes of memory a value counts for.
+// A read counts the memory that it takes, before it takes it: few bytes of a hostile payload could stand
+// for any number of values. A value counts 64 bytes, its element in a list of structures, unions or
+// variants 16 more, a text in a list 56 (src/lists.rt), and a type in a variant what pvd_desc counts. The
+// numbers of a list and the letters of a text take no more memory than bytes, and count nothing.
+
+/// How many bytes of memory a value counts for, whatever stands in it: its place among the members of a
+/// structure, or the memory of its own where it stands in a union, a variant or a list.
 const VALUE: u64 = 64;
 
-/// How many bytes of memory an element that may be null takes in its list.
-const SLOT: u64 = 8;
+/// How many bytes of memory an element of a list of structures, unions or variants takes in the list
+/// itself, null or not.
+const SLOT: u64 = 16;
 
 /// A value of a shape. What its variants define goes into `changed`, which hides the types of `base`.
 /// After a refusal `changed` may hold a part of that. The value counts against the memory that the read

@@ -21,12 +21,17 @@ use std::alloc::Global;
 // Readers over the bytes that are left of a payload, for a payload with more than one description or
 // value: the types that all of them define are kept aside and committed once, after the last one.
 
-/// How many bytes of memory a value may take for each byte from which it is read.
-const TIMES: u64 = 16;
+/// How many bytes of memory a value may take for each byte from which it is read, beside the 16 MiB that
+/// any read may take. A payload of 64 MiB, the largest, makes so at most 976 MiB, below 16 times its
+/// bytes.
+const TIMES: u64 = 15;
 
 /// Reads a whole value of a type at the front of some bytes, as `read_full` does, and answers what
 /// follows it. The types that it defines go into `changed`, which hides those of `base`. After a refusal
 /// `changed` may hold a part of them; `ValueStop::placed` gives the fault its place.
+///
+/// Want of memory is answered too where what has been made with `changed` would take more than 16 MiB and
+/// 15 bytes for each of these bytes (src/reading.rt says what counts how much).
 pub fn full_at<'a>(
     alloc: Global,
     order: Order,
@@ -47,6 +52,10 @@ pub fn full_at<'a>(
 /// Reads a part of a value of a type at the front of some bytes, as `read_part` does, and answers what
 /// follows it. The types that it defines go into `changed`, which hides those of `base`. After a refusal
 /// `changed` may hold a part of them; `ValueStop::placed` gives the fault its place.
+///
+/// Want of memory is answered too where what has been made with `changed` would take more than 16 MiB and
+/// 15 bytes for each of these bytes (src/reading.rt says what counts how much), and where the lists of a
+/// fixed length that aren't marked take more than 64 MiB in all.
 pub fn part_at<'a>(
     alloc: Global,
     order: Order,
