@@ -69,13 +69,13 @@ fn what_a_read_takes_is_bounded_by_its_bytes(rt: HostRuntime) -> Result<(), Fail
             200_000,
             None,
         ),
-        // 70,000 variants of an int
+        // 50,000 variants of an int
         (
             true,
             &[0x8A][..],
-            &[0xFE, 0, 0x01, 0x11, 0x70][..],
+            &[0xFE, 0, 0x00, 0xC3, 0x50][..],
             &[1, 0x22, 1, 2, 3, 4][..],
-            70_000,
+            50_000,
             None,
         ),
         // 1,000,000 empty texts
