@@ -3,6 +3,7 @@
 //! A type is a tree of shapes whose nodes are numbered depth first, as pvData numbers fields.
 #![tactic(auto)]
 
+mod budget;
 mod checking;
 mod meeting;
 mod memory;
@@ -13,6 +14,7 @@ mod set;
 mod shape;
 mod siblings;
 
+pub use budget::Budget;
 pub use checking::{TypeFault, check_below, is_among};
 pub use memory::NoMemory;
 pub use name::Name;
