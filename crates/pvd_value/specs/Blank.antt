@@ -1,5 +1,5 @@
 -- The value that a type begins with.
-use Rattle.std.specs.Prelude.{ℕ, [], false, pos, replicate}
+use Rattle.std.specs.Prelude.{ℕ, ◌+◌, ◌*◌, [], false, pos, replicate}
 use Rattle.pvd_type.specs.Tree.{Tree, leaf, node, Leaf, plain, bound_text, list, variant, variant_list, struct, union, struct_list, union_list, Fields, no_fields, field}
 use Rattle.pvd_type.specs.declared.shape.Scalar.{Scalar}
 use Rattle.pvd_type.specs.declared.shape.Scalar.TheVariants as scalar
@@ -62,3 +62,39 @@ abbrev mutual
   pub blank_row : Fields → Row
   blank_row no_fields = end
   blank_row (field name t fs) = more (blank_of t) (blank_row fs)
+
+-- how many bytes an element of a list takes in memory
+abbrev pub element_bytes : Scalar → ℕ
+element_bytes scalar.Bool = 1
+element_bytes scalar.I8 = 1
+element_bytes scalar.I16 = 2
+element_bytes scalar.I32 = 4
+element_bytes scalar.I64 = 8
+element_bytes scalar.U8 = 1
+element_bytes scalar.U16 = 2
+element_bytes scalar.U32 = 4
+element_bytes scalar.U64 = 8
+element_bytes scalar.F32 = 4
+element_bytes scalar.F64 = 8
+element_bytes scalar.Text = 24
+
+-- how many bytes a blank list takes
+abbrev pub list_bytes : Scalar → Extent → ℕ
+list_bytes s e = least_count e * element_bytes s
+
+-- how many bytes the lists of a blank value take: only those of a fixed length aren't empty
+abbrev mutual
+  pub fixed_bytes : Tree → ℕ
+  fixed_bytes (leaf (plain s)) = 0
+  fixed_bytes (leaf (bound_text bound)) = 0
+  fixed_bytes (leaf (list s e)) = list_bytes s e
+  fixed_bytes (leaf variant) = 0
+  fixed_bytes (leaf variant_list) = 0
+  fixed_bytes (node struct id fs) = fixed_bytes_in fs
+  fixed_bytes (node union id fs) = 0
+  fixed_bytes (node struct_list id fs) = 0
+  fixed_bytes (node union_list id fs) = 0
+
+  pub fixed_bytes_in : Fields → ℕ
+  fixed_bytes_in no_fields = 0
+  fixed_bytes_in (field name t fs) = fixed_bytes t + fixed_bytes_in fs

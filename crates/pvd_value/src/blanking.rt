@@ -1,12 +1,12 @@
-ghost use Rattle.std.specs.Prelude.{◌≡◌, ◌≤◌, true, replicate, IfOk, []};
+ghost use Rattle.std.specs.Prelude.{◌≡◌, ◌≤◌, ◌+◌, true, replicate, IfOk, OnOk, []};
 ghost use Rattle.pvd_type.specs.View.{shape_view, members_view};
 ghost use Rattle.pvd_value.specs.Data.{single, many};
 ghost use Rattle.pvd_value.specs.View.{view, row_view, items_view};
 ghost use Rattle.pvd_value.specs.Fits.{fits_of};
-ghost use Rattle.pvd_value.specs.Blank.{blank_of, blank_row, blank_single, blank_many, least_count};
+ghost use Rattle.pvd_value.specs.Blank.{blank_of, blank_row, blank_single, blank_many, least_count, element_bytes, list_bytes, fixed_bytes, fixed_bytes_in};
 
 use crate::value::{Items, PvValue};
-use pvd_type::{Extent, Member, Name, NoMemory, PvType, Scalar, Shape};
+use pvd_type::{Budget, Extent, Member, Name, NoMemory, PvType, Scalar, Shape};
 use std::alloc::Global;
 
 /// How many bytes the lists of a fixed length in one blank value may take in all: as many as the largest payload has.
@@ -25,35 +25,33 @@ pub fn blank(alloc: Global, ty: &PvType) -> Result<PvValue, NoMemory>
 pub fn blank_shape(alloc: Global, shape: &Shape) -> Result<PvValue, NoMemory>
     ensures { IfOk result (λ v. view v ≡ blank_of (shape_view shape.now)) }
 {
-    let mut room = BLANK_ROOM;
-    blank_at(shape, alloc, &mut room)
+    let mut budget = Budget::of(BLANK_ROOM);
+    blank_within(alloc, shape, &mut budget)
 }
 
-/// The blank value of one of several parts of a type, whose lists of a fixed length take together at most `room` bytes: those of this
-/// part are taken off it, and where it has too few that is `NoMemory`.
-pub fn blank_within(alloc: Global, shape: &Shape, room: &mut u64) -> Result<PvValue, NoMemory>
-    ensures { IfOk result (λ v. view v ≡ blank_of (shape_view shape.now)) }
+/// The blank value of one of several parts of a type, whose lists of a fixed length share a budget: those of this part are taken off
+/// it, and where they take more than is left that is `NoMemory`.
+pub fn blank_within(alloc: Global, shape: &Shape, budget: &mut Budget) -> Result<PvValue, NoMemory>
+    ensures value { IfOk result (λ v. view v ≡ blank_of (shape_view shape.now)) }
+    ensures spent { OnOk result (budget.new.left + fixed_bytes (shape_view shape.now) ≡ budget.old.left) }
 {
-    blank_at(shape, alloc, room)
+    blank_at(shape, alloc, budget)
 }
 
-/// Takes the bytes of a list of a fixed length from those that are left for all of a blank value.
-fn spend(room: &mut u64, scalar: Scalar, extent: Extent) -> Result<(), NoMemory> {
-    let Extent::Fixed(size) = extent else {
-        return Ok(());
-    };
-    match room.checked_sub(u64::from(size) * element_bytes(scalar)) {
-        Some(left) => {
-            *room = left;
-            Ok(())
-        }
-        None => Err(NoMemory),
+/// How many bytes a list of this extent takes in memory, if its length is fixed.
+fn list_bytes(scalar: Scalar, extent: Extent) -> u64
+    ensures { result ≡ list_bytes scalar extent }
+{
+    match extent {
+        Extent::Variable | Extent::Bounded(_) => 0,
+        Extent::Fixed(size) => u64::from(size) * element_bytes(scalar),
     }
 }
 
 /// How many bytes an element of a list takes in memory.
 fn element_bytes(scalar: Scalar) -> u64
-    ensures { result ≤ 24 }
+    ensures value { result ≡ element_bytes scalar }
+    ensures few { result ≤ 24 }
 {
     match scalar {
         Scalar::Bool | Scalar::I8 | Scalar::U8 => 1,
@@ -66,18 +64,19 @@ fn element_bytes(scalar: Scalar) -> u64
 
 #[cycle(blank)]
 #[inline(always)]
-fn blank_at(shape: &Shape, alloc: Global, room: &mut u64) -> Result<PvValue, NoMemory>
-    ensures { IfOk result (λ v. view v ≡ blank_of (shape_view shape.now)) }
+fn blank_at(shape: &Shape, alloc: Global, budget: &mut Budget) -> Result<PvValue, NoMemory>
+    ensures value { IfOk result (λ v. view v ≡ blank_of (shape_view shape.now)) }
+    ensures spent { OnOk result (budget.new.left + fixed_bytes (shape_view shape.now) ≡ budget.old.left) }
 {
     match shape {
         Shape::Plain(scalar) => blank_scalar(*scalar, alloc),
         Shape::BoundText(_) => Ok(PvValue::Text(Name::of(alloc, "")?)),
         Shape::List(scalar, extent) => {
-            spend(room, *scalar, *extent)?;
+            budget.spend(list_bytes(*scalar, *extent))?;
             let items = blank_items(*scalar, blank_count(*extent), alloc)?;
             Ok(PvValue::List(items))
         }
-        Shape::Struct(node) => Ok(PvValue::Struct(blank_members(&node.members, alloc, room)?)),
+        Shape::Struct(node) => Ok(PvValue::Struct(blank_members(&node.members, alloc, budget)?)),
         Shape::Union(_) => Ok(PvValue::Union(None)),
         Shape::Variant => Ok(PvValue::Variant(None)),
         Shape::StructList(_) => Ok(PvValue::StructList(Vec::new(alloc))),
@@ -91,13 +90,14 @@ fn blank_at(shape: &Shape, alloc: Global, room: &mut u64) -> Result<PvValue, NoM
 fn blank_members(
     members: &[Member],
     alloc: Global,
-    room: &mut u64,
+    budget: &mut Budget,
 ) -> Result<Vec<PvValue>, NoMemory>
-    ensures { IfOk result (λ v. row_view v.items ≡ blank_row (members_view members.now)) }
+    ensures value { IfOk result (λ v. row_view v.items ≡ blank_row (members_view members.now)) }
+    ensures spent { OnOk result (budget.new.left + fixed_bytes_in (members_view members.now) ≡ budget.old.left) }
 {
     let mut values = Vec::with_capacity(alloc, members.len())?;
     for member in members {
-        values.push(blank_at(&member.shape, alloc, room)?)?;
+        values.push(blank_at(&member.shape, alloc, budget)?)?;
     }
     Ok(values)
 }

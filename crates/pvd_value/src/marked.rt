@@ -145,7 +145,8 @@ fn compare_rows(
 /// Whether a set has none of so many numbers from `start` on.
 pub fn misses(mask: &BitSet, start: u32, count: u32) -> bool
     requires { start + count ≤ 4096 }
-    ensures { result ≡ true → (k : ℕ) → start ≤ k → k < start + count → set.contains mask.now k ≡ false }
+    ensures none { result ≡ true → (k : ℕ) → start ≤ k → k < start + count → set.contains mask.now k ≡ false }
+    ensures some { result ≡ false → (k : ℕ) × (start ≤ k) × (k < start + count) × (set.contains mask.now k ≡ true) }
 {
     match mask.first_from(start) {
         Some(first) => first >= start + count,

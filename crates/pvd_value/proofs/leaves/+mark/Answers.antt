@@ -30,7 +30,7 @@ mark-returns-then-misses t c =
     let marked : ℕ → Bool = set.contains c.args.bits.now in
     let size : get_or c.args.sizes.now 0 0 ≡ length (numbered tree) = ap (λ (xs : List ℕ). get_or xs 0 0) c.requires.sizes.front ∙ first_size tree c.requires.sizes.rest in
     let unmarked : (c.args.inside || marked c.args.number) ≡ false = ap (λ (b : Bool). c.args.inside || b) (sym c.contains.ensures) ∙ c.if-not-marked.true in
-    let none = under_none marked c.args.inside c.args.number tree unmarked (λ k from to. c.misses.ensures c.if-misses.true k from (omega (arith, to, size))) in
+    let none = under_none marked c.args.inside c.args.number tree unmarked (λ k from to. c.misses.ensures.none c.if-misses.true k from (omega (arith, to, size))) in
     sym (ap (λ (ns : List ℕ). fold set.insert c.args.found.now ns) none)
 
 pub mark_members-loop-member-preserved : goal.mark_members-loop-member-preserved

@@ -148,7 +148,7 @@ compare_member-returns-then-misses t c =
     let tree = shape_view c.args.shape.now in
     let long = slots_length 16 (view c.args.a.now) tree c.requires.a in
     sym (ap (fold set.insert c.args.found.now) (filter_none (set.contains c.args.mask.now) c.args.number (slots tree (view c.args.a.now)) (slots tree (view c.args.b.now))
-    (λ k from to. c.misses.ensures c.if-misses.true k from (omega (arith, to, c.requires.count, long)))))
+    (λ k from to. c.misses.ensures.none c.if-misses.true k from (omega (arith, to, c.requires.count, long)))))
 
 pub compare-returns-in_default : goal.compare-returns-in_default
 compare-returns-in_default t c =

@@ -127,7 +127,7 @@ pick-returns-then-misses t c =
     let tree = shape_view c.args.shape.now in
     let size : get_or c.args.sizes.now 0 0 ≡ length (numbered tree) = ap (λ (xs : List ℕ). get_or xs 0 0) c.requires.sizes.front ∙ first_size tree c.requires.sizes.rest in
     let copies = map view c.args.copies.now.items in
-    let none = picked_none (set.contains c.args.mask.now) c.args.number tree (view c.args.from.now) (λ k from to. c.misses.ensures c.if-misses.true k from (omega (arith, to, size))) in
+    let none = picked_none (set.contains c.args.mask.now) c.args.number tree (view c.args.from.now) (λ k from to. c.misses.ensures.none c.if-misses.true k from (omega (arith, to, size))) in
     sym (ap (λ (ds : List Data). copies ++ ds) none ∙ append-nil copies)
 
 pub pick-returns-in_default : goal.pick-returns-in_default

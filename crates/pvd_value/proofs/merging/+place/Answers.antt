@@ -28,14 +28,14 @@ place-returns-then-misses-clause-value t c =
     let tree = shape_view c.args.shape.now in
     let size : get_or c.args.sizes.now 0 0 ≡ length (numbered tree) = ap (λ (xs : List ℕ). get_or xs 0 0) c.requires.sizes.front ∙ first_size tree c.requires.sizes.rest in
     sym (placed_none 16 (fin.contains c.args.mask.now) c.args.number tree (view c.args.into.now) (map view (into_iter_items c.args.copies.now)) c.requires.into
-    (λ k from to. c.misses.ensures c.if-misses.true k from (omega (arith, to, size))))
+    (λ k from to. c.misses.ensures.none c.if-misses.true k from (omega (arith, to, size))))
 
 pub place-returns-then-misses-clause-rest : goal.place-returns-then-misses-clause-rest
 place-returns-then-misses-clause-rest t c =
     let tree = shape_view c.args.shape.now in
     let size : get_or c.args.sizes.now 0 0 ≡ length (numbered tree) = ap (λ (xs : List ℕ). get_or xs 0 0) c.requires.sizes.front ∙ first_size tree c.requires.sizes.rest in
     sym (left_none (fin.contains c.args.mask.now) c.args.number tree (map view (into_iter_items c.args.copies.now))
-    (λ k from to. c.misses.ensures c.if-misses.true k from (omega (arith, to, size))))
+    (λ k from to. c.misses.ensures.none c.if-misses.true k from (omega (arith, to, size))))
 
 pub place-returns-in_default : goal.place-returns-in_default
 place-returns-in_default t c =

@@ -21,12 +21,12 @@ use Rattle.pvd_value.proofs.moving.+swap.Goals as goal
 pub swap_member-returns-then-misses-clause-value : goal.swap_member-returns-then-misses-clause-value
 swap_member-returns-then-misses-clause-value t c =
     sym (merged_none 16 (fin.contains c.args.mask.now) c.args.number (shape_view c.args.shape.now) (view c.args.into.now) (view c.args.from.now) c.requires.into c.requires.from
-    (λ k from to. c.misses.ensures c.if-misses.true k from (omega (arith, to, c.requires.count))))
+    (λ k from to. c.misses.ensures.none c.if-misses.true k from (omega (arith, to, c.requires.count))))
 
 pub swap_member-returns-then-misses-clause-rest : goal.swap_member-returns-then-misses-clause-rest
 swap_member-returns-then-misses-clause-rest t c =
     sym (merged_none 16 (fin.contains c.args.mask.now) c.args.number (shape_view c.args.shape.now) (view c.args.from.now) (view c.args.into.now) c.requires.from c.requires.into
-    (λ k from to. c.misses.ensures c.if-misses.true k from (omega (arith, to, c.requires.count))))
+    (λ k from to. c.misses.ensures.none c.if-misses.true k from (omega (arith, to, c.requires.count))))
 
 pub swap_row-overflow_add-next : goal.swap_row-overflow_add-next
 swap_row-overflow_add-next t c =
