@@ -10,7 +10,7 @@ use crate::fault::DescStop;
 use crate::items::{definition, id_at};
 use crate::registry::{Definitions, Registry};
 use pva_wire::Order;
-use pvd_type::{BitSet, NoMemory, PvType, Shape};
+use pvd_type::{BitSet, Budget, NoMemory, PvType, Shape};
 use std::alloc::Global;
 use std::sync::Arc;
 
@@ -54,6 +54,7 @@ const FEW: usize = 8;
 pub fn define_all(
     alloc: Global,
     changed: &mut Definitions,
+    budget: &mut Budget,
     ids: &[u16],
     shape: &Shape,
     nodes: u32,
@@ -64,24 +65,25 @@ pub fn define_all(
     if ids.is_empty() {
         return Ok(());
     }
-    changed.spend(TYPE + 4 * nodes as u64)?;
+    budget.spend(TYPE + 4 * nodes as u64)?;
     let ty = Arc::new(alloc, PvType::of_checked(alloc, shape.clone_in(alloc)?)?)?;
     if ids.len() <= FEW {
-        return define_each(changed, ids, &ty);
+        return define_each(changed, budget, ids, &ty);
     }
-    define_once(alloc, changed, ids, &ty)
+    define_once(alloc, changed, budget, ids, &ty)
 }
 
 /// Puts a type under each of the ids.
 fn define_each(
     changed: &mut Definitions,
+    budget: &mut Budget,
     ids: &[u16],
     ty: &Arc<PvType, Global>,
 ) -> Result<(), NoMemory>
     ensures { OnOk result ((base : Types) → laid base changed.new ≡ define_all ids.now (arc_value ty.now) (laid base changed.old)) }
 {
     for id in ids {
-        changed.spend(ID)?;
+        budget.spend(ID)?;
         changed.define(*id, ty)?;
     }
     Ok(())
@@ -91,18 +93,19 @@ fn define_each(
 fn define_once(
     alloc: Global,
     changed: &mut Definitions,
+    budget: &mut Budget,
     ids: &[u16],
     ty: &Arc<PvType, Global>,
 ) -> Result<(), NoMemory>
     ensures { OnOk result ((base : Types) → laid base changed.new ≡ define_all ids.now (arc_value ty.now) (laid base changed.old)) }
 {
-    changed.spend(SET)?;
+    budget.spend(SET)?;
     let mut done = BitSet::new(alloc);
     'ids: for id in ids {
         if done.contains(*id as u32) {
             continue 'ids;
         }
-        changed.spend(ID)?;
+        budget.spend(ID)?;
         changed.define(*id, ty)?;
         done.insert(*id as u32)?;
     }

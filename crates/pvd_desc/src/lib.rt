@@ -17,6 +17,6 @@ mod writing;
 pub use cursor::read_desc;
 pub use fault::{DescCause, DescFault, DescStop};
 pub use laws::descriptions;
-pub use reading::desc_at;
+pub use reading::{READ_ROOM, desc_at, desc_within};
 pub use registry::{Definitions, Registry};
 pub use writing::write_desc;

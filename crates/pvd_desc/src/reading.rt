@@ -17,7 +17,7 @@ use crate::items::{
 use crate::registry::{Definitions, Registry};
 use crate::standing::stand_below;
 use pva_wire::Order;
-use pvd_type::{Extent, Member, Name, NoMemory, Node, PvType, Shape, Siblings, TypeFault};
+use pvd_type::{Budget, Extent, Member, Name, NoMemory, Node, PvType, Shape, Siblings, TypeFault};
 use std::alloc::Global;
 use std::sync::Arc;
 
@@ -133,6 +133,7 @@ fn inside_at<'a>(
     order: Order,
     base: &Registry,
     changed: &mut Definitions,
+    budget: &mut Budget,
     room: u32,
     seen: u32,
     bytes: &'a [u8],
@@ -142,6 +143,7 @@ fn inside_at<'a>(
     ensures value { Gives (λ x. (node_view (arc_value x.0), x.1, x.2.now, laid base.now changed.new)) result (inside_at order (33 - room) (fields_below order room) seen (laid base.now changed.old) bytes.now) }
     ensures few { IfOk result (λ x. x.1 ≤ 4096) }
 {
+    budget.spend(BRANCH)?;
     let (id, rest) = name_at(alloc, order, bytes)?;
     let (count, rest) = member_count_at(order, rest)?;
     let (members, seen, rest) = fields_at(
@@ -149,6 +151,7 @@ fn inside_at<'a>(
         order,
         base,
         changed,
+        budget,
         room - 1,
         count,
         seen + 1,
@@ -164,6 +167,7 @@ fn fields_at<'a>(
     order: Order,
     base: &Registry,
     changed: &mut Definitions,
+    budget: &mut Budget,
     room: u32,
     count: u32,
     seen: u32,
@@ -184,6 +188,7 @@ fn fields_at<'a>(
             order,
             base,
             changed,
+            budget,
             room,
             seen,
             &members,
@@ -205,6 +210,7 @@ fn member_at<'a>(
     order: Order,
     base: &Registry,
     changed: &mut Definitions,
+    budget: &mut Budget,
     room: u32,
     seen: u32,
     before: &[Member],
@@ -220,7 +226,9 @@ fn member_at<'a>(
 {
     let (text, rest) = str_at(order, bytes)?;
     let fault = named(text, before, siblings);
-    let (shape, seen, rest) = node_at(alloc, order, base, changed, room, seen, fault, rest)?;
+    let (shape, seen, rest) = node_at(
+        alloc, order, base, changed, budget, room, seen, fault, rest,
+    )?;
     let name = Name::of(alloc, text)?;
     Ok((Member { name, shape }, seen, rest))
 }
@@ -234,6 +242,7 @@ fn node_at<'a>(
     order: Order,
     base: &Registry,
     changed: &mut Definitions,
+    budget: &mut Budget,
     room: u32,
     seen: u32,
     named: Option<TypeFault>,
@@ -248,8 +257,17 @@ fn node_at<'a>(
     let left = rest.len();
     let (code, rest) = code_at(rest)?;
     check_here(33 - room, seen, named, left)?;
-    let (shape, total, rest) = parts_at(alloc, order, base, changed, room, code, left, seen, rest)?;
-    define_all(alloc, changed, &ids, &shape, total.saturating_sub(seen))?;
+    let (shape, total, rest) = parts_at(
+        alloc, order, base, changed, budget, room, code, left, seen, rest,
+    )?;
+    define_all(
+        alloc,
+        changed,
+        budget,
+        &ids,
+        &shape,
+        total.saturating_sub(seen),
+    )?;
     Ok((shape, total, rest))
 }
 
@@ -261,6 +279,7 @@ fn parts_at<'a>(
     order: Order,
     base: &Registry,
     changed: &mut Definitions,
+    budget: &mut Budget,
     room: u32,
     code: Code,
     left: usize,
@@ -290,11 +309,15 @@ fn parts_at<'a>(
         Code::Variant => Ok((Shape::Variant, seen + 1, bytes)),
         Code::VariantList => Ok((Shape::VariantList, seen + 1, bytes)),
         Code::Struct => {
-            let (node, seen, rest) = inside_at(alloc, order, base, changed, room, seen, bytes)?;
+            let (node, seen, rest) = inside_at(
+                alloc, order, base, changed, budget, room, seen, bytes,
+            )?;
             Ok((Shape::Struct(node), seen, rest))
         }
         Code::Union => {
-            let (node, seen, rest) = inside_at(alloc, order, base, changed, room, seen, bytes)?;
+            let (node, seen, rest) = inside_at(
+                alloc, order, base, changed, budget, room, seen, bytes,
+            )?;
             Ok((Shape::Union(node), seen, rest))
         }
         Code::StructList => element_at(
@@ -302,6 +325,7 @@ fn parts_at<'a>(
             order,
             base,
             changed,
+            budget,
             room,
             Element::Struct,
             seen,
@@ -312,6 +336,7 @@ fn parts_at<'a>(
             order,
             base,
             changed,
+            budget,
             room,
             Element::Union,
             seen,
@@ -342,6 +367,7 @@ fn element_at<'a>(
     order: Order,
     base: &Registry,
     changed: &mut Definitions,
+    budget: &mut Budget,
     room: u32,
     element: Element,
     seen: u32,
@@ -361,6 +387,7 @@ fn element_at<'a>(
         order,
         base,
         changed,
+        budget,
         room,
         element,
         first,
@@ -370,7 +397,14 @@ fn element_at<'a>(
         code,
         rest,
     )?;
-    define_all(alloc, changed, &ids, &shape, total.saturating_sub(seen))?;
+    define_all(
+        alloc,
+        changed,
+        budget,
+        &ids,
+        &shape,
+        total.saturating_sub(seen),
+    )?;
     Ok((list_tree(shape), total, rest))
 }
 
@@ -383,6 +417,7 @@ fn element_of<'a>(
     order: Order,
     base: &Registry,
     changed: &mut Definitions,
+    budget: &mut Budget,
     room: u32,
     element: Element,
     first: u8,
@@ -415,7 +450,7 @@ fn element_of<'a>(
     if !takes(element, code) {
         return Err(DescStop::Fault(DescCause::UnknownCode(first), first_left));
     }
-    let (node, seen, rest) = inside_at(alloc, order, base, changed, room, seen, bytes)?;
+    let (node, seen, rest) = inside_at(alloc, order, base, changed, budget, room, seen, bytes)?;
     match element {
         Element::Struct => Ok((Shape::Struct(node), seen, rest)),
         Element::Union => Ok((Shape::Union(node), seen, rest)),
@@ -443,14 +478,23 @@ fn alone_at<'a>(
     }
 }
 
-/// How many bytes a node of a type counts for: its place in the list of the node above it, its name, what
-/// a structure or a union has of its own (a count of copies, and the lists of its id and its members),
-/// and the time to test it.
+/// How many bytes of memory any read may take, whatever few bytes it has.
+pub const READ_ROOM: u64 = 16_777_216;
+
+/// How many bytes a node of a type counts for: its place in the list of the node above it, its name, and
+/// the time to test it.
 const NODE: u64 = 192;
 
+/// How many bytes a structure or a union in a type counts for beside that: a count of its owners, the
+/// lists of its id and its members, and the time to make them and to let them go.
+const BRANCH: u64 = 192;
+
+/// How many bytes a description counts for that is a type under an id: the time to share it.
+const SHARE: u64 = 32;
+
 /// A description and what follows it; None is the null description. What it defines goes into
-/// `changed`, which hides the types of `base`. After a refusal `changed` may hold a part of that.
-#[tactic(auto, unfolding(crate::specs::Reading::desc_at))]
+/// `changed`, which hides the types of `base`. After a refusal `changed` may hold a part of that. What
+/// it takes of memory beyond its bytes is at most some 16 MiB.
 pub fn desc_at<'a>(
     alloc: Global,
     order: Order,
@@ -460,13 +504,31 @@ pub fn desc_at<'a>(
 ) -> Result<(Option<PvType>, &'a [u8]), DescStop>
     ensures { Gives (λ x. (x.0, x.1.now, laid base.now changed.new)) result (desc_at order (laid base.now changed.old) bytes.now) }
 {
+    let mut budget = Budget::of(READ_ROOM);
+    desc_within(alloc, order, base, changed, &mut budget, bytes)
+}
+
+/// A description and what follows it, as [`desc_at`] reads it, whose nodes and definitions count against
+/// a budget.
+#[tactic(auto, unfolding(crate::specs::Reading::desc_at))]
+pub fn desc_within<'a>(
+    alloc: Global,
+    order: Order,
+    base: &Registry,
+    changed: &mut Definitions,
+    budget: &mut Budget,
+    bytes: &'a [u8],
+) -> Result<(Option<PvType>, &'a [u8]), DescStop>
+    ensures { Gives (λ x. (x.0, x.1.now, laid base.now changed.new)) result (desc_at order (laid base.now changed.old) bytes.now) }
+{
     if let Some(rest) = null(bytes) {
         return Ok((None, rest));
     }
     if let Some(rest) = cached(bytes) {
+        budget.spend(SHARE)?;
         return alone_at(alloc, order, base, changed, rest);
     }
-    let (shape, nodes, rest) = node_at(alloc, order, base, changed, 32, 0, None, bytes)?;
-    changed.spend(NODE * nodes as u64)?;
+    let (shape, nodes, rest) = node_at(alloc, order, base, changed, budget, 32, 0, None, bytes)?;
+    budget.spend(NODE * nodes as u64)?;
     Ok((Some(PvType::of_checked(alloc, shape)?), rest))
 }

@@ -34,17 +34,11 @@ impl Model for Registry {
     ghost view = { λ a. map.from_entries (shared a.types.entries) };
 }
 
-/// How many bytes a read may spend before more are allowed, for types and values.
-const ROOM: u64 = 16_777_216;
-
 /// The types that a read has defined so far, which are put over those of the registry once the whole
-/// is read, and how many bytes the read may still spend: 16 MiB in all, and what [`Definitions::allow`]
-/// adds. The ids of one chain of definitions share one type in memory.
+/// is read. The ids of one chain of definitions share one type in memory.
 #[derive(Drop)]
 pub struct Definitions {
     types: BTreeMap<u16, Arc<PvType, Global>>,
-    // how many bytes may still be spent
-    room: u64,
 }
 
 impl Model for Definitions {
@@ -100,7 +94,7 @@ impl Registry {
         ensures ok { OnOk result (self.new ≡ laid self.old defined) }
         ensures err { OnErr result (self.new ≡ self.old) }
     {
-        let Definitions { types, .. } = defined;
+        let Definitions { types } = defined;
         self.types.reserve(types.len())?;
         fill(&mut self.types, types);
         Ok(())
@@ -108,33 +102,13 @@ impl Registry {
 }
 
 impl Definitions {
-    /// No definitions, and 16 MiB to spend.
+    /// No definitions.
     pub fn new(alloc: Global) -> Definitions
         ensures { result ≡ map.empty }
     {
         Definitions {
             types: BTreeMap::new(alloc),
-            room: ROOM,
         }
-    }
-
-    /// Lets the read spend so many bytes more than the 16 MiB that it began with and what was allowed before.
-    pub fn allow(&mut self, bytes: u64)
-        ensures { self.new ≡ self.old }
-    {
-        self.room = self.room.saturating_add(bytes);
-    }
-
-    /// Spends bytes: what a step of the read takes of memory, and for its time. Where fewer are left it is
-    /// NoMemory, and none is spent. So few bytes of a hostile payload can't stand for any number of values.
-    pub fn spend(&mut self, bytes: u64) -> Result<(), NoMemory>
-        ensures { self.new ≡ self.old }
-    {
-        if self.room < bytes {
-            return Err(NoMemory);
-        }
-        self.room -= bytes;
-        Ok(())
     }
 
     /// The type under an id.

@@ -12,7 +12,7 @@ use Rattle.pvd_desc.proofs.chain.define_once.Goals as goal
 
 pub ids-init : goal.ids-init
 ids-init c = record {
-  left = λ base. rw c.spend.ensures refl;
+  left = λ base. refl;
   there = λ base q h. absurd (true≢false (sym h ∙ rw c.new-done.ensures (set.contains-empty nat_cmp q)));
 }
 
