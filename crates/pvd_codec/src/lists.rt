@@ -9,7 +9,7 @@ use crate::fault::{ValueCause, ValueStop};
 use crate::list_numbers::numbers_at;
 use crate::scalars::{bool_at, name_at};
 use pva_wire::{Cause, Order, count_at, counted_at};
-use pvd_type::{Extent, Name, Scalar};
+use pvd_type::{Budget, Extent, Name, Scalar};
 use pvd_value::{Items, PvValue};
 use std::alloc::{AllocError, Global};
 
@@ -62,19 +62,8 @@ fn extent_at(
     }
 }
 
-/// How many bytes of memory a text counts for in a list.
-const TEXT: u64 = 56;
-
-/// How many bytes of memory the texts of a list count for, its letters left out. Numbers take no more than their bytes.
-pub fn texts_room(order: Order, scalar: Scalar, extent: Extent, bytes: &[u8]) -> u64 {
-    match scalar {
-        Scalar::Text => match extent_at(order, extent, 1, bytes) {
-            Ok((count, _)) => TEXT * count as u64,
-            Err(_) => 0,
-        },
-        _ => 0,
-    }
-}
+/// How many bytes of memory the place of a text in a list takes.
+const PLACE: u64 = 24;
 
 /// So many booleans.
 fn bools_at(alloc: Global, count: u32, bytes: &[u8]) -> Result<(Vec<bool>, &[u8]), ValueStop>
@@ -91,18 +80,20 @@ fn bools_at(alloc: Global, count: u32, bytes: &[u8]) -> Result<(Vec<bool>, &[u8]
 }
 
 /// So many texts.
-fn texts_at(
+fn texts_at<'a>(
     alloc: Global,
     order: Order,
+    budget: &mut Budget,
     count: u32,
-    bytes: &[u8],
-) -> Result<(Vec<Name>, &[u8]), ValueStop>
+    bytes: &'a [u8],
+) -> Result<(Vec<Name>, &'a [u8]), ValueStop>
     ensures { Gives (λ x. (x.0.items, x.1.now)) result (items_at (λ b. lifted (text_at order b)) count bytes.now) }
 {
+    budget.spend(PLACE * count as u64)?;
     let mut items = Vec::with_capacity(alloc, count as usize)?;
     let mut rest = bytes;
     for _ in 0..count {
-        let (item, after) = name_at(alloc, order, rest)?;
+        let (item, after) = name_at(alloc, order, budget, rest)?;
         items.push(item)?;
         rest = after;
     }
@@ -146,13 +137,14 @@ fn i8s_at(
 
 /// So many scalars, for which there are bytes enough.
 #[tactic(auto, unfolding(crate::specs::Reading::elements_at))]
-fn elements_at(
+fn elements_at<'a>(
     alloc: Global,
     order: Order,
+    budget: &mut Budget,
     scalar: Scalar,
     count: u32,
-    bytes: &[u8],
-) -> Result<(PvValue, &[u8]), ValueStop>
+    bytes: &'a [u8],
+) -> Result<(PvValue, &'a [u8]), ValueStop>
     requires { count * width_of scalar ≤ length bytes.now }
     ensures { Gives (λ x. (view x.0, x.1.now)) result (elements_at order scalar count bytes.now) }
 {
@@ -202,7 +194,7 @@ fn elements_at(
             Ok((PvValue::List(Items::F64(items)), rest))
         }
         Scalar::Text => {
-            let (items, rest) = texts_at(alloc, order, count, bytes)?;
+            let (items, rest) = texts_at(alloc, order, budget, count, bytes)?;
             Ok((PvValue::List(Items::Text(items)), rest))
         }
     }
@@ -210,15 +202,16 @@ fn elements_at(
 
 /// A list of scalars: a count, unless its length is fixed, and the elements. They are read in one pass.
 #[tactic(auto, unfolding(crate::specs::Reading::list_at))]
-pub fn list_at(
+pub fn list_at<'a>(
     alloc: Global,
     order: Order,
+    budget: &mut Budget,
     scalar: Scalar,
     extent: Extent,
-    bytes: &[u8],
-) -> Result<(PvValue, &[u8]), ValueStop>
+    bytes: &'a [u8],
+) -> Result<(PvValue, &'a [u8]), ValueStop>
     ensures { Gives (λ x. (view x.0, x.1.now)) result (list_at order scalar extent bytes.now) }
 {
     let (count, rest) = extent_at(order, extent, width_of(scalar), bytes)?;
-    elements_at(alloc, order, scalar, count, rest)
+    elements_at(alloc, order, budget, scalar, count, rest)
 }

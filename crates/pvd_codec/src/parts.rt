@@ -11,7 +11,7 @@ use crate::fault::{ValueCause, ValueStop};
 use crate::reading::{DEPTH, value_at};
 use pva_wire::{Order, bits_at, counted_at};
 use pvd_desc::{Definitions, Registry};
-use pvd_type::{BitSet, Member, PvType, Shape, split_size};
+use pvd_type::{BitSet, Budget, Member, PvType, Shape, split_size};
 use pvd_value::{BLANK_ROOM, PvValue, ValueBits, blank_within, leaves_of, misses};
 use std::alloc::Global;
 
@@ -88,7 +88,7 @@ fn marks_at<'a>(
 }
 
 /// What stands under a number: the value where it is marked, and else the blank one, which takes no
-/// bytes. Its lists of a fixed length take their memory from `room`, as those of all blank values in the
+/// bytes. Its lists of a fixed length take their memory from `blanks`, as those of all blank values in the
 /// part.
 #[inline(always)]
 fn slot_at<'a>(
@@ -96,7 +96,8 @@ fn slot_at<'a>(
     order: Order,
     base: &Registry,
     changed: &mut Definitions,
-    room: &mut u64,
+    budget: &mut Budget,
+    blanks: &mut Budget,
     shape: &Shape,
     marked: bool,
     bytes: &'a [u8],
@@ -105,9 +106,9 @@ fn slot_at<'a>(
     ensures { Gives (λ x. (view x.0, (x.1.now, laid base.now changed.new))) result (slot_at marked order (shape_view shape.now) (bytes.now, laid base.now changed.old)) }
 {
     if marked {
-        return value_at(alloc, order, base, changed, shape, DEPTH, bytes);
+        return value_at(alloc, order, base, changed, budget, shape, DEPTH, bytes);
     }
-    Ok((blank_within(alloc, shape, room)?, bytes))
+    Ok((blank_within(alloc, shape, blanks)?, bytes))
 }
 
 /// The marked leaves of a node that has this number. The other leaves are blank, and a structure without
@@ -120,7 +121,8 @@ fn marked_at<'a>(
     order: Order,
     base: &Registry,
     changed: &mut Definitions,
-    room: &mut u64,
+    budget: &mut Budget,
+    blanks: &mut Budget,
     shape: &Shape,
     sizes: &[u32],
     number: u32,
@@ -135,14 +137,15 @@ fn marked_at<'a>(
     match shape {
         Shape::Struct(node) => {
             if misses(mask, number, sizes[0]) {
-                return Ok((blank_within(alloc, shape, room)?, bytes));
+                return Ok((blank_within(alloc, shape, blanks)?, bytes));
             }
             let (values, rest) = marked_row_at(
                 alloc,
                 order,
                 base,
                 changed,
-                room,
+                budget,
+                blanks,
                 &node.members,
                 &sizes[1..],
                 number + 1,
@@ -157,7 +160,8 @@ fn marked_at<'a>(
                 order,
                 base,
                 changed,
-                room,
+                budget,
+                blanks,
                 shape,
                 mask.contains(number),
                 bytes,
@@ -175,7 +179,8 @@ fn marked_row_at<'a>(
     order: Order,
     base: &Registry,
     changed: &mut Definitions,
-    room: &mut u64,
+    budget: &mut Budget,
+    blanks: &mut Budget,
     members: &[Member],
     sizes: &[u32],
     number: u32,
@@ -198,7 +203,8 @@ fn marked_row_at<'a>(
             order,
             base,
             changed,
-            room,
+            budget,
+            blanks,
             &member.shape,
             sizes,
             next,
@@ -222,19 +228,21 @@ pub fn part_at<'a>(
     order: Order,
     base: &Registry,
     changed: &mut Definitions,
+    budget: &mut Budget,
     ty: &PvType,
     bytes: &'a [u8],
 ) -> Result<(BitSet, PvValue, &'a [u8]), ValueStop>
     ensures { Gives (λ x. ((x.0, view x.1), (x.2.now, laid base.now changed.new))) result (part_at order ty.now (bytes.now, laid base.now changed.old)) }
 {
     let (mask, rest) = marks_at(alloc, order, ty, bytes)?;
-    let mut room = BLANK_ROOM;
+    let mut blanks = Budget::of(BLANK_ROOM);
     let (value, rest) = marked_at(
         alloc,
         order,
         base,
         changed,
-        &mut room,
+        budget,
+        &mut blanks,
         ty.shape(),
         ty.sizes(),
         0,

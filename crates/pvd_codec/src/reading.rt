@@ -6,11 +6,11 @@ ghost use Rattle.pvd_desc.specs.Types.{laid};
 ghost use Rattle.pvd_codec.specs.Reading.{Gives, items_at, flagged, listed, value_at, row_at, union_at, element_with, element_at, variant_with, pair_view, parcel_at};
 
 use crate::fault::{ValueCause, ValueStop};
-use crate::lists::{list_at, texts_room};
+use crate::lists::list_at;
 use crate::scalars::{bool_at, bound_text_at, scalar_at};
 use pva_wire::{Order, counted_at, size_at};
-use pvd_desc::{Definitions, Registry, desc_at};
-use pvd_type::{Member, PvType, Shape};
+use pvd_desc::{Definitions, Registry, desc_within};
+use pvd_type::{Budget, Member, PvType, Shape};
 use pvd_value::{PvValue, member_shape};
 use std::alloc::Global;
 
@@ -29,8 +29,9 @@ pub enum Element {
 
 // A read counts the memory that it takes, before it takes it: few bytes of a hostile payload could stand
 // for any number of values. A value counts 64 bytes, its element in a list of structures, unions or
-// variants 16 more, a text in a list 56 (src/lists.rt), and a type in a variant what pvd_desc counts. The
-// numbers of a list and the letters of a text take no more memory than bytes, and count nothing.
+// variants 16 more, a text 48 more (src/scalars.rt) and 72 in a list of texts, and a type in a variant
+// what pvd_desc counts. The numbers of a list and the letters of a text take no more memory than bytes,
+// and count nothing.
 
 /// How many bytes of memory a value counts for, whatever stands in it: its place among the members of a
 /// structure, or the memory of its own where it stands in a union, a variant or a list.
@@ -49,6 +50,7 @@ pub fn value_at<'a>(
     order: Order,
     base: &Registry,
     changed: &mut Definitions,
+    budget: &mut Budget,
     shape: &Shape,
     left: u32,
     bytes: &'a [u8],
@@ -56,8 +58,8 @@ pub fn value_at<'a>(
     requires { nodes (shape_view shape.now) ≤ 4096 }
     ensures { Gives (λ x. (view x.0, (x.1.now, laid base.now changed.new))) result (value_at left order (shape_view shape.now) (bytes.now, laid base.now changed.old)) }
 {
-    changed.spend(VALUE)?;
-    shaped_at(alloc, order, base, changed, shape, left, bytes)
+    budget.spend(VALUE)?;
+    shaped_at(alloc, order, base, changed, budget, shape, left, bytes)
 }
 
 /// A value of a shape, which is counted.
@@ -68,6 +70,7 @@ fn shaped_at<'a>(
     order: Order,
     base: &Registry,
     changed: &mut Definitions,
+    budget: &mut Budget,
     shape: &Shape,
     left: u32,
     bytes: &'a [u8],
@@ -77,24 +80,41 @@ fn shaped_at<'a>(
 {
     match shape {
         Shape::Plain(scalar) => {
-            let (value, rest) = scalar_at(alloc, order, *scalar, bytes)?;
+            let (value, rest) = scalar_at(alloc, order, budget, *scalar, bytes)?;
             Ok((value, rest))
         }
         Shape::BoundText(bound) => {
-            let (value, rest) = bound_text_at(alloc, order, *bound, bytes)?;
+            let (value, rest) = bound_text_at(alloc, order, budget, *bound, bytes)?;
             Ok((value, rest))
         }
         Shape::List(scalar, extent) => {
-            changed.spend(texts_room(order, *scalar, *extent, bytes))?;
-            let (value, rest) = list_at(alloc, order, *scalar, *extent, bytes)?;
+            let (value, rest) = list_at(alloc, order, budget, *scalar, *extent, bytes)?;
             Ok((value, rest))
         }
         Shape::Struct(node) => {
-            let (values, rest) = row_at(alloc, order, base, changed, &node.members, left, bytes)?;
+            let (values, rest) = row_at(
+                alloc,
+                order,
+                base,
+                changed,
+                budget,
+                &node.members,
+                left,
+                bytes,
+            )?;
             Ok((PvValue::Struct(values), rest))
         }
         Shape::Union(node) => {
-            let (value, rest) = union_at(alloc, order, base, changed, &node.members, left, bytes)?;
+            let (value, rest) = union_at(
+                alloc,
+                order,
+                base,
+                changed,
+                budget,
+                &node.members,
+                left,
+                bytes,
+            )?;
             Ok((value, rest))
         }
         Shape::StructList(node) => {
@@ -103,6 +123,7 @@ fn shaped_at<'a>(
                 order,
                 base,
                 changed,
+                budget,
                 Element::Struct,
                 &node.members,
                 left,
@@ -116,6 +137,7 @@ fn shaped_at<'a>(
                 order,
                 base,
                 changed,
+                budget,
                 Element::Union,
                 &node.members,
                 left,
@@ -124,11 +146,11 @@ fn shaped_at<'a>(
             Ok((PvValue::UnionList(values), rest))
         }
         Shape::Variant => {
-            let (value, rest) = variant_at(alloc, order, base, changed, left, bytes)?;
+            let (value, rest) = variant_at(alloc, order, base, changed, budget, left, bytes)?;
             Ok((value, rest))
         }
         Shape::VariantList => {
-            let (values, rest) = variants_at(alloc, order, base, changed, left, bytes)?;
+            let (values, rest) = variants_at(alloc, order, base, changed, budget, left, bytes)?;
             Ok((PvValue::VariantList(values), rest))
         }
     }
@@ -141,6 +163,7 @@ fn row_at<'a>(
     order: Order,
     base: &Registry,
     changed: &mut Definitions,
+    budget: &mut Budget,
     members: &[Member],
     left: u32,
     bytes: &'a [u8],
@@ -151,7 +174,16 @@ fn row_at<'a>(
     let mut values = Vec::with_capacity(alloc, members.len())?;
     let mut rest = bytes;
     for member in members {
-        let (value, after) = value_at(alloc, order, base, changed, &member.shape, left, rest)?;
+        let (value, after) = value_at(
+            alloc,
+            order,
+            base,
+            changed,
+            budget,
+            &member.shape,
+            left,
+            rest,
+        )?;
         values.push(value)?;
         rest = after;
     }
@@ -165,6 +197,7 @@ fn union_at<'a>(
     order: Order,
     base: &Registry,
     changed: &mut Definitions,
+    budget: &mut Budget,
     members: &[Member],
     left: u32,
     bytes: &'a [u8],
@@ -179,7 +212,7 @@ fn union_at<'a>(
     match member_shape(members, selector) {
         None => Err(ValueStop::Fault(ValueCause::BadSelector(selector), bytes.len())),
         Some(shape) => {
-            let (value, rest) = value_at(alloc, order, base, changed, shape, left, rest)?;
+            let (value, rest) = value_at(alloc, order, base, changed, budget, shape, left, rest)?;
             let value = Box::new(alloc, value)?;
             Ok((PvValue::Union(Some((selector, value))), rest))
         }
@@ -195,6 +228,7 @@ fn listed_at<'a>(
     order: Order,
     base: &Registry,
     changed: &mut Definitions,
+    budget: &mut Budget,
     element: Element,
     members: &[Member],
     left: u32,
@@ -204,9 +238,9 @@ fn listed_at<'a>(
     ensures { Gives (λ x. (map (option_map boxed_view) x.0.items, (x.1.now, laid base.now changed.new))) result (listed order (element_with order (parcel_at left order) element (members_view members.now)) (bytes.now, laid base.now changed.old)) }
 {
     let (count, rest) = counted_at(order, 1, bytes)?;
-    changed.spend(SLOT * count as u64)?;
+    budget.spend(SLOT * count as u64)?;
     let (values, rest) = elements_at(
-        alloc, order, base, changed, element, members, left, count, rest,
+        alloc, order, base, changed, budget, element, members, left, count, rest,
     )?;
     Ok((values, rest))
 }
@@ -218,6 +252,7 @@ fn elements_at<'a>(
     order: Order,
     base: &Registry,
     changed: &mut Definitions,
+    budget: &mut Budget,
     element: Element,
     members: &[Member],
     left: u32,
@@ -230,7 +265,9 @@ fn elements_at<'a>(
     let mut values = Vec::with_capacity(alloc, count as usize)?;
     let mut rest = bytes;
     for _ in 0..count {
-        let (value, after) = element_at(alloc, order, base, changed, element, members, left, rest)?;
+        let (value, after) = element_at(
+            alloc, order, base, changed, budget, element, members, left, rest,
+        )?;
         values.push(value)?;
         rest = after;
     }
@@ -245,6 +282,7 @@ fn element_at<'a>(
     order: Order,
     base: &Registry,
     changed: &mut Definitions,
+    budget: &mut Budget,
     element: Element,
     members: &[Member],
     left: u32,
@@ -257,15 +295,15 @@ fn element_at<'a>(
     if !present {
         return Ok((None, rest));
     }
-    changed.spend(VALUE)?;
+    budget.spend(VALUE)?;
     match element {
         Element::Struct => {
-            let (values, rest) = row_at(alloc, order, base, changed, members, left, rest)?;
+            let (values, rest) = row_at(alloc, order, base, changed, budget, members, left, rest)?;
             let value = Box::new(alloc, PvValue::Struct(values))?;
             Ok((Some(value), rest))
         }
         Element::Union => {
-            let (value, rest) = union_at(alloc, order, base, changed, members, left, rest)?;
+            let (value, rest) = union_at(alloc, order, base, changed, budget, members, left, rest)?;
             Ok((Some(Box::new(alloc, value)?), rest))
         }
     }
@@ -278,12 +316,13 @@ fn variant_at<'a>(
     order: Order,
     base: &Registry,
     changed: &mut Definitions,
+    budget: &mut Budget,
     left: u32,
     bytes: &'a [u8],
 ) -> Result<(PvValue, &'a [u8]), ValueStop>
     ensures { Gives (λ x. (view x.0, (x.1.now, laid base.now changed.new))) result (variant_with (parcel_at left order) (bytes.now, laid base.now changed.old)) }
 {
-    let (parcel, rest) = parcel_at(alloc, order, base, changed, left, bytes)?;
+    let (parcel, rest) = parcel_at(alloc, order, base, changed, budget, left, bytes)?;
     let Some((ty, value)) = parcel else {
         return Ok((PvValue::Variant(None), rest));
     };
@@ -299,6 +338,7 @@ fn parcel_at<'a>(
     order: Order,
     base: &Registry,
     changed: &mut Definitions,
+    budget: &mut Budget,
     left: u32,
     bytes: &'a [u8],
 ) -> Result<(Option<(PvType, PvValue)>, &'a [u8]), ValueStop>
@@ -307,11 +347,20 @@ fn parcel_at<'a>(
     if left == 0 {
         return Err(ValueStop::Fault(ValueCause::TooNested, bytes.len()));
     }
-    let (ty, rest) = desc_at(alloc, order, base, changed, bytes)?;
+    let (ty, rest) = desc_within(alloc, order, base, changed, budget, bytes)?;
     let Some(ty) = ty else {
         return Ok((None, rest));
     };
-    let (value, rest) = value_at(alloc, order, base, changed, ty.shape(), left - 1, rest)?;
+    let (value, rest) = value_at(
+        alloc,
+        order,
+        base,
+        changed,
+        budget,
+        ty.shape(),
+        left - 1,
+        rest,
+    )?;
     Ok((Some((ty, value)), rest))
 }
 
@@ -323,14 +372,15 @@ fn variants_at<'a>(
     order: Order,
     base: &Registry,
     changed: &mut Definitions,
+    budget: &mut Budget,
     left: u32,
     bytes: &'a [u8],
 ) -> Result<(Vec<Option<Box<(PvType, PvValue)>>>, &'a [u8]), ValueStop>
     ensures { Gives (λ x. (map (option_map parcel_view) x.0.items, (x.1.now, laid base.now changed.new))) result (listed order (parcel_at left order) (bytes.now, laid base.now changed.old)) }
 {
     let (count, rest) = counted_at(order, 1, bytes)?;
-    changed.spend(SLOT * count as u64)?;
-    let (values, rest) = parcels_at(alloc, order, base, changed, left, count, rest)?;
+    budget.spend(SLOT * count as u64)?;
+    let (values, rest) = parcels_at(alloc, order, base, changed, budget, left, count, rest)?;
     Ok((values, rest))
 }
 
@@ -341,6 +391,7 @@ fn parcels_at<'a>(
     order: Order,
     base: &Registry,
     changed: &mut Definitions,
+    budget: &mut Budget,
     left: u32,
     count: u32,
     bytes: &'a [u8],
@@ -350,7 +401,7 @@ fn parcels_at<'a>(
     let mut values = Vec::with_capacity(alloc, count as usize)?;
     let mut rest = bytes;
     for _ in 0..count {
-        let (value, after) = flagged_at(alloc, order, base, changed, left, rest)?;
+        let (value, after) = flagged_at(alloc, order, base, changed, budget, left, rest)?;
         values.push(value)?;
         rest = after;
     }
@@ -365,6 +416,7 @@ fn flagged_at<'a>(
     order: Order,
     base: &Registry,
     changed: &mut Definitions,
+    budget: &mut Budget,
     left: u32,
     bytes: &'a [u8],
 ) -> Result<(Option<Box<(PvType, PvValue)>>, &'a [u8]), ValueStop>
@@ -374,8 +426,8 @@ fn flagged_at<'a>(
     if !present {
         return Ok((None, rest));
     }
-    changed.spend(VALUE)?;
-    let (parcel, rest) = parcel_at(alloc, order, base, changed, left, rest)?;
+    budget.spend(VALUE)?;
+    let (parcel, rest) = parcel_at(alloc, order, base, changed, budget, left, rest)?;
     match parcel {
         None => Ok((None, rest)),
         Some(pair) => Ok((Some(Box::new(alloc, pair)?), rest)),

@@ -5,7 +5,7 @@ ghost use Rattle.pvd_codec.specs.Reading.{Gives, lifted, bool_at, scalar_at, bou
 
 use crate::fault::{ValueCause, ValueStop};
 use pva_wire::{Cause, Order, size_at, text_at, u8_at, u16_at, u32_at, u64_at};
-use pvd_type::{Name, Scalar};
+use pvd_type::{Budget, Name, Scalar};
 use pvd_value::PvValue;
 use std::alloc::Global;
 
@@ -22,22 +22,32 @@ pub fn bool_at(bytes: &[u8]) -> Result<(bool, &[u8]), ValueStop>
     }
 }
 
+/// How many bytes of memory a text counts for beside its place, its letters left out, with the time to make it and to let it go.
+const TEXT: u64 = 48;
+
 /// A text.
-pub fn name_at(alloc: Global, order: Order, bytes: &[u8]) -> Result<(Name, &[u8]), ValueStop>
+pub fn name_at<'a>(
+    alloc: Global,
+    order: Order,
+    budget: &mut Budget,
+    bytes: &'a [u8],
+) -> Result<(Name, &'a [u8]), ValueStop>
     ensures { Gives (λ x. (x.0, x.1.now)) result (lifted (text_at order bytes.now)) }
 {
+    budget.spend(TEXT)?;
     let (text, rest) = text_at(alloc, order, bytes)?;
     Ok((text, rest))
 }
 
 /// One scalar. A number that the bytes end in is Short at its first byte.
 #[tactic(auto, unfolding(crate::specs::Reading::scalar_at, crate::specs::Reading::valued))]
-pub fn scalar_at(
+pub fn scalar_at<'a>(
     alloc: Global,
     order: Order,
+    budget: &mut Budget,
     scalar: Scalar,
-    bytes: &[u8],
-) -> Result<(PvValue, &[u8]), ValueStop>
+    bytes: &'a [u8],
+) -> Result<(PvValue, &'a [u8]), ValueStop>
     ensures { Gives (λ x. (view x.0, x.1.now)) result (scalar_at order scalar bytes.now) }
 {
     match scalar {
@@ -86,7 +96,7 @@ pub fn scalar_at(
             Ok((PvValue::F64(pattern), rest))
         }
         Scalar::Text => {
-            let (text, rest) = name_at(alloc, order, bytes)?;
+            let (text, rest) = name_at(alloc, order, budget, bytes)?;
             Ok((PvValue::Text(text), rest))
         }
     }
@@ -95,14 +105,16 @@ pub fn scalar_at(
 /// A text of at most `bound` bytes. Its size is judged before the text is read; null is the empty
 /// text.
 #[tactic(auto, unfolding(crate::specs::Reading::bound_text_at))]
-pub fn bound_text_at(
+pub fn bound_text_at<'a>(
     alloc: Global,
     order: Order,
+    budget: &mut Budget,
     bound: u32,
-    bytes: &[u8],
-) -> Result<(PvValue, &[u8]), ValueStop>
+    bytes: &'a [u8],
+) -> Result<(PvValue, &'a [u8]), ValueStop>
     ensures { Gives (λ x. (view x.0, x.1.now)) result (bound_text_at order bound bytes.now) }
 {
+    budget.spend(TEXT)?;
     let (size, _) = size_at(order, bytes)?;
     if let Some(size) = size {
         if size > bound {

@@ -1,4 +1,4 @@
-ghost use Rattle.std.specs.Prelude.{◌≡◌, ℕ, true, List, ◌++◌, IfOk};
+ghost use Rattle.std.specs.Prelude.{◌≡◌, ◌+◌, ◌*◌, ◌-◌, ◌^◌, ℕ, true, List, ◌++◌, IfOk, length, min};
 ghost use Rattle.std.specs.Ordering.{nat_cmp};
 ghost use Rattle.std.specs.FinSet.{FinSet};
 ghost use Rattle.pvd_value.specs.Data.{Data};
@@ -13,8 +13,8 @@ use crate::fault::ValueStop;
 use crate::parts;
 use crate::reading::{DEPTH, value_at};
 use pva_wire::Order;
-use pvd_desc::{Definitions, Registry};
-use pvd_type::{BitSet, PvType};
+use pvd_desc::{Definitions, READ_ROOM, Registry};
+use pvd_type::{BitSet, Budget, PvType};
 use pvd_value::PvValue;
 use std::alloc::Global;
 
@@ -26,11 +26,18 @@ use std::alloc::Global;
 /// bytes.
 const TIMES: u64 = 15;
 
+/// What the reading of these bytes may take of memory.
+fn budget_for(bytes: &[u8]) -> Budget
+    ensures { result.left ≡ min (16777216 + min (15 * length bytes.now) (2 ^ 64 - 1)) (2 ^ 64 - 1) }
+{
+    Budget::of(READ_ROOM.saturating_add((bytes.len() as u64).saturating_mul(TIMES)))
+}
+
 /// Reads a whole value of a type at the front of some bytes, as `read_full` does, and answers what
 /// follows it. The types that it defines go into `changed`, which hides those of `base`. After a refusal
 /// `changed` may hold a part of them; `ValueStop::placed` gives the fault its place.
 ///
-/// Want of memory is answered too where what has been made with `changed` would take more than 16 MiB and
+/// Want of memory is answered too where what these bytes make would take more than 16 MiB and
 /// 15 bytes for each of these bytes (src/reading.rt says what counts how much).
 pub fn full_at<'a>(
     alloc: Global,
@@ -45,15 +52,24 @@ pub fn full_at<'a>(
     ensures found { (front rest : List ℕ) (v : Data) (after : Types) → Full order (laid base.now changed.old) ty.now front v after → bytes.now ≡ front ++ rest → Finds {Y = Data × State} (λ x. (view x.0, (x.1.now, laid base.now changed.new))) result (v, (rest, after)) }
     ensures fits { IfOk result (λ x. fits_of 16 (view x.0) ty.now ≡ true) }
 {
-    changed.allow((bytes.len() as u64).saturating_mul(TIMES));
-    value_at(alloc, order, base, changed, ty.shape(), DEPTH, bytes)
+    let mut budget = budget_for(bytes);
+    value_at(
+        alloc,
+        order,
+        base,
+        changed,
+        &mut budget,
+        ty.shape(),
+        DEPTH,
+        bytes,
+    )
 }
 
 /// Reads a part of a value of a type at the front of some bytes, as `read_part` does, and answers what
 /// follows it. The types that it defines go into `changed`, which hides those of `base`. After a refusal
 /// `changed` may hold a part of them; `ValueStop::placed` gives the fault its place.
 ///
-/// Want of memory is answered too where what has been made with `changed` would take more than 16 MiB and
+/// Want of memory is answered too where what these bytes make would take more than 16 MiB and
 /// 15 bytes for each of these bytes (src/reading.rt says what counts how much), and where the lists of a
 /// fixed length that aren't marked take more than 64 MiB in all.
 pub fn part_at<'a>(
@@ -69,6 +85,6 @@ pub fn part_at<'a>(
     ensures found { (front rest : List ℕ) (mask : FinSet nat_cmp) (v : Data) (after : Types) → Part order (laid base.now changed.old) ty.now front mask v after → bytes.now ≡ front ++ rest → Finds {Y = (FinSet nat_cmp × Data) × State} (λ x. ((x.0, view x.1), (x.2.now, laid base.now changed.new))) result ((mask, v), (rest, after)) }
     ensures fits { IfOk result (λ x. fits_of 16 (view x.1) ty.now ≡ true) }
 {
-    changed.allow((bytes.len() as u64).saturating_mul(TIMES));
-    parts::part_at(alloc, order, base, changed, ty, bytes)
+    let mut budget = budget_for(bytes);
+    parts::part_at(alloc, order, base, changed, &mut budget, ty, bytes)
 }

@@ -27,8 +27,8 @@ marked_at-returns-then-misses t c =
     let tree = shape_view c.args.shape.now in
     let st : State = (c.args.bytes.now, laid c.args.base.now c.args.changed.now) in
     let size : get_or c.args.sizes.now 0 0 ≡ length (numbered tree) = ap (λ (xs : List ℕ). get_or xs 0 0) c.requires.sizes.front ∙ first_size tree c.requires.sizes.rest in
-    marked_none c.args.order (set.contains c.args.mask.now) c.args.number tree st (λ k from to. c.misses.ensures c.if-misses.true k from (omega (arith, to, size)))
-    ∙ ap (λ (v : Data). Ok (v, st)) (sym c.in_ok-blank_within-in-Struct.ensures)
+    marked_none c.args.order (set.contains c.args.mask.now) c.args.number tree st (λ k from to. c.misses.ensures.none c.if-misses.true k from (omega (arith, to, size)))
+    ∙ ap (λ (v : Data). Ok (v, st)) (sym c.in_ok-blank_within-in-Struct.ensures.value)
 
 pub marked_at-returns-in_err-value-in_default : goal.marked_at-returns-in_err-value-in_default
 marked_at-returns-in_err-value-in_default t c =

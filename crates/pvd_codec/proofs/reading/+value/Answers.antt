@@ -139,25 +139,25 @@ parcel_at-returns-in_err-ty t c =
 pub parcel_at-returns-in_default : goal.parcel_at-returns-in_default
 parcel_at-returns-in_default t c =
     let above : 0 < c.args.left = search rules in
-    let desc : desc_at c.args.order (laid c.args.base.now c.args.changed.now) c.args.bytes.now ≡ Ok (None, c.in_ok-ty.rest.now, laid c.args.base.now c.desc_at.new.changed) = rw (← c.in_default.is) c.in_ok-ty.ensures in
-    parcel_null c.args.order c.args.left (c.args.bytes.now, laid c.args.base.now c.args.changed.now) c.in_ok-ty.rest.now (laid c.args.base.now c.desc_at.new.changed) above desc
+    let desc : desc_at c.args.order (laid c.args.base.now c.args.changed.now) c.args.bytes.now ≡ Ok (None, c.in_ok-ty.rest.now, laid c.args.base.now c.desc_within.new.changed) = rw (← c.in_default.is) c.in_ok-ty.ensures in
+    parcel_null c.args.order c.args.left (c.args.bytes.now, laid c.args.base.now c.args.changed.now) c.in_ok-ty.rest.now (laid c.args.base.now c.desc_within.new.changed) above desc
 
 pub parcel_at-returns-in_err-value : goal.parcel_at-returns-in_err-value
 parcel_at-returns-in_err-value t c =
     let p = err_from_is_err_and c.from_residual-in_err-value.result c.from_residual-in_err-value.ensures.1 in
     let above : 0 < c.args.left = search rules in
     let ty : Tree = c.in-Some.ty in
-    let desc : desc_at c.args.order (laid c.args.base.now c.args.changed.now) c.args.bytes.now ≡ Ok (Some ty, c.in_ok-ty.rest.now, laid c.args.base.now c.desc_at.new.changed) = rw (← c.in-Some.is) c.in_ok-ty.ensures in
+    let desc : desc_at c.args.order (laid c.args.base.now c.args.changed.now) c.args.bytes.now ≡ Ok (Some ty, c.in_ok-ty.rest.now, laid c.args.base.now c.desc_within.new.changed) = rw (← c.in-Some.is) c.in_ok-ty.ensures in
     let fails = rw c.shape.ensures.tree at c.in_err-value.ensures in
-    rw (p.1, p.2) (parcel_value_fails c.args.order c.args.left (c.args.bytes.now, laid c.args.base.now c.args.changed.now) c.in_ok-ty.rest.now (laid c.args.base.now c.desc_at.new.changed) c.in_err-value.field-0.0 ty above desc fails)
+    rw (p.1, p.2) (parcel_value_fails c.args.order c.args.left (c.args.bytes.now, laid c.args.base.now c.args.changed.now) c.in_ok-ty.rest.now (laid c.args.base.now c.desc_within.new.changed) c.in_err-value.field-0.0 ty above desc fails)
 
 pub parcel_at-returns : goal.parcel_at-returns
 parcel_at-returns t c =
     let above : 0 < c.args.left = search rules in
     let ty : Tree = c.in-Some.ty in
-    let desc : desc_at c.args.order (laid c.args.base.now c.args.changed.now) c.args.bytes.now ≡ Ok (Some ty, c.in_ok-ty.rest.now, laid c.args.base.now c.desc_at.new.changed) = rw (← c.in-Some.is) c.in_ok-ty.ensures in
+    let desc : desc_at c.args.order (laid c.args.base.now c.args.changed.now) c.args.bytes.now ≡ Ok (Some ty, c.in_ok-ty.rest.now, laid c.args.base.now c.desc_within.new.changed) = rw (← c.in-Some.is) c.in_ok-ty.ensures in
     let value = rw c.shape.ensures.tree at c.in_ok-value.ensures in
-    parcel_is c.args.order c.args.left (c.args.bytes.now, laid c.args.base.now c.args.changed.now) c.in_ok-ty.rest.now (laid c.args.base.now c.desc_at.new.changed) ty (view c.in_ok-value.value)
+    parcel_is c.args.order c.args.left (c.args.bytes.now, laid c.args.base.now c.args.changed.now) c.in_ok-ty.rest.now (laid c.args.base.now c.desc_within.new.changed) ty (view c.in_ok-value.value)
     (c.in_ok-value.rest.now, laid c.args.base.now c.value_at.new.changed) above desc value
 
 pub variant_at-returns : goal.variant_at-returns
@@ -211,6 +211,3 @@ shaped_at-returns-in_ok-values-in-VariantList t c =
     let after : State = (c.in_ok-values-in-VariantList.rest.now, laid c.args.base.now c.variants_at.new.changed) in
     rw tree (variants_are c.args.order (parcel_at c.args.left c.args.order) (c.args.bytes.now, laid c.args.base.now c.args.changed.now) (map (option_map parcel_view) c.in_ok-values-in-VariantList.values.items) after c.in_ok-values-in-VariantList.ensures
     ∙ ap (λ (d : Data). Ok (d, after)) (sym (view_variants c.in_ok-values-in-VariantList.values)))
-
-pub value_at-returns : goal.value_at-returns
-value_at-returns t c = rw c.spend.ensures at c.shaped_at.ensures

@@ -8,7 +8,7 @@ use Rattle.pvd_codec.proofs.Slices.{finds, full_spelled, full_fitting}
 use Rattle.pvd_codec.proofs.staged.full_at.Goals as goal
 
 pub returns-clause-exact : goal.returns-clause-exact
-returns-clause-exact c = rw (c.shape.ensures.tree, c.allow.ensures) at c.value_at.ensures
+returns-clause-exact c = rw c.shape.ensures.tree at c.value_at.ensures
 
 pub returns-clause-spelled : goal.returns-clause-spelled
 returns-clause-spelled c =

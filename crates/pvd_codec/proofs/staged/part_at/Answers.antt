@@ -8,7 +8,7 @@ use Rattle.pvd_codec.proofs.Slices.{finds, part_spelled, part_fitting}
 use Rattle.pvd_codec.proofs.staged.part_at.Goals as goal
 
 pub returns-clause-exact : goal.returns-clause-exact
-returns-clause-exact c = rw c.allow.ensures at c.part_at.ensures
+returns-clause-exact c = c.part_at.ensures
 
 pub returns-clause-spelled : goal.returns-clause-spelled
 returns-clause-spelled c =
