@@ -1,6 +1,6 @@
 #!/bin/sh
 # Reads the worst payloads of 64 MiB that we know of, one after another, each in a process of its own, and copies a payload of that size.
-# Prints for each whether it was read or refused, the seconds that passed while it was read, the seconds of a processor that the reading took
+# Prints for each whether it was read, malformed or refused for want of memory, the seconds that passed while it was read, the seconds of a processor that the reading took
 # (those of the process, less those of one that only makes the payload), and the memory in MiB that the process needed beyond that of one
 # that only makes the payload. The stack has 2 MiB. It works in a copy of the crates. Needs `rt`, `/usr/bin/time` and some minutes.
 set -eu
@@ -22,8 +22,8 @@ cat > "$work/crates/hostile_bench/src/main.rt" <<'RT'
 #![tactic(auto)]
 
 use pva_wire::{Cursor, Order, write_size};
-use pvd_codec::{read_full, read_part};
-use pvd_desc::{Registry, read_desc};
+use pvd_codec::{ValueFault, read_full, read_part};
+use pvd_desc::{DescFault, Registry, read_desc};
 use pvd_type::{Extent, NoMemory, PvType, Scalar, Shape};
 use std::alloc::{AllocError, Global};
 use std::time::Instant;
@@ -311,14 +311,40 @@ fn deepest_type(alloc: Global) -> Option<PvType> {
     }
 }
 
-/// Whether the payload is read.
-fn read(alloc: Global, case: &str, ty: &PvType, known: &mut Registry, bytes: &[u8]) -> bool {
+/// What became of the payload.
+fn read(
+    alloc: Global,
+    case: &str,
+    ty: &PvType,
+    known: &mut Registry,
+    bytes: &[u8],
+) -> &'static str {
     let mut from = Cursor::new(bytes, Order::Big);
     match case {
-        "copy" => Vec::from_slice(alloc, bytes).is_ok(),
-        "named" | "chain" | "siblings" => read_desc(alloc, &mut from, known).is_ok(),
-        "zeros" | "part" | "unmarked" => read_part(alloc, &mut from, known, ty).is_ok(),
-        _ => read_full(alloc, &mut from, known, ty).is_ok(),
+        "copy" => match Vec::from_slice(alloc, bytes) {
+            Ok(_) => "copied",
+            Err(_) => "not copied",
+        },
+        "named" | "chain" | "siblings" => match read_desc(alloc, &mut from, known) {
+            Ok(_) => "read",
+            Err(DescFault::NoMemory) => "refused for memory",
+            Err(_) => "malformed",
+        },
+        "zeros" | "part" | "unmarked" => match read_part(alloc, &mut from, known, ty) {
+            Ok(_) => "read",
+            Err(fault) => refused(fault),
+        },
+        _ => match read_full(alloc, &mut from, known, ty) {
+            Ok(_) => "read",
+            Err(fault) => refused(fault),
+        },
+    }
+}
+
+fn refused(fault: ValueFault) -> &'static str {
+    match fault {
+        ValueFault::NoMemory => "refused for memory",
+        _ => "malformed",
     }
 }
 
@@ -345,11 +371,10 @@ fn measure(rt: &HostRuntime, case: &str, reads: bool) -> io::Result<()> {
         return Ok(());
     }
     let start = Instant::now(rt)?;
-    let whole = read(alloc, case, &ty, &mut known, &bytes);
+    let told = read(alloc, case, &ty, &mut known, &bytes);
     let taken = start.elapsed(rt)?;
     let (seconds, hundredths) = (taken.as_secs(), taken.subsec_nanos() / 10_000_000);
     let length = bytes.len();
-    let told = if whole { "read" } else { "refused" };
     println!(rt; "{case}: {length} bytes {told} in {seconds}.{hundredths:02} s")
 }
 
