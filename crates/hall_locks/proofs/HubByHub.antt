@@ -72,6 +72,7 @@ module _ (C H E B M R S : Type 0) (law : Meaning C H E B M R S) where
   pub glances : (m w : Mine) (footprint : List ℕ) → Carries m footprint → TookHub law m w → GlancesAtHub w footprint
   glances m w footprint carries took = subst (λ (z : Mine). GlancesAtHub z footprint) (sym took.now) record {
     live = carries.live;
+    hub = refl;
     slots = ap (λ (l : List (ℕ × Place C H)). (0, Hub took.hub) ∷ l) carries.slots;
     numbers = carries.numbers;
   }

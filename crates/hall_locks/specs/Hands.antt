@@ -1,5 +1,5 @@
 -- What a pass and a visit have in hand.
-use Rattle.std.specs.Prelude.{◌≡◌, ◌≢◌, ℕ, suc, ◌+◌, ◌<◌, ◌&&◌, nat_lt, Bool, true, List, [], ◌∷◌, ◌++◌, map, reverse, take, drop, Option, Some, None}
+use Rattle.std.specs.Prelude.{◌≡◌, ◌≢◌, ℕ, suc, ◌+◌, ◌<◌, ◌&&◌, nat_lt, Bool, true, List, [], ◌∷◌, ◌++◌, map, reverse, take, drop, is_some, Option, Some, None}
 use Rattle.atomic_table.specs.Table.{Me}
 use Rattle.histories.specs.declared.story.Story.{Story}
 use Rattle.histories.specs.declared.story.Deed.{Deed}
@@ -79,9 +79,10 @@ module _ {C H E B M R S : Type 0} where
     pub slots : m.1 ≡ (0, Away) ∷ aways m.0.cells
     pub numbers : numbers_of m.0.cells ≡ reverse footprint
 
-  -- the same, and the hub is in its slot, as it was taken
+  -- the same, and the hub is there, in its slot as it was taken
   pub record GlancesAtHub (m : Me (Place C H) (View H E B M R S)) (footprint : List ℕ) : Type 0 where
     pub live : m.0.live ≡ true
+    pub hub : is_some m.0.hub ≡ true
     pub slots : m.1 ≡ there m.0.hub ++ aways m.0.cells
     pub numbers : numbers_of m.0.cells ≡ reverse footprint
 
