@@ -1,5 +1,5 @@
 -- The steps on a table whose words lie eight apart.
-use Rattle.std.proofs.Common.{◌≡◌, ℕ, zero, suc, ◌+◌, ◌*◌, ◌<◌, ◌≢◌, eqb, true, false, List, [], ◌∷◌, length, map, get_or, set, replicate, sym, refl, ap, ◌∙◌, subst, arith, Option, Some, None}
+use Rattle.std.proofs.Common.{◌≡◌, ℕ, zero, suc, ◌+◌, ◌*◌, ◌<◌, eqb, true, false, List, [], ◌∷◌, length, map, get_or, set, replicate, sym, refl, ap, ◌∙◌, subst, arith, Option, None}
 use mathlib.Core.Option.{none}
 use prog.Atomic.{either}
 use Rattle.atomic_table.specs.Table.{State, Me, step, carried_after, homes_after, opening, Allows, Splits, Joins, rest}

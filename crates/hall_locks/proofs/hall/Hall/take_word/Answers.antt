@@ -1,4 +1,4 @@
-use Rattle.std.proofs.Common.{rules, ◌+◌, ◌<◌, arith, sym, ap, subst, ◌∙◌}
+use Rattle.std.proofs.Common.{rules, ◌<◌, arith, sym, ap, subst, ◌∙◌}
 use Rattle.hall_locks.specs.Steps.{MayTake, TookCell}
 use Rattle.hall_locks.proofs.Lists.{all_among}
 use Rattle.hall_locks.specs.Lines.{word_at}
