@@ -10,8 +10,8 @@ ghost use Rattle.pva_messages.specs.Views.{valued_view, part_data};
 use crate::part::Part;
 use pva_wire::{Order, Status, count_at, status_at, text_at, u8_at, u16_at, u32_at};
 use pvd_codec::{ValueStop, full_at, part_at};
-use pvd_desc::{Definitions, Registry, desc_at};
-use pvd_type::{Name, PvType};
+use pvd_desc::{Definitions, READ_ROOM, Registry, desc_at};
+use pvd_type::{Budget, Name, PvType};
 use pvd_value::PvValue;
 use std::alloc::Global;
 
@@ -43,28 +43,28 @@ fn times_text(
     Ok((texts, rest))
 }
 
-/// How many bytes of memory a read may take for each byte of the texts.
-const TIMES: u64 = 16;
+/// How many bytes of memory texts may take for each byte from which they are read, beside the 16 MiB that any read may take.
+const TIMES: u64 = 15;
 
-/// How many bytes of memory a text counts for.
-const TEXT: u64 = 56;
+/// How many bytes of memory a text counts for: its place, and what it takes beside its letters.
+const TEXT: u64 = 72;
 
 /// A size that counts, and so many texts. An empty text is one byte, so the memory that all may take is bounded, as that
 /// of a value is: above it the answer is NoMemory. A count that lies counts for no more texts than bytes are left.
 #[tactic(auto, unfolding(crate::specs::Reading::texts_at))]
-pub(crate) fn texts_at<'a>(
+pub(crate) fn texts_at(
     alloc: Global,
     order: Order,
-    changed: &mut Definitions,
-    bytes: &'a [u8],
-) -> Result<(Vec<Name>, &'a [u8]), ValueStop>
-    ensures texts { Gives (λ x. (x.0.items, x.1.now)) result (texts_at order bytes.now) }
-    ensures same { changed.new ≡ changed.old }
+    bytes: &[u8],
+) -> Result<(Vec<Name>, &[u8]), ValueStop>
+    ensures { Gives (λ x. (x.0.items, x.1.now)) result (texts_at order bytes.now) }
 {
     let (count, rest) = count_at(order, bytes)?;
     let most = rest.len().min(count as usize);
-    changed.allow((rest.len() as u64).saturating_mul(TIMES));
-    changed.spend((most as u64).saturating_mul(TEXT))?;
+    let mut budget = Budget::of(READ_ROOM.saturating_add(
+        (rest.len() as u64).saturating_mul(TIMES),
+    ));
+    budget.spend((most as u64).saturating_mul(TEXT))?;
     let (texts, rest) = times_text(alloc, order, count, most, rest)?;
     Ok((texts, rest))
 }

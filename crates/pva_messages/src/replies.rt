@@ -73,7 +73,7 @@ fn validation_at<'a>(
 {
     let (buffer, rest) = u32_at(order, bytes)?;
     let (registry, rest) = u16_at(order, rest)?;
-    let (methods, rest) = texts_at(alloc, order, changed, rest)?;
+    let (methods, rest) = texts_at(alloc, order, rest)?;
     let message = ToClient::Validation {
         buffer,
         registry,
