@@ -1,4 +1,4 @@
-ghost use Rattle.std.specs.Prelude.{◌≡◌, ◌*◌, ◌≤◌, length, map, IfOk};
+ghost use Rattle.std.specs.Prelude.{◌≡◌, ◌+◌, ◌*◌, ◌≤◌, length, map, min, IfOk};
 ghost use Rattle.std.specs.Int.{w8, cast_signed};
 ghost use Rattle.pva_wire.specs.Reading.{text_at};
 ghost use Rattle.pvd_value.specs.View.{items_view, view};
@@ -64,6 +64,14 @@ fn extent_at(
 
 /// How many bytes of memory the place of a text in a list takes.
 const PLACE: u64 = 24;
+
+/// How many bytes a list of so many elements counts for, whose places take so many bytes each: these, and 48 for its block of memory,
+/// which an empty list hasn't.
+pub fn list_room(count: u32, place: u32) -> u64
+    ensures { result ≡ 48 * min count 1 + count * place }
+{
+    48 * u64::from(count.min(1)) + u64::from(count) * u64::from(place)
+}
 
 /// So many booleans.
 fn bools_at(alloc: Global, count: u32, bytes: &[u8]) -> Result<(Vec<bool>, &[u8]), ValueStop>
@@ -213,5 +221,6 @@ pub fn list_at<'a>(
     ensures { Gives (λ x. (view x.0, x.1.now)) result (list_at order scalar extent bytes.now) }
 {
     let (count, rest) = extent_at(order, extent, width_of(scalar), bytes)?;
+    budget.spend(list_room(count, 0))?;
     elements_at(alloc, order, budget, scalar, count, rest)
 }

@@ -6,7 +6,7 @@ ghost use Rattle.pvd_desc.specs.Types.{laid};
 ghost use Rattle.pvd_codec.specs.Reading.{Gives, items_at, flagged, listed, value_at, row_at, union_at, element_with, element_at, variant_with, pair_view, parcel_at};
 
 use crate::fault::{ValueCause, ValueStop};
-use crate::lists::list_at;
+use crate::lists::{list_at, list_room};
 use crate::scalars::{bool_at, bound_text_at, scalar_at};
 use pva_wire::{Order, counted_at, size_at};
 use pvd_desc::{Definitions, Registry, desc_within};
@@ -28,10 +28,10 @@ pub enum Element {
 }
 
 // A read counts the memory that it takes, before it takes it: few bytes of a hostile payload could stand
-// for any number of values. A value counts 64 bytes, its element in a list of structures, unions or
-// variants 16 more, a text 48 more (src/scalars.rt) and 72 in a list of texts, and a type in a variant
-// what pvd_desc counts. The numbers of a list and the letters of a text take no more memory than bytes,
-// and count nothing.
+// for any number of values. A value counts 64 bytes, a list that isn't empty 48 more (src/lists.rt), its
+// element in a list of structures, unions or variants 16 more, a text 48 more (src/scalars.rt) and 72 in
+// a list of texts, and a type in a variant what pvd_desc counts. The numbers of a list and the letters of
+// a text take no more memory than bytes, and count nothing.
 
 /// How many bytes of memory a value counts for, whatever stands in it: its place among the members of a
 /// structure, or the memory of its own where it stands in a union, a variant or a list.
@@ -39,7 +39,7 @@ const VALUE: u64 = 64;
 
 /// How many bytes of memory an element of a list of structures, unions or variants takes in the list
 /// itself, null or not.
-const SLOT: u64 = 16;
+const SLOT: u32 = 16;
 
 /// A value of a shape. What its variants define goes into `changed`, which hides the types of `base`.
 /// After a refusal `changed` may hold a part of that. The value counts against the memory that the read
@@ -238,7 +238,7 @@ fn listed_at<'a>(
     ensures { Gives (λ x. (map (option_map boxed_view) x.0.items, (x.1.now, laid base.now changed.new))) result (listed order (element_with order (parcel_at left order) element (members_view members.now)) (bytes.now, laid base.now changed.old)) }
 {
     let (count, rest) = counted_at(order, 1, bytes)?;
-    budget.spend(SLOT * count as u64)?;
+    budget.spend(list_room(count, SLOT))?;
     let (values, rest) = elements_at(
         alloc, order, base, changed, budget, element, members, left, count, rest,
     )?;
@@ -379,7 +379,7 @@ fn variants_at<'a>(
     ensures { Gives (λ x. (map (option_map parcel_view) x.0.items, (x.1.now, laid base.now changed.new))) result (listed order (parcel_at left order) (bytes.now, laid base.now changed.old)) }
 {
     let (count, rest) = counted_at(order, 1, bytes)?;
-    budget.spend(SLOT * count as u64)?;
+    budget.spend(list_room(count, SLOT))?;
     let (values, rest) = parcels_at(alloc, order, base, changed, budget, left, count, rest)?;
     Ok((values, rest))
 }

@@ -12,6 +12,8 @@ use std::alloc::Global;
 /// Reads the description of a type; None is the null description (pvAccess Protocol Specification,
 /// "Introspection Data"). The types that it defines go into the registry, where a later definition of
 /// an id takes the place of an older one. After a refusal the cursor and the registry are as before.
+///
+/// NoMemory is answered too where its nodes and definitions would take more than 16 MiB.
 pub fn read_desc(
     alloc: Global,
     from: &mut Cursor,

@@ -21,6 +21,23 @@ use pvd_type::{Budget, Extent, Member, Name, NoMemory, Node, PvType, Shape, Sibl
 use std::alloc::Global;
 use std::sync::Arc;
 
+/// How many bytes of memory any read may take, whatever few bytes it has.
+pub const READ_ROOM: u64 = 16_777_216;
+
+// What a description costs is counted before it is taken, but for the nodes themselves, which are at most 4,096 and are
+// counted once they were read.
+
+/// How many bytes a node of a type counts for: its place in the list of the node above it, its name, and
+/// the time to test it.
+const NODE: u64 = 256;
+
+/// How many bytes a structure or a union that is described counts for beside that: a count of its owners,
+/// the lists of its id and its members, and the time to make them and to let them go.
+const BRANCH: u64 = 192;
+
+/// How many bytes a description counts for that is a type under an id: the time to share it.
+const SHARE: u64 = 32;
+
 /// Tests a node on this level that has `seen` nodes before it and whose name has the fault given; its
 /// code had `left` bytes from it on.
 fn check_here(level: u32, seen: u32, named: Option<TypeFault>, left: usize) -> Result<(), DescStop>
@@ -478,23 +495,10 @@ fn alone_at<'a>(
     }
 }
 
-/// How many bytes of memory any read may take, whatever few bytes it has.
-pub const READ_ROOM: u64 = 16_777_216;
-
-/// How many bytes a node of a type counts for: its place in the list of the node above it, its name, and
-/// the time to test it.
-const NODE: u64 = 192;
-
-/// How many bytes a structure or a union in a type counts for beside that: a count of its owners, the
-/// lists of its id and its members, and the time to make them and to let them go.
-const BRANCH: u64 = 192;
-
-/// How many bytes a description counts for that is a type under an id: the time to share it.
-const SHARE: u64 = 32;
-
 /// A description and what follows it; None is the null description. What it defines goes into
-/// `changed`, which hides the types of `base`. After a refusal `changed` may hold a part of that. What
-/// it takes of memory beyond its bytes is at most some 16 MiB.
+/// `changed`, which hides the types of `base`. After a refusal `changed` may hold a part of that.
+///
+/// Want of memory is answered too where its nodes and definitions would take more than 16 MiB.
 pub fn desc_at<'a>(
     alloc: Global,
     order: Order,
@@ -509,7 +513,7 @@ pub fn desc_at<'a>(
 }
 
 /// A description and what follows it, as [`desc_at`] reads it, whose nodes and definitions count against
-/// a budget.
+/// a budget: want of memory is answered where it has too little left.
 #[tactic(auto, unfolding(crate::specs::Reading::desc_at))]
 pub fn desc_within<'a>(
     alloc: Global,
