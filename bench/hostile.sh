@@ -80,6 +80,8 @@ fn before(out: &mut Vec<u8>, case: &str) -> Result<(), AllocError> {
         "nested" => defined(out, 0x80, 4000, &[0x80, 0, 0]),
         "empty" => defined(out, 0x80, 4000, &[0x80, 0, 0]),
         "short" => defined(out, 0x80, 4000, &[0x60]),
+        "ones" => defined(out, 0x80, 4000, &[0x2C]),
+        "pairs" => defined(out, 0x80, 4000, &[0x29]),
         _ => Ok(()),
     }
 }
@@ -94,7 +96,11 @@ fn list(out: &mut Vec<u8>, element: &[u8], count: u32) -> Result<(), AllocError>
 fn payload(out: &mut Vec<u8>, case: &str) -> Result<(), AllocError> {
     match case {
         "copy" => repeat(out, b"a", SIZE),
-        "nulls" => list(out, &[0], SIZE),
+        // as many as the budget allows
+        "nulls" => {
+            size(out, 63_963_000)?;
+            repeat(out, &[0], SIZE - 5)
+        }
         "bytes" => list(out, &[1, 0x20, 0], SIZE / 3),
         "defined" => list(out, &[1, 0xFD, 0, 7, 0x20, 0], SIZE / 6),
         "cached" => list(out, &[1, 0xFE, 0, 1, 0xFF], SIZE / 5),
@@ -109,15 +115,18 @@ fn payload(out: &mut Vec<u8>, case: &str) -> Result<(), AllocError> {
         "ids" => chains(out, 8, 2_400_000),
         "many" => chains(out, 1000, 22_000),
         "claims" => claims(out),
-        "short" => short(out),
+        "short" => rows(out, &[1, b'a'], 8380),
+        "ones" => rows(out, &[1, 1], 8380),
+        "pairs" => rows(out, &[1, 0, 1], 5590),
+        "wide" => wide(out),
         "unmarked" => {
             out.extend_from_slice(&[1, 2, 1])?;
             Ok(())
         }
         "siblings" => siblings(out),
         "texts" => {
-            size(out, SIZE)?;
-            repeat(out, &[0], SIZE)
+            size(out, SIZE / 5)?;
+            repeat(out, b"\x04abcd", SIZE / 5)
         }
         "words" => {
             size(out, SIZE / 2)?;
@@ -228,22 +237,42 @@ fn chains(out: &mut Vec<u8>, ids: u32, times: u32) -> Result<(), AllocError> {
     Ok(())
 }
 
-/// Fifteen lists of variants inside one another, each of which says that it has as many elements as there are bytes.
+/// Sixteen lists of variants inside one another, of four million elements each: as many as the budget allows, all null but the first.
 fn claims(out: &mut Vec<u8>) -> Result<(), AllocError> {
     for _ in 0..15u32 {
-        size(out, SIZE - 1024)?;
+        size(out, 3_950_000)?;
         out.extend_from_slice(&[1, 0x8A])?;
     }
-    size(out, SIZE - 1024)?;
+    size(out, 3_950_000)?;
     repeat(out, &[0], SIZE - 1024)
 }
 
-/// Structures of 4,000 texts of one letter.
-fn short(out: &mut Vec<u8>) -> Result<(), AllocError> {
-    size(out, 8380)?;
-    for _ in 0..8380u32 {
+/// Structures of 4,000 such members.
+fn rows(out: &mut Vec<u8>, member: &[u8], times: u32) -> Result<(), AllocError> {
+    size(out, times)?;
+    for _ in 0..times {
         out.extend_from_slice(&[1, 0xFE, 0, 1])?;
-        repeat(out, &[1, b'a'], 4000)?;
+        repeat(out, member, 4000)?;
+    }
+    Ok(())
+}
+
+/// Null unions of 4,095 bytes, whose names of ten letters differ at the end.
+fn wide(out: &mut Vec<u8>) -> Result<(), AllocError> {
+    size(out, 1360)?;
+    for _ in 0..1360u32 {
+        out.extend_from_slice(&[1, 0x81, 0])?;
+        size(out, 4095)?;
+        for number in 0..4095u32 {
+            let place = number * 1237 % 4096;
+            out.push(10)?;
+            repeat(out, b"a", 7)?;
+            out.push(letter(place))?;
+            out.push(letter(place / 16))?;
+            out.push(letter(place / 256))?;
+            out.push(0x20)?;
+        }
+        out.push(0xFF)?;
     }
     Ok(())
 }
@@ -390,7 +419,7 @@ fn main(rt: HostRuntime) -> io::Result<()> {
 RT
 cd "$work/crates/hostile_bench"
 rt run 2>"$work/log" >/dev/null || { cat "$work/log"; exit 1; }
-for case in copy deep nulls bytes defined high ids many cached empty nested again narrow named chain siblings texts words letters short types structures claims zeros part unmarked; do
+for case in copy deep nulls bytes defined high ids many cached empty nested again narrow wide named chain siblings texts words letters short ones pairs types structures claims zeros part unmarked; do
     (ulimit -v 8000000; /usr/bin/time -f '%M %U %S' -o "$work/made" out/hostile_bench "$case" only)
     (ulimit -v 8000000; ulimit -s 2048; /usr/bin/time -f '%M %U %S' -o "$work/peak" out/hostile_bench "$case" || echo "$case: ended with no answer")
     cat "$work/made" "$work/peak" | grep -v '[A-Za-z]' | tr '\n' ' ' |

@@ -96,6 +96,40 @@ fn what_a_read_takes_is_bounded_by_its_bytes(rt: HostRuntime) -> Result<(), Fail
             1_000_000,
             Some(ValueFault::NoMemory),
         ),
+        // 150,000 structures of a list of one byte, and as many of a text of one letter
+        (
+            true,
+            &[0x88, 0x80, 0, 1, 1, b'a', 0x2C][..],
+            &[0xFE, 0, 0x02, 0x49, 0xF0][..],
+            &[1, 1, 7][..],
+            150_000,
+            Some(ValueFault::NoMemory),
+        ),
+        (
+            true,
+            &[0x88, 0x80, 0, 1, 1, b'a', 0x60][..],
+            &[0xFE, 0, 0x02, 0x49, 0xF0][..],
+            &[1, 1, b'x'][..],
+            150_000,
+            Some(ValueFault::NoMemory),
+        ),
+        // 30,000 variants of a structure, and of a type that each defines anew
+        (
+            true,
+            &[0x8A][..],
+            &[0xFE, 0, 0x00, 0x75, 0x30][..],
+            &[1, 0x80, 0, 1, 1, b'a', 0x20, 0][..],
+            30_000,
+            Some(ValueFault::NoMemory),
+        ),
+        (
+            true,
+            &[0x8A][..],
+            &[0xFE, 0, 0x00, 0x75, 0x30][..],
+            &[1, 0xFD, 0, 1, 0x20, 0][..],
+            30_000,
+            Some(ValueFault::NoMemory),
+        ),
         // the byte alone, beside 33 MiB of zeros and beside twice as many
         (false, &LONG[..], &[1, 4, 7][..], &[][..], 0, None),
         (
