@@ -61,7 +61,7 @@ fn get_at_once<R: Wait, P: Port + Drop>(
     exchange(&mut visit.cells, site.footprint_of(channel), cells);
     match shown {
         Ok(value) => {
-            let held = hall.hub(rt, visit);
+            let held = hall.glance(rt, visit);
             (look_read::<P, Brand>(hall, held, channel), Ok(value))
         }
         Err(no_memory) => (hall.leave(visit), Err(no_memory)),
@@ -116,7 +116,7 @@ fn look_at<R: Wait, P: Port + Drop>(
     };
     match cells.write(rec, copy) {
         Ok(()) => {
-            let held = hall.hub(rt, visit);
+            let held = hall.glance(rt, visit);
             (look_read::<P, Brand>(hall, held, channel), Ok(()))
         }
         Err(no_memory) => (hall.leave(visit), Err(no_memory)),
@@ -254,7 +254,7 @@ pub(crate) fn snapshot_in<R: Wait, P: Port + Drop>(
     exchange(&mut visit.cells, site.footprint_of(SERVICE), cells);
     match told {
         Ok(rows) => {
-            let held = hall.hub(rt, visit);
+            let held = hall.glance(rt, visit);
             (look_read::<P, Brand>(hall, held, SERVICE), Ok(rows))
         }
         Err(no_memory) => (hall.leave(visit), Err(no_memory)),

@@ -10,34 +10,34 @@ ghost use Rattle.desk_core.specs.Subscribing.{begun_in, crowded, dropped, popped
 ghost use Rattle.desk_shared.specs.Exchanges.{IsGivenBack};
 ghost use Rattle.desk_shared.specs.Hands.{MayEnter, states_of};
 ghost use Rattle.desk_shared.specs.Records.{records, seat_of};
-ghost use Rattle.hall_locks.specs.Hands.{MayLook};
+ghost use Rattle.hall_locks.specs.Hands.{MayGlance, MayLook};
 ghost use Rattle.journal_core.specs.Histories.{kept};
 ghost use Rattle.journal_core.specs.Weights.{weight as weight_of};
 
-use crate::exchanging::exchange;
+use crate::exchanging::{Left, exchange};
 use crate::lent::LentPort;
 use crate::records::{Noted, Notes, Records};
 use desk_api::{Channel, Update};
 use desk_core::{Cells, Port};
 use desk_hub::{Readied, post};
-use hall_locks::{Hall, Held, Pass};
+use hall_locks::{Glance, Hall, Held, Pass};
 use journal_core::Entry;
 use pvd_type::BitSet;
 
-/// Gives all back with the mark of a look of a get of this channel, which found the records in hand.
+/// Gives all back with the mark of a look of a get of this channel, which found the records in hand. The hub stayed where it is.
 pub(crate) fn look_read<P: Port + Drop, B: Notes>(
     hall: &Hall<Records<P>>,
-    held: Held<Records<P>>,
+    held: Glance<Records<P>>,
     _channel: Channel,
 ) -> Pass<Records<P>>
     requires own { held.seat.table_id ≡ hall.now.table.shared.table_id }
-    requires may { MayLook records held.seat.me.0 held.hub held.cells.items (Some (marks.Read (now (seat_of held.seat.me.0)) _channel held.footprint.items (states_of held.cells.items))) }
+    requires may { MayGlance records held.seat.me.0 held.cells.items (Some (marks.Read (now (seat_of held.seat.me.0)) _channel held.footprint.items (states_of held.cells.items))) }
     requires mark { B.mark ≡ marks.Read (now (seat_of held.seat.me.0)) _channel held.footprint.items (states_of held.cells.items) }
     ensures own { result.seat.table_id ≡ held.seat.table_id }
     ensures others { result.seat.me.0.others ≡ held.seat.me.0.others }
     ensures marked { seat_of result.seat.me.0 ≡ with_mark (seat_of held.seat.me.0) (λ at. marks.Read at _channel held.footprint.items (states_of held.cells.items)) }
 {
-    hall.look::<Noted<B>>(held)
+    hall.glanced::<Noted<B>>(held)
 }
 
 /// Gives all back with the mark of an entry that would have been too heavy.
@@ -128,7 +128,7 @@ pub(crate) fn look_dropped<P: Port + Drop, B: Notes>(
 }
 
 /// Adds an entry, of which these are the states after it, posts what was made ready of it, and gives all back with its mark: these
-/// records were then looked at. It takes no memory.
+/// records were then looked at. It takes no memory. No port was driven since the hub was taken.
 pub(crate) fn commit_entered<P: Port + Drop, B: Notes>(
     hall: &Hall<Records<P>>,
     mut held: Held<Records<P>>,
@@ -137,8 +137,10 @@ pub(crate) fn commit_entered<P: Port + Drop, B: Notes>(
     entry: Entry,
     ready: Readied,
     _looked: &[u32],
+    _left: &Left<P>,
 ) -> Pass<Records<P>>
     requires own { held.seat.table_id ≡ hall.now.table.shared.table_id }
+    requires left { cells.old.ports.items ≡ _left.now.value.items }
     requires may { MayEnter held.seat.me.0 held.hub recs.now cells.old.states.items entry _looked.now ready }
     requires weight { kept held.hub.history.entries + weight_of entry < 2 ^ 64 }
     requires many { length held.cells.items ≡ length recs.now }

@@ -18,7 +18,7 @@ ghost use Rattle.journal_core.specs.Weights.{weight as weight_of};
 ghost use Rattle.pvd_value.specs.Fits.{fits_of};
 ghost use Rattle.pvd_value.specs.View.{view};
 
-use crate::exchanging::exchange;
+use crate::exchanging::{Left, exchange};
 use crate::lent::LentPort;
 use crate::looking::get_in;
 use crate::noting::{commit_entered, look_overweight};
@@ -37,6 +37,7 @@ use journal_core::{Entry, weight};
 use pvd_type::BitSet;
 use std::alloc::Global;
 use std::marker::Brand;
+use std::snapshot::Snapshot;
 use std::sync::Wait;
 
 /// Whether the entries may weigh so much more.
@@ -46,15 +47,17 @@ fn is_light(kept: u64, added: u64, limit: u64) -> bool
     kept <= limit && added <= limit - kept
 }
 
-/// Gives all back as it was taken, with what an entry had written put back, and without a mark.
+/// Gives all back as it was taken, with what an entry had written put back, and without a mark. No port was driven since the hub was taken.
 fn give_up<P: Port + Drop>(
     hall: &Hall<Records<P>>,
     site: &Site,
     mut held: Held<Records<P>>,
     cells: &mut Cells<LentPort<P>>,
     recs: &[u32],
+    _left: &Left<P>,
 ) -> Pass<Records<P>>
     requires own { held.seat.table_id ≡ hall.now.table.shared.table_id }
+    requires left { cells.old.ports.items ≡ _left.now.value.items }
     requires undoes { Undoes held.seat.me.0 held.hub recs.now (states_of held.cells.items) site.now.opening cells.old.states.items cells.old.before.items }
     requires many { length held.cells.items ≡ length recs.now }
     requires ports { length cells.old.ports.items ≡ length cells.old.states.items }
@@ -71,7 +74,7 @@ fn give_up<P: Port + Drop>(
 
 /// Adds the entry that was drafted on the records in hand, behind so many others of its put, and tells its place, unless the history
 /// would then be above its limit. It is posted to the subscriptions of all seats that it concerns. All memory is taken before anything
-/// is changed.
+/// is changed. No port was driven since the hub was taken.
 fn enter<P: Port + Drop>(
     alloc: Global,
     hall: &Hall<Records<P>>,
@@ -82,8 +85,10 @@ fn enter<P: Port + Drop>(
     entry: Entry,
     looked: &[u32],
     done: u32,
+    left: &Left<P>,
 ) -> (Pass<Records<P>>, Result<u64, PutAnswer>)
     requires own { held.seat.table_id ≡ hall.now.table.shared.table_id }
+    requires left { cells.old.ports.items ≡ left.now.value.items }
     requires drafted { IsDrafted held.seat.me.0 held.hub recs.now (states_of held.cells.items) site.now cells.old.states.items cells.old.before.items entry looked.now }
     requires weight { weight_of entry < 2 ^ 64 }
     requires many { length held.cells.items ≡ length recs.now }
@@ -116,7 +121,7 @@ fn enter<P: Port + Drop>(
     let states = cells.states.as_slice();
     let Ok(ready) = make_ready(alloc, site, &held.hub.subs, &entry, states) else {
         return (
-            give_up(hall, site, held, cells, recs),
+            give_up(hall, site, held, cells, recs, left),
             Err(PutAnswer::NoMemory { done }),
         );
     };
@@ -124,12 +129,12 @@ fn enter<P: Port + Drop>(
     let Ok(()) = hub.history.reserve() else {
         discard(ready);
         return (
-            give_up(hall, site, held, cells, recs),
+            give_up(hall, site, held, cells, recs, left),
             Err(PutAnswer::NoMemory { done }),
         );
     };
     let place = held.hub.history.len();
-    let pass = commit_entered::<P, Brand>(hall, held, cells, recs, entry, ready, looked);
+    let pass = commit_entered::<P, Brand>(hall, held, cells, recs, entry, ready, looked, left);
     (pass, Ok(place))
 }
 
@@ -173,8 +178,20 @@ fn put_entry<R: Wait, P: Port + Drop>(
         exchange(&mut visit.cells, recs, cells);
         return (hall.leave(visit), Err(PutAnswer::NoMemory { done }));
     };
+    let left = Snapshot::of(&cells.ports);
     let held = hall.hub(rt, visit);
-    enter(alloc, hall, site, cells, held, recs, entry, &[], done)
+    enter(
+        alloc,
+        hall,
+        site,
+        cells,
+        held,
+        recs,
+        entry,
+        &[],
+        done,
+        &left,
+    )
 }
 
 /// Adds all actions as one entry.
@@ -327,8 +344,11 @@ fn put_and_show<R: Wait, P: Port + Drop>(
         return (hall.leave(visit), Err(PutAnswer::NoMemory { done: 0 }));
     };
     let (entry, value) = drafted;
+    let left = Snapshot::of(&cells.ports);
     let held = hall.hub(rt, visit);
-    let (pass, entered) = enter(alloc, hall, site, cells, held, recs, entry, looked, 0);
+    let (pass, entered) = enter(
+        alloc, hall, site, cells, held, recs, entry, looked, 0, &left,
+    );
     match entered {
         Ok(first) => (pass, Ok((Done { first, count: 1 }, value))),
         Err(answer) => {

@@ -110,6 +110,6 @@ pub(crate) fn catch_up<R: Wait, P: Port + Drop>(
     let Ok(visit) = hall.visit(rt, alloc, pass, Vec::new(alloc)) else {
         unreachable!()
     };
-    let held = hall.hub(rt, visit);
-    hall.look::<NoMark>(held)
+    let held = hall.glance(rt, visit);
+    hall.glanced::<NoMark>(held)
 }

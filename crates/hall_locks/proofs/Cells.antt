@@ -1,5 +1,5 @@
 -- A cell is taken, and given back.
-use Rattle.std.proofs.Common.{◌≡◌, ℕ, suc, ◌<◌, ◌≤◌, ◌≢◌, eqb, true, false, List, [], ◌∷◌, length, get_or, set, sym, refl, ap, ◌∙◌, subst, arith, length-set, eq-eqb, ne_eqb, Some, None}
+use Rattle.std.proofs.Common.{◌≡◌, ℕ, suc, ◌*◌, ◌<◌, ◌≤◌, ◌≢◌, eqb, true, false, List, [], ◌∷◌, length, get_or, set, sym, refl, ap, ◌∙◌, subst, arith, length-set, eq-eqb, ne_eqb, Some, None}
 use mathlib.Core.Logic.{dite}
 use mathlib.Core.Option.{none, some}
 use native.Mathlib.Decide.{ℕ_discrete}
@@ -13,6 +13,7 @@ use Rattle.hall_locks.specs.declared.view.View.{View}
 use Rattle.hall_locks.specs.declared.view.Place.{Place}
 use Rattle.hall_locks.specs.declared.view.Place.TheVariants.{Away, Cell}
 use Rattle.hall_locks.specs.Hall.{with_cell, with_cells, WasShown, shown_by, InHand, Falls}
+use Rattle.hall_locks.specs.Lines.{word_at}
 use Rattle.hall_locks.specs.Steps.{MayTake, TookCell, TakesCell, GivesCell}
 use Rattle.hall_locks.proofs.Lists.{every_both, held_by, held_here, held_else}
 use Rattle.hall_locks.proofs.Floors.{floor_takes, floor_gives}
@@ -72,8 +73,8 @@ module _ (C H E B M R S : Type 0) (law : Meaning C H E B M R S) (base : B) (slot
         ),
       )
 
-  takes_cell : (bound : List ℕ) (me : Me Pl Vw) → me.0.live ≡ true → MayTake me.0 bound c
-      → Allows Rl slots id me (suc c) (λ n. either (eqb n 0) 1 n) (TakesCell law bound (step slots (suc c) 0 1 none) me)
+  pub takes_cell : (bound : List ℕ) (me : Me Pl Vw) → me.0.live ≡ true → MayTake me.0 bound c
+      → Allows Rl slots id me (suc c) (λ n. either (eqb n 0) 1 n) (TakesCell law bound (step slots (word_at (suc c)) 0 1 none) me)
   takes_cell bound me live may s r long at small = let n : ℕ = get_or s.words (suc c) 0 in dite (ℕ_discrete n 0)
       (λ hit. let t = takes_free 1 (λ e. omega arith) (omega arith) bound s r me.0 me.1 long at hit live may in (
         with_cell me.0 bound c (law.shows t.0),
@@ -91,8 +92,8 @@ module _ (C H E B M R S : Type 0) (law : Meaning C H E B M R S) (base : B) (slot
       ))
 
   -- the same by a step after which the word says that somebody may wait
-  takes_waiting : (bound : List ℕ) (me : Me Pl Vw) → me.0.live ≡ true → MayTake me.0 bound c
-      → Allows Rl slots id me (suc c) (λ _. 2) (TakesCell law bound (step slots (suc c) 2 0 none) me)
+  pub takes_waiting : (bound : List ℕ) (me : Me Pl Vw) → me.0.live ≡ true → MayTake me.0 bound c
+      → Allows Rl slots id me (suc c) (λ _. 2) (TakesCell law bound (step slots (word_at (suc c)) 2 0 none) me)
   takes_waiting bound me live may s r long at small = let n : ℕ = get_or s.words (suc c) 0 in dite (ℕ_discrete n 0)
       (λ hit. let t = takes_free 2 (λ e. omega arith) (omega arith) bound s r me.0 me.1 long at hit live may in (
         with_cell me.0 bound c (law.shows t.0),
@@ -145,26 +146,11 @@ module _ (C H E B M R S : Type 0) (law : Meaning C H E B M R S) (base : B) (slot
         empty = λ dead. let e : (c, law.shows y) ∷ ps ≡ [] = sym last ∙ (was.empty dead).0 in absurd (cc e);
       }
 
-  gives_cell : (me : Me Pl Vw) (y : C) → me.0.cells ≡ (c, law.shows y) ∷ rest me.0.cells → me.1 ≡ (suc c, Cell y) ∷ rest me.1 → me.0.hub ≡ None
-      → Allows Rl slots id me (suc c) (λ _. 0) (GivesCell (step slots (suc c) 0 0 none) me)
+  pub gives_cell : (me : Me Pl Vw) (y : C) → me.0.cells ≡ (c, law.shows y) ∷ rest me.0.cells → me.1 ≡ (suc c, Cell y) ∷ rest me.1 → me.0.hub ≡ None
+      → Allows Rl slots id me (suc c) (λ _. 0) (GivesCell (step slots (word_at (suc c)) 0 0 none) me)
   gives_cell me y last carried no_hub =
-      subst (λ (l : List (ℕ × Pl)). Allows Rl slots id (me.0, l) (suc c) (λ _. 0) (GivesCell (step slots (suc c) 0 0 none) (me.0, l))) (sym carried)
+      subst (λ (l : List (ℕ × Pl)). Allows Rl slots id (me.0, l) (suc c) (λ _. 0) (GivesCell (step slots (word_at (suc c)) 0 0 none) (me.0, l))) (sym carried)
       (λ s r long at small. (with_cells me.0 (rest me.0.cells), gives, tt, gives_last s r me.0 y (rest me.0.cells) (rest me.1) long at last no_hub, ((suc c, Cell y), refl, refl, no_hub)))
-
-  -- the same at a word that is one more than the cell
-  pub takes_at : (k : ℕ) → k ≡ suc c → (bound : List ℕ) (me : Me Pl Vw) → me.0.live ≡ true → MayTake me.0 bound c
-      → Allows Rl slots id me k (λ n. either (eqb n 0) 1 n) (TakesCell law bound (step slots k 0 1 none) me)
-  takes_at k is bound me live may = subst (λ (z : ℕ). Allows Rl slots id me z (λ n. either (eqb n 0) 1 n) (TakesCell law bound (step slots z 0 1 none) me)) (sym is) (takes_cell bound me live may)
-
-  pub takes_waiting_at : (k : ℕ) → k ≡ suc c → (bound : List ℕ) (me : Me Pl Vw) → me.0.live ≡ true → MayTake me.0 bound c
-      → Allows Rl slots id me k (λ _. 2) (TakesCell law bound (step slots k 2 0 none) me)
-  takes_waiting_at k is bound me live may = subst (λ (z : ℕ). Allows Rl slots id me z (λ _. 2) (TakesCell law bound (step slots z 2 0 none) me)) (sym is) (takes_waiting bound me live may)
-
-  pub gives_at : (k : ℕ) → k ≡ suc c → (old me : Me Pl Vw) (y : C) → me ≡ (old.0, (k, Cell y) ∷ rest old.1) → old.0.cells ≡ (c, law.shows y) ∷ rest old.0.cells → old.0.hub ≡ None
-      → Allows Rl slots id me k (λ _. 0) (GivesCell (step slots k 0 0 none) me)
-  gives_at k is old me y put last no_hub = subst (λ (z : Me Pl Vw). Allows Rl slots id z k (λ _. 0) (GivesCell (step slots k 0 0 none) z)) (sym put)
-      (subst (λ (z : ℕ). Allows Rl slots id (old.0, (z, Cell y) ∷ rest old.1) z (λ _. 0) (GivesCell (step slots z 0 0 none) (old.0, (z, Cell y) ∷ rest old.1))) (sym is)
-      (gives_cell (old.0, (suc c, Cell y) ∷ rest old.1) y last refl no_hub))
 
 abbrev pub value_or : {C H : Type 0} → C → Place C H → C
 value_or d (Cell x) = x
@@ -178,16 +164,16 @@ pub first_is : {P V : Type 0} (w : Me P V) (v : V) (cs : List (ℕ × P)) (k n :
 first_is w v cs k n y is e = ap (λ z. z.1) e ∙ ((λ i. (sym is i, y) ∷ cs) ∙ (λ i. (k, y) ∷ rest (sym e i).1))
 
 module _ {C H E B M R S : Type 0} where
-  pub took_first : (law : Meaning C H E B M R S) (bound : List ℕ) (word : ℕ) (m w : Me (Place C H) (View H E B M R S)) → TookCell law bound word m w → (x : C) × (w.1 ≡ (word, Cell x) ∷ rest w.1)
-  took_first law bound word m w t = (t.value, first_is w _ _ word (suc t.cell) (Cell t.value) t.of_word t.now)
+  pub took_first : (law : Meaning C H E B M R S) (bound : List ℕ) (place : ℕ) (m w : Me (Place C H) (View H E B M R S)) → TookCell law bound (word_at place) m w → (x : C) × (w.1 ≡ (place, Cell x) ∷ rest w.1)
+  took_first law bound place m w t = (t.value, first_is w _ _ place (suc t.cell) (Cell t.value) (let e : place * 8 ≡ suc t.cell * 8 = t.of_word in omega (arith, e)) t.now)
 
   -- the cell that was asked for is the one that was taken
-  pub took_is : (law : Meaning C H E B M R S) (bound : List ℕ) (cell word : ℕ) (m w w' : Me (Place C H) (View H E B M R S)) (x : C) → word ≡ suc cell → TookCell law bound word m w → w.1 ≡ (word, Cell x) ∷ rest w.1 → w' ≡ (w.0, (word, Away) ∷ rest w.1)
+  pub took_is : (law : Meaning C H E B M R S) (bound : List ℕ) (cell place : ℕ) (m w w' : Me (Place C H) (View H E B M R S)) (x : C) → place ≡ suc cell → TookCell law bound (word_at place) m w → w.1 ≡ (place, Cell x) ∷ rest w.1 → w' ≡ (w.0, (place, Away) ∷ rest w.1)
       → (w' ≡ (with_cell m.0 bound cell (law.shows x), (suc cell, Away) ∷ m.1)) × WasShown law m.0.seen.base (cell, law.shows x)
-  took_is law bound cell word m w w' x is t first now =
-      let p : t.cell ≡ cell = let e = t.of_word in omega (arith, e, is) in
+  took_is law bound cell place m w w' x is t first now =
+      let p : t.cell ≡ cell = let e : place * 8 ≡ suc t.cell * 8 = t.of_word in omega (arith, e, is) in
       let q : t.value ≡ x = ap (value_or x) (ap (first_or Away) (sym (ap (λ z. z.1) t.now) ∙ first)) in (
-        now ∙ ((λ i. ((t.now i).0, (word, Away) ∷ rest (t.now i).1)) ∙ (λ i. (with_cell m.0 bound (p i) (law.shows (q i)), (is i, Away) ∷ m.1))),
+        now ∙ ((λ i. ((t.now i).0, (place, Away) ∷ rest (t.now i).1)) ∙ (λ i. (with_cell m.0 bound (p i) (law.shows (q i)), (is i, Away) ∷ m.1))),
         subst (λ (z : ℕ × C). WasShown law m.0.seen.base (z.0, law.shows z.1)) (λ i. (p i, q i)) t.was,
       )
 

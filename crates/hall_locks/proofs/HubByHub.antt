@@ -11,7 +11,7 @@ use Rattle.hall_locks.specs.declared.view.View.{View}
 use Rattle.hall_locks.specs.declared.view.Place.{Place}
 use Rattle.hall_locks.specs.declared.view.Place.TheVariants.{Away, Hub}
 use Rattle.hall_locks.specs.Hall.{with_hub, given_hub, grown, with_mark, last_entry, deed_by, deed_of, shown_cells, cells_after, numbers_of, IsDone, IsDue, IsMarked, IsTrueMark, MayGive}
-use Rattle.hall_locks.specs.Hands.{aways, Found, Carries, HoldsHub, MayCommit, MayLook, IsOneMore, AddsNoEntry, item_of, looked_at}
+use Rattle.hall_locks.specs.Hands.{aways, there, Found, Carries, HoldsHub, GlancesAtHub, MayCommit, MayLook, IsOneMore, AddsNoEntry, item_of, looked_at}
 use Rattle.hall_locks.specs.Steps.{TookHub, GivesHub}
 use Rattle.hall_locks.proofs.Gives.{gives_hub, numbers_after}
 use Rattle.hall_locks.proofs.Deeds.{entries_snoc, entries_item}
@@ -59,6 +59,32 @@ module _ (C H E B M R S : Type 0) (law : Meaning C H E B M R S) where
       let q : w'.1 ≡ rest m.1 = ap (λ (z : List (ℕ × Place C H)). rest z) slots in
       λ i. (p i, q i)
 
+  -- a hub that was put into its slot may be given back, and then was
+  pub gives_there : (m w : Mine) (next : H) (mark : Option M) → w ≡ (m.0, (0, Hub next) ∷ rest m.1) → MayGive law m.0 next mark
+      → (h : H) × (w.1 ≡ (0, Hub h) ∷ rest w.1) × MayGive law w.0 h mark
+  gives_there m w next mark is may = (next, (λ i. (is i).1) ∙ (λ i. (0, Hub next) ∷ rest (sym is i).1), subst (λ (z : Mine). MayGive law z.0 next mark) (sym is) may)
+
+  pub gave_there : (m w w' : Mine) (next : H) (mark : Option M) → w ≡ (m.0, (0, Hub next) ∷ rest m.1)
+      → ((h : H) → w.1 ≡ (0, Hub h) ∷ rest w.1 → w' ≡ (given_hub law w.0 h mark, rest w.1)) → w' ≡ (given_hub law m.0 next mark, rest m.1)
+  gave_there m w w' next mark is gave = gave next ((λ i. (is i).1) ∙ (λ i. (0, Hub next) ∷ rest (sym is i).1)) ∙ (λ i. (given_hub law (is i).0 next mark, rest (is i).1))
+
+  -- a seat that took the hub's word has the hub, which is in its slot
+  pub glances : (m w : Mine) (footprint : List ℕ) → Carries m footprint → TookHub law m w → GlancesAtHub w footprint
+  glances m w footprint carries took = subst (λ (z : Mine). GlancesAtHub z footprint) (sym took.now) record {
+    live = carries.live;
+    hub = refl;
+    slots = ap (λ (l : List (ℕ × Place C H)). (0, Hub took.hub) ∷ l) carries.slots;
+    numbers = carries.numbers;
+  }
+
+  pub glance_found : (m w : Mine) → TookHub law m w → (h : H) × (w.0 ≡ with_hub m.0 w.0.seen h) × Found law m.0 w.0.seen h
+  glance_found m w took =
+      let s : w.0.seen ≡ took.seen = ap (λ (z : Mine). z.0.seen) took.now in (
+        took.hub,
+        ap (λ (z : Mine). z.0) took.now ∙ ap (λ h. with_hub m.0 h took.hub) (sym s),
+        subst (λ h. Found law m.0 h took.hub) (sym s) took.found,
+      )
+
   aways_shown : (h : Story B E R) (ps : List (ℕ × S)) → aways {C = C} {H = H} (shown_cells law h ps) ≡ aways ps
   aways_shown h [] = refl
   aways_shown h (p ∷ ps) = ap (λ (l : List (ℕ × Place C H)). (suc p.0, Away) ∷ l) (aways_shown h ps)
@@ -77,6 +103,21 @@ module _ (C H E B M R S : Type 0) (law : Meaning C H E B M R S) where
         slots = ap (λ (l : List (ℕ × Place C H)). rest l) holds.slots ∙ sym (aways_after after (deed_of law mark next) m.0.cells);
         numbers = numbers_after law after (deed_of law mark next) m.0.cells ∙ holds.numbers;
       }
+
+  -- the hub that stayed in its slot may be given back, and then the cells of the footprint are in hand, and not the hub
+  pub hub_there : (m : Mine) (footprint : List ℕ) (h : H) → GlancesAtHub m footprint → m.0.hub ≡ Some h → m.1 ≡ (0, Hub h) ∷ rest m.1
+  hub_there m footprint h glances is =
+      let e : m.1 ≡ (0, Hub h) ∷ aways {C = C} {H = H} m.0.cells = glances.slots ∙ ap (λ (o : Option H). there {C = C} o ++ aways {C = C} {H = H} m.0.cells) is in
+      e ∙ (λ i. (0, Hub h) ∷ rest (sym e i))
+
+  pub carries_glanced : (m m' : Mine) (h : H) (mark : Option M) (footprint : List ℕ) → GlancesAtHub m footprint → m.0.hub ≡ Some h → m' ≡ (given_hub law m.0 h mark, rest m.1) → Carries m' footprint
+  carries_glanced m m' h mark footprint glances is given =
+      let e : m.1 ≡ (0, Hub h) ∷ aways {C = C} {H = H} m.0.cells = glances.slots ∙ ap (λ (o : Option H). there {C = C} o ++ aways {C = C} {H = H} m.0.cells) is in
+      carries_given (m.0, (0, Away) ∷ rest m.1) m' h mark footprint record {
+        live = glances.live;
+        slots = ap (λ (l : List (ℕ × Place C H)). (0, Away) ∷ rest l) e;
+        numbers = glances.numbers;
+      } given
 
   last_one : (xs : List E) (e : E) → last_entry {R = R} (xs ++ e ∷ []) ≡ Some (Entry e)
   last_one [] e = refl

@@ -1,6 +1,6 @@
 -- The rule of a hall. `specs/Steps.antt` has what each step of a seat must meet and tells.
--- Word 0 is the hub's, and word c + 1 that of cell c. A word is 0 while its cell or hub is free, 1 while it is taken,
--- and 2 while it is taken and somebody may wait for it.
+-- Word 0 is the hub's, and word c + 1 that of cell c, as `specs/Lines.antt` has them side by side. A word is 0 while its
+-- cell or hub is free, 1 while it is taken, and 2 while it is taken and somebody may wait for it.
 use Rattle.std.specs.Prelude.{◌≡◌, ◌≢◌, nat_le, ℕ, suc, ◌+◌, ◌<◌, ◌≤◌, Bool, true, false, List, [], ◌∷◌, ◌++◌, length, slice_index, slice_get, Option, None, Some, zero}
 use mathlib.Core.Option.{some}
 use lib.ListN.{get_elem?}

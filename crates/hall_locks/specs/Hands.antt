@@ -1,5 +1,5 @@
 -- What a pass and a visit have in hand.
-use Rattle.std.specs.Prelude.{◌≡◌, ◌≢◌, ℕ, suc, ◌+◌, ◌<◌, ◌&&◌, nat_lt, Bool, true, List, [], ◌∷◌, ◌++◌, map, reverse, take, drop, Option, Some, None}
+use Rattle.std.specs.Prelude.{◌≡◌, ◌≢◌, ℕ, suc, ◌+◌, ◌<◌, ◌&&◌, nat_lt, Bool, true, List, [], ◌∷◌, ◌++◌, map, reverse, take, drop, is_some, Option, Some, None}
 use Rattle.atomic_table.specs.Table.{Me}
 use Rattle.histories.specs.declared.story.Story.{Story}
 use Rattle.histories.specs.declared.story.Deed.{Deed}
@@ -8,7 +8,7 @@ use Rattle.hall_core.specs.Meanings.{Among, AreDistinct, Meaning, Adds, adds_not
 use Rattle.histories.specs.History.{Begins, IsLegalAfter, entries_of, deeds_by, Every}
 use Rattle.hall_locks.specs.declared.view.View.{View}
 use Rattle.hall_locks.specs.declared.view.Place.{Place}
-use Rattle.hall_locks.specs.declared.view.Place.TheVariants.{Away}
+use Rattle.hall_locks.specs.declared.view.Place.TheVariants.{Away, Hub}
 use Rattle.hall_locks.specs.Hall.{numbers_of, grown, with_mark, shown_by, shown_cells, IsTrueMark}
 
 -- each is above the one before it
@@ -20,6 +20,11 @@ Rises (c ∷ cs) = Every (λ d. c < d) cs × Rises cs
 abbrev pub aways : {C H S : Type 0} → List (ℕ × S) → List (ℕ × Place C H)
 aways [] = []
 aways (p ∷ ps) = (suc p.0, Away) ∷ aways ps
+
+-- the slot of the hub in hand, whose value was left there
+abbrev pub there : {C H : Type 0} → Option H → List (ℕ × Place C H)
+there None = []
+there (Some h) = (0, Hub h) ∷ []
 
 abbrev pub values_of : {C : Type 0} → List (ℕ × C) → List C
 values_of [] = []
@@ -72,6 +77,13 @@ module _ {C H E B M R S : Type 0} where
   pub record HoldsHub (m : Me (Place C H) (View H E B M R S)) (footprint : List ℕ) : Type 0 where
     pub live : m.0.live ≡ true
     pub slots : m.1 ≡ (0, Away) ∷ aways m.0.cells
+    pub numbers : numbers_of m.0.cells ≡ reverse footprint
+
+  -- the same, and the hub is there, in its slot as it was taken
+  pub record GlancesAtHub (m : Me (Place C H) (View H E B M R S)) (footprint : List ℕ) : Type 0 where
+    pub live : m.0.live ≡ true
+    pub hub : is_some m.0.hub ≡ true
+    pub slots : m.1 ≡ there m.0.hub ++ aways m.0.cells
     pub numbers : numbers_of m.0.cells ≡ reverse footprint
 
 module _ {C H E B M R S : Type 0} (law : Meaning C H E B M R S) where
@@ -158,3 +170,7 @@ module _ {C H E B M R S : Type 0} (law : Meaning C H E B M R S) where
     pub own : law.keeps next (with_look v mark) v.number (with_mark v.log mark)
     pub others : (k : ℕ) (log : List M) → k ≢ v.number → law.keeps found v.seen k log
         → law.keeps next (with_look v mark) k log
+
+  -- what a look owes whose hub stayed in its slot
+  abbrev pub MayGlance : View H E B M R S → List C → Option M → Type 0
+  MayGlance v cells mark = (hub : H) × (v.hub ≡ Some hub) × MayLook v hub cells mark

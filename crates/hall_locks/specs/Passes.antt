@@ -1,5 +1,5 @@
--- What callers cite of a pass, of a visit, and of a visit with the hub in hand: of which hall it is, and what its seat
--- knows.
+-- What callers cite of a pass, of a visit, of a visit with the hub in hand, and of one that looks at the hub: of which
+-- hall it is, and what its seat knows.
 use Rattle.std.specs.Prelude.{ℕ, List}
 use Rattle.atomic_table.specs.Seated.{TableId}
 use Rattle.histories.specs.declared.story.Story.{Story}
@@ -9,6 +9,7 @@ use Rattle.hall_locks.specs.declared.hall.Hall.{Hall}
 use Rattle.hall_locks.specs.declared.pass.Pass.{Pass}
 use Rattle.hall_locks.specs.declared.visit.Visit.{Visit}
 use Rattle.hall_locks.specs.declared.held.Held.{Held}
+use Rattle.hall_locks.specs.declared.glance.Glance.{Glance}
 
 abbrev pub hall_id : {T C H E B S M R : Type 0} → Hall T C H E B S M R → TableId
 hall_id hall = hall.table.shared.table_id
@@ -71,3 +72,22 @@ module _ {T C H E B S M R : Type 0} {law : Ghosts T C H E B S M R} where
 
   abbrev pub held_others : Held T C H E B S M R law → List (ℕ × List M)
   held_others held = held.seat.me.0.others
+
+  -- and of one that looks at the hub
+  abbrev pub glance_hall : Glance T C H E B S M R law → TableId
+  glance_hall glance = glance.seat.table_id
+
+  abbrev pub glance_view : Glance T C H E B S M R law → View H E B M R S
+  glance_view glance = glance.seat.me.0
+
+  abbrev pub glance_number : Glance T C H E B S M R law → ℕ
+  glance_number glance = glance.seat.me.0.number
+
+  abbrev pub glance_seen : Glance T C H E B S M R law → Story B E R
+  glance_seen glance = glance.seat.me.0.seen
+
+  abbrev pub glance_log : Glance T C H E B S M R law → List M
+  glance_log glance = glance.seat.me.0.log
+
+  abbrev pub glance_others : Glance T C H E B S M R law → List (ℕ × List M)
+  glance_others glance = glance.seat.me.0.others

@@ -10,6 +10,7 @@ use Rattle.hall_locks.specs.declared.view.Place.{Place}
 use Rattle.hall_locks.specs.declared.view.Place.TheVariants.{Cell, Hub}
 use Rattle.hall_locks.specs.Hall.{HadAll, WasShown, new_view, with_cell, with_cells, with_hub, given_hub, numbers_of}
 use Rattle.hall_locks.specs.Hands.{Found}
+use Rattle.hall_locks.specs.Lines.{word_at}
 
 module _ {H E B M R S : Type 0} where
   -- the order of taking: above all cells in hand, in the footprint, and never with the hub in hand
@@ -51,7 +52,7 @@ module _ {C H E B M R S : Type 0} (law : Meaning C H E B M R S) where
   pub record TookCell (bound : List ℕ) (word : ℕ) (m w : Me (Place C H) (View H E B M R S)) : Type 0 where
     pub cell : ℕ
     pub value : C
-    pub of_word : word ≡ suc cell
+    pub of_word : word ≡ word_at (suc cell)
     pub may : MayTake m.0 bound cell
     pub now : w ≡ (with_cell m.0 bound cell (law.shows value), (suc cell, Cell value) ∷ m.1)
     pub was : WasShown law m.0.seen.base (cell, law.shows value)

@@ -3,13 +3,14 @@ ghost use Rattle.std.specs.Prelude.{◌≡◌, ℕ, suc, ◌+◌, ◌<◌, ◌�
 ghost use Rattle.atomic_table.specs.Table.{rest};
 ghost use Rattle.histories.specs.History.{Every};
 ghost use Rattle.hall_locks.specs.Hall.{with_cell, with_cells, WasShown};
+ghost use Rattle.hall_locks.specs.Lines.{word_at};
 ghost use Rattle.hall_locks.specs.Steps.{MayTake, TookCell};
 ghost use Rattle.hall_locks.specs.declared.view.Place.TheVariants.{Away, Cell};
 
 use crate::hall::{Hall, Token};
 use crate::plays::{Footprint, GivesCell, TakesCell};
 use crate::view::Place;
-use crate::words::{AWAITED, FREE, TAKEN, TRIES};
+use crate::words::{AWAITED, FREE, TAKEN, TRIES, word_of};
 use hall_core::Law;
 use std::sync::Wait;
 
@@ -41,12 +42,13 @@ impl<T: Law> Hall<T> {
         requires live { seat.old.me.0.live ≡ true }
         requires may { MayTake seat.old.me.0 B.bound cell }
         ensures own { (seat.new.table_id ≡ seat.old.table_id) × (seat.new.id ≡ seat.old.id) }
-        ensures took { TookCell T.meaning B.bound (cell + 1) seat.old.me seat.new.me }
+        ensures took { TookCell T.meaning B.bound (word_at (cell + 1)) seat.old.me seat.new.me }
     {
         if self.try_word::<B>(seat, cell) {
             return;
         }
-        let word = cell + 1;
+        let place = cell + 1;
+        let word = word_of(place);
         let table = &self.table.shared;
         for _ in rt.forever() {
             if table.swap::<TakesCell<T, B>>(seat, word, AWAITED) == FREE {
@@ -64,10 +66,11 @@ impl<T: Law> Hall<T> {
         requires live { seat.old.me.0.live ≡ true }
         requires may { MayTake seat.old.me.0 B.bound cell }
         ensures own { (seat.new.table_id ≡ seat.old.table_id) × (seat.new.id ≡ seat.old.id) }
-        ensures took { result ≡ true → TookCell T.meaning B.bound (cell + 1) seat.old.me seat.new.me }
+        ensures took { result ≡ true → TookCell T.meaning B.bound (word_at (cell + 1)) seat.old.me seat.new.me }
         ensures not { result ≡ false → seat.new.me ≡ seat.old.me }
     {
-        let word = cell + 1;
+        let place = cell + 1;
+        let word = word_of(place);
         for _ in 0..TRIES {
             if self
                 .table
@@ -77,20 +80,20 @@ impl<T: Law> Hall<T> {
             {
                 return true;
             }
-            self.watch(word);
+            self.watch(place);
         }
         false
     }
 
     // The cell out of its slot, whose word is taken.
-    fn take_out(&self, seat: &mut Token<T>, word: usize) -> T::Cell
+    fn take_out(&self, seat: &mut Token<T>, place: usize) -> T::Cell
         requires own { seat.old.table_id ≡ self.now.table.shared.table_id }
-        requires there { (x : T.Cell) × (seat.old.me.1 ≡ (word, Cell x) ∷ rest seat.old.me.1) }
+        requires there { (x : T.Cell) × (seat.old.me.1 ≡ (place, Cell x) ∷ rest seat.old.me.1) }
         ensures own { (seat.new.table_id ≡ seat.old.table_id) × (seat.new.id ≡ seat.old.id) }
-        ensures value { seat.old.me.1 ≡ (word, Cell result) ∷ rest seat.old.me.1 }
-        ensures away { seat.new.me ≡ (seat.old.me.0, (word, Away) ∷ rest seat.old.me.1) }
+        ensures value { seat.old.me.1 ≡ (place, Cell result) ∷ rest seat.old.me.1 }
+        ensures away { seat.new.me ≡ (seat.old.me.0, (place, Away) ∷ rest seat.old.me.1) }
     {
-        let Place::Cell(cell) = self.table.shared.exchange(seat, word, Place::Away) else {
+        let Place::Cell(cell) = self.table.shared.exchange(seat, place, Place::Away) else {
             unreachable!()
         };
         cell
@@ -107,9 +110,10 @@ impl<T: Law> Hall<T> {
         ensures given { seat.new.me
             ≡ (with_cells seat.old.me.0 (rest seat.old.me.0.cells), rest seat.old.me.1) }
     {
-        let word = cell + 1;
-        self.table.shared.exchange(seat, word, Place::Cell(value));
+        let place = cell + 1;
+        let word = word_of(place);
+        self.table.shared.exchange(seat, place, Place::Cell(value));
         let found = self.table.shared.swap::<GivesCell>(seat, word, FREE);
-        self.wake(word, found);
+        self.wake(place, found);
     }
 }

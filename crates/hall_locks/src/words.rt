@@ -1,5 +1,6 @@
-//! What a word says of its cell or of the hub.
-ghost use Rattle.std.specs.Prelude.{◌≤◌};
+//! What a word says of its cell or of the hub, and where it lies.
+ghost use Rattle.std.specs.Prelude.{◌≡◌, ◌≤◌};
+ghost use Rattle.hall_locks.specs.Lines.{word_at};
 
 use crate::hall::Hall;
 use hall_core::Law;
@@ -19,11 +20,21 @@ pub(crate) const TRIES: u32 = 64;
 /// Looks so often at a word between two tries. A look leaves the word where it is, so that it doesn't hold up the seat that has it.
 const LOOKS: u32 = 256;
 
+/// The word of the hub, which is number 0, or of a cell, which is one more than the cell's number: eight words apart, so that each lies on
+/// a cache line of its own.
+pub(crate) fn word_of(place: usize) -> usize
+    requires { place ≤ 4097 }
+    ensures { result ≡ word_at place }
+{
+    place * 8
+}
+
 impl<T: Law> Hall<T> {
-    // Looks for the word to be free, for a while.
-    pub(crate) fn watch(&self, word: usize)
-        requires { word ≤ self.now.count }
+    // Looks for the word of this place to be free, for a while.
+    pub(crate) fn watch(&self, place: usize)
+        requires { place ≤ self.now.count }
     {
+        let word = word_of(place);
         for _ in 0..LOOKS {
             if self.table.shared.peek(word) == FREE {
                 return;
@@ -31,12 +42,12 @@ impl<T: Law> Hall<T> {
         }
     }
 
-    // Wakes one of those who wait for the word, which was `found` and is free.
-    pub(crate) fn wake(&self, word: usize, found: u64)
-        requires { word ≤ self.now.count }
+    // Wakes one of those who wait for the word of this place, which was `found` and is free.
+    pub(crate) fn wake(&self, place: usize, found: u64)
+        requires { place ≤ self.now.count }
     {
         if found == AWAITED {
-            self.table.shared.wake_one(word);
+            self.table.shared.wake_one(word_of(place));
         }
     }
 }

@@ -16,7 +16,7 @@ use Rattle.desk_api.specs.declared.mark.Seat.{Seat}
 use Rattle.desk_api.proofs.Strict.{gets_rise}
 use Rattle.desk_core.proofs.Reading.{no_get}
 use Rattle.desk_shared.specs.Hands.{states_of}
-use Rattle.desk_shared.specs.Records.{records, seat_of}
+use Rattle.desk_shared.specs.Records.{Sight, records, seat_of}
 use Rattle.desk_shared.proofs.Behind.{behind, ends_behind, stands_on}
 use Rattle.desk_shared.proofs.Gotten.{got_at_once, may_read, read_adds, read_ends}
 use Rattle.desk_shared.proofs.Handed.{as_taken, left_alone}
@@ -133,8 +133,8 @@ invariant_of-visit-in-Err-shown g c =
     let made = c.in-Ok.ensures {u = tt} in
     record { carries = v.carries; slots = v.slots; many = c.exchange-2.ensures.many ∙ c.exchange.ensures.many ∙ v.many }
 
-pub hub-held-requires : goal.hub-held-requires
-hub-held-requires g c =
+pub glance-held-requires : goal.glance-held-requires
+glance-held-requires g c =
     let st = c.requires.stands in
     let v = c.in-Ok.visit in
     let made = c.in-Ok.ensures {u = tt} in
@@ -164,7 +164,7 @@ look_read-requires-clause-own g c =
     let st = c.requires.stands in
     let v = c.in-Ok.visit in
     let made = c.in-Ok.ensures {u = tt} in
-    c.hub-held.ensures.own ∙ made.own ∙ st.own_is
+    c.glance-held.ensures.own ∙ made.own ∙ st.own_is
 
 pub look_read-requires-clause-may : goal.look_read-requires-clause-may
 look_read-requires-clause-may g c =
@@ -176,13 +176,17 @@ look_read-requires-clause-may g c =
     c.exchange.ensures.exchanged in
     let again = all_again s c.args.channel (states_of v.cells.items) (states_of c.exchange.new.hand.items) c.exchange.new.cells.states.items z c.footprint_of-2.result.now (states_of c.exchange.new.hand.items) (states_of c.exchange-2.new.hand.items)
     c.exchange.new.cells.states.items c.exchange-2.new.cells.states.items c.footprint_of-2.ensures refl refl c.exchange-2.ensures.exchanged in
-    let h = c.hub-held.result in
-    let b = hub_behind c.args.pass.seat.me.0 v.seat.me.0 h.seat.me.0 h.hub (footprint_of s c.args.channel) (states_of v.cells.items) made.visits c.hub-held.ensures.taken c.hub-held.ensures.found in
-    let foot : h.footprint.items ≡ footprint_of s c.args.channel = c.hub-held.ensures.footprint ∙ made.recs in
-    let cells : states_of h.cells.items ≡ states_of v.cells.items = ap states_of c.hub-held.ensures.cells ∙ again.0 in
-    let there = site_there c.args.pass.seat.me.0 h.seat.me.0 h.seat.me.0 h.hub _ _ b s st.site_is in
-    subst (λ (l : List ℕ). MayLook records h.seat.me.0 h.hub h.cells.items (Some (Read (now (seat_of h.seat.me.0)) c.args.channel l (states_of h.cells.items)))) (sym foot)
-    (may_read h.seat.me.0 h.hub (footprint_of s c.args.channel) (states_of v.cells.items) h.cells.items c.args.channel b.has cells (inl (ap (λ (z : SiteData). footprint_of z c.args.channel) (sym there))))
+    let h = c.glance-held.result in
+    let had = c.glance-held.ensures.hub in
+    let b = hub_behind c.args.pass.seat.me.0 v.seat.me.0 h.seat.me.0 had.0 (footprint_of s c.args.channel) (states_of v.cells.items) made.visits had.1 had.2 in
+    let foot : h.footprint.items ≡ footprint_of s c.args.channel = c.glance-held.ensures.footprint ∙ made.recs in
+    let cells : states_of h.cells.items ≡ states_of v.cells.items = ap states_of c.glance-held.ensures.cells ∙ again.0 in
+    let there = site_there c.args.pass.seat.me.0 h.seat.me.0 h.seat.me.0 had.0 _ _ b s st.site_is in (
+      had.0,
+      ap (λ (x : Sight). x.hub) had.1,
+      subst (λ (l : List ℕ). MayLook records h.seat.me.0 had.0 h.cells.items (Some (Read (now (seat_of h.seat.me.0)) c.args.channel l (states_of h.cells.items)))) (sym foot)
+          (may_read h.seat.me.0 had.0 (footprint_of s c.args.channel) (states_of v.cells.items) h.cells.items c.args.channel b.has cells (inl (ap (λ (z : SiteData). footprint_of z c.args.channel) (sym there)))),
+    )
 
 pub look_read-requires-clause-mark : goal.look_read-requires-clause-mark
 look_read-requires-clause-mark g c =
@@ -198,11 +202,12 @@ returns-in-Ok-shown-clause-stands g c =
     c.exchange.ensures.exchanged in
     let again = all_again s c.args.channel (states_of v.cells.items) (states_of c.exchange.new.hand.items) c.exchange.new.cells.states.items z c.footprint_of-2.result.now (states_of c.exchange.new.hand.items) (states_of c.exchange-2.new.hand.items)
     c.exchange.new.cells.states.items c.exchange-2.new.cells.states.items c.footprint_of-2.ensures refl refl c.exchange-2.ensures.exchanged in
-    let h = c.hub-held.result in
-    let b = hub_behind c.args.pass.seat.me.0 v.seat.me.0 h.seat.me.0 h.hub (footprint_of s c.args.channel) (states_of v.cells.items) made.visits c.hub-held.ensures.taken c.hub-held.ensures.found in
-    let foot : h.footprint.items ≡ footprint_of s c.args.channel = c.hub-held.ensures.footprint ∙ made.recs in
-    let cells : states_of h.cells.items ≡ states_of v.cells.items = ap states_of c.hub-held.ensures.cells ∙ again.0 in
-    let there = site_there c.args.pass.seat.me.0 h.seat.me.0 h.seat.me.0 h.hub _ _ b s st.site_is in
+    let h = c.glance-held.result in
+    let had = c.glance-held.ensures.hub in
+    let b = hub_behind c.args.pass.seat.me.0 v.seat.me.0 h.seat.me.0 had.0 (footprint_of s c.args.channel) (states_of v.cells.items) made.visits had.1 had.2 in
+    let foot : h.footprint.items ≡ footprint_of s c.args.channel = c.glance-held.ensures.footprint ∙ made.recs in
+    let cells : states_of h.cells.items ≡ states_of v.cells.items = ap states_of c.glance-held.ensures.cells ∙ again.0 in
+    let there = site_there c.args.pass.seat.me.0 h.seat.me.0 h.seat.me.0 had.0 _ _ b s st.site_is in
     let u = c.look_read.result.seat.me.0 in
     let noted = subst (λ (l : List ℕ × List RecState). seat_of u ≡ with_mark (seat_of h.seat.me.0) (λ at. Read at c.args.channel l.0 l.1)) (λ i. (foot i, cells i)) c.look_read.ensures.marked in
     let long : length s.opening ≡ length c.exchange.new.cells.states.items = sym z.long in
@@ -213,7 +218,7 @@ returns-in-Ok-shown-clause-stands g c =
       named = got_at_once c.looks_show_states.ensures s c.args.channel c.args.atomic c.requires.whole c.exchange.new.cells.states.items (states_of v.cells.items) long z.given c.in-Ok-shown.value
           ((c.in-Ok-shown.ensures {u = tt}).shown ∙ ap (value_of s c.args.channel) c.as_slice.ensures.value) (now (seat_of h.seat.me.0));
     })) in
-    stands_on _ _ s _ _ _ _ _ _ c.args.pass.seat.me.0 c.look_read.result.seat.me.0 st (again.1 ∙ sym st.furnished.states_are) (c.exchange-2.ensures.ports ∙ c.exchange.ensures.ports) (c.look_read.ensures.own ∙ c.hub-held.ensures.own ∙ made.own) _ call
+    stands_on _ _ s _ _ _ _ _ _ c.args.pass.seat.me.0 c.look_read.result.seat.me.0 st (again.1 ∙ sym st.furnished.states_are) (c.exchange-2.ensures.ports ∙ c.exchange.ensures.ports) (c.look_read.ensures.own ∙ c.glance-held.ensures.own ∙ made.own) _ call
 
 pub returns-in-Ok-shown-clause-calls : goal.returns-in-Ok-shown-clause-calls
 returns-in-Ok-shown-clause-calls g c =
@@ -225,11 +230,12 @@ returns-in-Ok-shown-clause-calls g c =
     c.exchange.ensures.exchanged in
     let again = all_again s c.args.channel (states_of v.cells.items) (states_of c.exchange.new.hand.items) c.exchange.new.cells.states.items z c.footprint_of-2.result.now (states_of c.exchange.new.hand.items) (states_of c.exchange-2.new.hand.items)
     c.exchange.new.cells.states.items c.exchange-2.new.cells.states.items c.footprint_of-2.ensures refl refl c.exchange-2.ensures.exchanged in
-    let h = c.hub-held.result in
-    let b = hub_behind c.args.pass.seat.me.0 v.seat.me.0 h.seat.me.0 h.hub (footprint_of s c.args.channel) (states_of v.cells.items) made.visits c.hub-held.ensures.taken c.hub-held.ensures.found in
-    let foot : h.footprint.items ≡ footprint_of s c.args.channel = c.hub-held.ensures.footprint ∙ made.recs in
-    let cells : states_of h.cells.items ≡ states_of v.cells.items = ap states_of c.hub-held.ensures.cells ∙ again.0 in
-    let there = site_there c.args.pass.seat.me.0 h.seat.me.0 h.seat.me.0 h.hub _ _ b s st.site_is in
+    let h = c.glance-held.result in
+    let had = c.glance-held.ensures.hub in
+    let b = hub_behind c.args.pass.seat.me.0 v.seat.me.0 h.seat.me.0 had.0 (footprint_of s c.args.channel) (states_of v.cells.items) made.visits had.1 had.2 in
+    let foot : h.footprint.items ≡ footprint_of s c.args.channel = c.glance-held.ensures.footprint ∙ made.recs in
+    let cells : states_of h.cells.items ≡ states_of v.cells.items = ap states_of c.glance-held.ensures.cells ∙ again.0 in
+    let there = site_there c.args.pass.seat.me.0 h.seat.me.0 h.seat.me.0 had.0 _ _ b s st.site_is in
     let u = c.look_read.result.seat.me.0 in
     let noted = subst (λ (l : List ℕ × List RecState). seat_of u ≡ with_mark (seat_of h.seat.me.0) (λ at. Read at c.args.channel l.0 l.1)) (λ i. (foot i, cells i)) c.look_read.ensures.marked in
     let long : length s.opening ≡ length c.exchange.new.cells.states.items = sym z.long in
@@ -252,11 +258,12 @@ returns-in-Ok-shown-clause-ends g c =
     c.exchange.ensures.exchanged in
     let again = all_again s c.args.channel (states_of v.cells.items) (states_of c.exchange.new.hand.items) c.exchange.new.cells.states.items z c.footprint_of-2.result.now (states_of c.exchange.new.hand.items) (states_of c.exchange-2.new.hand.items)
     c.exchange.new.cells.states.items c.exchange-2.new.cells.states.items c.footprint_of-2.ensures refl refl c.exchange-2.ensures.exchanged in
-    let h = c.hub-held.result in
-    let b = hub_behind c.args.pass.seat.me.0 v.seat.me.0 h.seat.me.0 h.hub (footprint_of s c.args.channel) (states_of v.cells.items) made.visits c.hub-held.ensures.taken c.hub-held.ensures.found in
-    let foot : h.footprint.items ≡ footprint_of s c.args.channel = c.hub-held.ensures.footprint ∙ made.recs in
-    let cells : states_of h.cells.items ≡ states_of v.cells.items = ap states_of c.hub-held.ensures.cells ∙ again.0 in
-    let there = site_there c.args.pass.seat.me.0 h.seat.me.0 h.seat.me.0 h.hub _ _ b s st.site_is in
+    let h = c.glance-held.result in
+    let had = c.glance-held.ensures.hub in
+    let b = hub_behind c.args.pass.seat.me.0 v.seat.me.0 h.seat.me.0 had.0 (footprint_of s c.args.channel) (states_of v.cells.items) made.visits had.1 had.2 in
+    let foot : h.footprint.items ≡ footprint_of s c.args.channel = c.glance-held.ensures.footprint ∙ made.recs in
+    let cells : states_of h.cells.items ≡ states_of v.cells.items = ap states_of c.glance-held.ensures.cells ∙ again.0 in
+    let there = site_there c.args.pass.seat.me.0 h.seat.me.0 h.seat.me.0 had.0 _ _ b s st.site_is in
     let u = c.look_read.result.seat.me.0 in
     let noted = subst (λ (l : List ℕ × List RecState). seat_of u ≡ with_mark (seat_of h.seat.me.0) (λ at. Read at c.args.channel l.0 l.1)) (λ i. (foot i, cells i)) c.look_read.ensures.marked in
     ends_behind (seat_of c.args.pass.seat.me.0) (seat_of h.seat.me.0) (seat_of u) b.others (inr (read_ends (seat_of h.seat.me.0) (seat_of u) c.args.channel (footprint_of s c.args.channel) (states_of v.cells.items) noted))
@@ -297,7 +304,7 @@ pub returns-in-Err-clause-others : goal.returns-in-Err-clause-others
 returns-in-Err-clause-others g c = ap (λ p. p.seat.me.0.others) (c.in-Err.ensures {u = tt}).back
 
 pub returns-in-Ok-shown-clause-others : goal.returns-in-Ok-shown-clause-others
-returns-in-Ok-shown-clause-others g c = c.look_read.ensures.others ∙ c.hub-held.ensures.others ∙ (c.in-Ok.ensures {u = tt}).others
+returns-in-Ok-shown-clause-others g c = c.look_read.ensures.others ∙ c.glance-held.ensures.others ∙ (c.in-Ok.ensures {u = tt}).others
 
 pub returns-in-Err-shown-clause-others : goal.returns-in-Err-shown-clause-others
 returns-in-Err-shown-clause-others g c = c.leave.ensures.others ∙ (c.in-Ok.ensures {u = tt}).others

@@ -12,7 +12,7 @@ use Rattle.desk_api.specs.Views.{AreStatesOf}
 use Rattle.desk_api.proofs.Adding.{adds_nothing}
 use Rattle.desk_core.proofs.Listing.{got, valid_count}
 use Rattle.desk_shared.specs.Hands.{states_of, Visits}
-use Rattle.desk_shared.specs.Records.{records, seat_of}
+use Rattle.desk_shared.specs.Records.{Sight, records, seat_of}
 use Rattle.desk_shared.proofs.Behind.{behind, ends_behind, uncalled}
 use Rattle.desk_shared.proofs.Gotten.{may_read, read_ends}
 use Rattle.desk_shared.proofs.Handed.{as_taken, left_alone}
@@ -85,14 +85,18 @@ look_read-requires-clause-may g c =
     let v = c.in-Ok-visit_records.visit in
     let made = c.in-Ok-visit_records.ensures {u = tt} in
     let recs = c.in-Ok.ensures {u = tt} in
-    let h = c.hub-held.result in
-    let b = hub_behind c.args.pass.seat.me.0 v.seat.me.0 h.seat.me.0 h.hub (c.args.rec ∷ []) (states_of v.cells.items) (subst (λ (l : List ℕ). Visits c.args.pass.seat.me.0 v.seat.me.0 l (states_of v.cells.items)) recs made.visits)
-    c.hub-held.ensures.taken c.hub-held.ensures.found in
-    let foot : h.footprint.items ≡ c.args.rec ∷ [] = c.hub-held.ensures.footprint ∙ made.recs ∙ recs in
-    let cells : states_of h.cells.items ≡ states_of v.cells.items = ap states_of c.hub-held.ensures.cells in
-    let look = subst (λ (z : SiteData). IsLookOf z c.args.channel (c.args.rec ∷ [])) (sym (site_there c.args.pass.seat.me.0 h.seat.me.0 h.seat.me.0 h.hub _ _ b c.args.site.now c.requires.site)) c.requires.look in
-    subst (λ (l : List ℕ). MayLook records h.seat.me.0 h.hub h.cells.items (Some (Read (now (seat_of h.seat.me.0)) c.args.channel l (states_of h.cells.items)))) (sym foot)
-    (may_read h.seat.me.0 h.hub (c.args.rec ∷ []) (states_of v.cells.items) h.cells.items c.args.channel b.has cells look)
+    let h = c.glance-held.result in
+    let had = c.glance-held.ensures.hub in
+    let b = hub_behind c.args.pass.seat.me.0 v.seat.me.0 h.seat.me.0 had.0 (c.args.rec ∷ []) (states_of v.cells.items) (subst (λ (l : List ℕ). Visits c.args.pass.seat.me.0 v.seat.me.0 l (states_of v.cells.items)) recs made.visits)
+    had.1 had.2 in
+    let foot : h.footprint.items ≡ c.args.rec ∷ [] = c.glance-held.ensures.footprint ∙ made.recs ∙ recs in
+    let cells : states_of h.cells.items ≡ states_of v.cells.items = ap states_of c.glance-held.ensures.cells in
+    let look = subst (λ (z : SiteData). IsLookOf z c.args.channel (c.args.rec ∷ [])) (sym (site_there c.args.pass.seat.me.0 h.seat.me.0 h.seat.me.0 had.0 _ _ b c.args.site.now c.requires.site)) c.requires.look in (
+      had.0,
+      ap (λ (x : Sight). x.hub) had.1,
+      subst (λ (l : List ℕ). MayLook records h.seat.me.0 had.0 h.cells.items (Some (Read (now (seat_of h.seat.me.0)) c.args.channel l (states_of h.cells.items)))) (sym foot)
+          (may_read h.seat.me.0 had.0 (c.args.rec ∷ []) (states_of v.cells.items) h.cells.items c.args.channel b.has cells look),
+    )
 
 pub look_read-requires-clause-mark : goal.look_read-requires-clause-mark
 look_read-requires-clause-mark g c =
@@ -103,12 +107,13 @@ returns-in-Ok-write-clause-calls g c =
     let v = c.in-Ok-visit_records.visit in
     let made = c.in-Ok-visit_records.ensures {u = tt} in
     let recs = c.in-Ok.ensures {u = tt} in
-    let h = c.hub-held.result in
-    let b = hub_behind c.args.pass.seat.me.0 v.seat.me.0 h.seat.me.0 h.hub (c.args.rec ∷ []) (states_of v.cells.items) (subst (λ (l : List ℕ). Visits c.args.pass.seat.me.0 v.seat.me.0 l (states_of v.cells.items)) recs made.visits)
-    c.hub-held.ensures.taken c.hub-held.ensures.found in
-    let foot : h.footprint.items ≡ c.args.rec ∷ [] = c.hub-held.ensures.footprint ∙ made.recs ∙ recs in
-    let cells : states_of h.cells.items ≡ states_of v.cells.items = ap states_of c.hub-held.ensures.cells in
-    let look = subst (λ (z : SiteData). IsLookOf z c.args.channel (c.args.rec ∷ [])) (sym (site_there c.args.pass.seat.me.0 h.seat.me.0 h.seat.me.0 h.hub _ _ b c.args.site.now c.requires.site)) c.requires.look in
+    let h = c.glance-held.result in
+    let had = c.glance-held.ensures.hub in
+    let b = hub_behind c.args.pass.seat.me.0 v.seat.me.0 h.seat.me.0 had.0 (c.args.rec ∷ []) (states_of v.cells.items) (subst (λ (l : List ℕ). Visits c.args.pass.seat.me.0 v.seat.me.0 l (states_of v.cells.items)) recs made.visits)
+    had.1 had.2 in
+    let foot : h.footprint.items ≡ c.args.rec ∷ [] = c.glance-held.ensures.footprint ∙ made.recs ∙ recs in
+    let cells : states_of h.cells.items ≡ states_of v.cells.items = ap states_of c.glance-held.ensures.cells in
+    let look = subst (λ (z : SiteData). IsLookOf z c.args.channel (c.args.rec ∷ [])) (sym (site_there c.args.pass.seat.me.0 h.seat.me.0 h.seat.me.0 had.0 _ _ b c.args.site.now c.requires.site)) c.requires.look in
     let many : length v.cells.items ≡ 1 = v.many ∙ ap length (made.recs ∙ recs) in
     let one = one_state v.cells.items c.index.result.now many (got v.cells.items 0 c.index.result.now (omega (arith, many)) c.index.ensures) in
     let u = c.look_read.result.seat.me.0 in
@@ -122,12 +127,13 @@ returns-in-Ok-write-clause-ends g c =
     let v = c.in-Ok-visit_records.visit in
     let made = c.in-Ok-visit_records.ensures {u = tt} in
     let recs = c.in-Ok.ensures {u = tt} in
-    let h = c.hub-held.result in
-    let b = hub_behind c.args.pass.seat.me.0 v.seat.me.0 h.seat.me.0 h.hub (c.args.rec ∷ []) (states_of v.cells.items) (subst (λ (l : List ℕ). Visits c.args.pass.seat.me.0 v.seat.me.0 l (states_of v.cells.items)) recs made.visits)
-    c.hub-held.ensures.taken c.hub-held.ensures.found in
-    let foot : h.footprint.items ≡ c.args.rec ∷ [] = c.hub-held.ensures.footprint ∙ made.recs ∙ recs in
-    let cells : states_of h.cells.items ≡ states_of v.cells.items = ap states_of c.hub-held.ensures.cells in
-    let look = subst (λ (z : SiteData). IsLookOf z c.args.channel (c.args.rec ∷ [])) (sym (site_there c.args.pass.seat.me.0 h.seat.me.0 h.seat.me.0 h.hub _ _ b c.args.site.now c.requires.site)) c.requires.look in
+    let h = c.glance-held.result in
+    let had = c.glance-held.ensures.hub in
+    let b = hub_behind c.args.pass.seat.me.0 v.seat.me.0 h.seat.me.0 had.0 (c.args.rec ∷ []) (states_of v.cells.items) (subst (λ (l : List ℕ). Visits c.args.pass.seat.me.0 v.seat.me.0 l (states_of v.cells.items)) recs made.visits)
+    had.1 had.2 in
+    let foot : h.footprint.items ≡ c.args.rec ∷ [] = c.glance-held.ensures.footprint ∙ made.recs ∙ recs in
+    let cells : states_of h.cells.items ≡ states_of v.cells.items = ap states_of c.glance-held.ensures.cells in
+    let look = subst (λ (z : SiteData). IsLookOf z c.args.channel (c.args.rec ∷ [])) (sym (site_there c.args.pass.seat.me.0 h.seat.me.0 h.seat.me.0 had.0 _ _ b c.args.site.now c.requires.site)) c.requires.look in
     let many : length v.cells.items ≡ 1 = v.many ∙ ap length (made.recs ∙ recs) in
     let one = one_state v.cells.items c.index.result.now many (got v.cells.items 0 c.index.result.now (omega (arith, many)) c.index.ensures) in
     let u = c.look_read.result.seat.me.0 in
@@ -140,7 +146,7 @@ returns-in-Ok-write-clause-own g c =
     let v = c.in-Ok-visit_records.visit in
     let made = c.in-Ok-visit_records.ensures {u = tt} in
     let recs = c.in-Ok.ensures {u = tt} in
-    c.look_read.ensures.own ∙ c.hub-held.ensures.own ∙ made.own
+    c.look_read.ensures.own ∙ c.glance-held.ensures.own ∙ made.own
 
 pub returns-in-Ok-write-clause-valid : goal.returns-in-Ok-write-clause-valid
 returns-in-Ok-write-clause-valid g c =
@@ -170,4 +176,4 @@ pub returns-in-Err-clause-others : goal.returns-in-Err-clause-others
 returns-in-Err-clause-others g c = ap (λ p. p.seat.me.0.others) (c.in-Err.ensures {u = tt}).back
 
 pub returns-in-Ok-write-clause-others : goal.returns-in-Ok-write-clause-others
-returns-in-Ok-write-clause-others g c = c.look_read.ensures.others ∙ c.hub-held.ensures.others ∙ (c.in-Ok-visit_records.ensures {u = tt}).others
+returns-in-Ok-write-clause-others g c = c.look_read.ensures.others ∙ c.glance-held.ensures.others ∙ (c.in-Ok-visit_records.ensures {u = tt}).others

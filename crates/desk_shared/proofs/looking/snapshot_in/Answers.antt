@@ -11,7 +11,7 @@ use Rattle.desk_api.specs.declared.mark.Seat.{Seat}
 use Rattle.desk_core.proofs.Listing.{valid_count}
 use Rattle.desk_core.proofs.Reading.{no_snapshot}
 use Rattle.desk_shared.specs.Hands.{states_of}
-use Rattle.desk_shared.specs.Records.{records, seat_of}
+use Rattle.desk_shared.specs.Records.{Sight, records, seat_of}
 use Rattle.desk_shared.proofs.Behind.{behind, ends_behind, stands_on}
 use Rattle.desk_shared.proofs.Gotten.{may_read, read_ends}
 use Rattle.desk_shared.proofs.Handed.{as_taken, left_alone}
@@ -121,8 +121,8 @@ invariant_of-visit-in-Err-told g c =
     let made = c.in-Ok.ensures {u = tt} in
     record { carries = v.carries; slots = v.slots; many = c.exchange-2.ensures.many ∙ c.exchange.ensures.many ∙ v.many }
 
-pub hub-held-requires : goal.hub-held-requires
-hub-held-requires g c =
+pub glance-held-requires : goal.glance-held-requires
+glance-held-requires g c =
     let st = c.requires.stands in
     let v = c.in-Ok.visit in
     let made = c.in-Ok.ensures {u = tt} in
@@ -152,7 +152,7 @@ look_read-requires-clause-own g c =
     let st = c.requires.stands in
     let v = c.in-Ok.visit in
     let made = c.in-Ok.ensures {u = tt} in
-    c.hub-held.ensures.own ∙ made.own ∙ st.own_is
+    c.glance-held.ensures.own ∙ made.own ∙ st.own_is
 
 pub look_read-requires-clause-may : goal.look_read-requires-clause-may
 look_read-requires-clause-may g c =
@@ -164,13 +164,17 @@ look_read-requires-clause-may g c =
     c.exchange.ensures.exchanged in
     let again = all_again s service (states_of v.cells.items) (states_of c.exchange.new.hand.items) c.exchange.new.cells.states.items z c.footprint_of-2.result.now (states_of c.exchange.new.hand.items) (states_of c.exchange-2.new.hand.items)
     c.exchange.new.cells.states.items c.exchange-2.new.cells.states.items c.footprint_of-2.ensures refl refl c.exchange-2.ensures.exchanged in
-    let h = c.hub-held.result in
-    let b = hub_behind c.args.pass.seat.me.0 v.seat.me.0 h.seat.me.0 h.hub (footprint_of s service) (states_of v.cells.items) made.visits c.hub-held.ensures.taken c.hub-held.ensures.found in
-    let foot : h.footprint.items ≡ footprint_of s service = c.hub-held.ensures.footprint ∙ made.recs in
-    let cells : states_of h.cells.items ≡ states_of v.cells.items = ap states_of c.hub-held.ensures.cells ∙ again.0 in
-    let there = site_there c.args.pass.seat.me.0 h.seat.me.0 h.seat.me.0 h.hub _ _ b s st.site_is in
-    subst (λ (l : List ℕ). MayLook records h.seat.me.0 h.hub h.cells.items (Some (Read (now (seat_of h.seat.me.0)) service l (states_of h.cells.items)))) (sym foot)
-    (may_read h.seat.me.0 h.hub (footprint_of s service) (states_of v.cells.items) h.cells.items service b.has cells (inl (ap (λ (z : SiteData). footprint_of z service) (sym there))))
+    let h = c.glance-held.result in
+    let had = c.glance-held.ensures.hub in
+    let b = hub_behind c.args.pass.seat.me.0 v.seat.me.0 h.seat.me.0 had.0 (footprint_of s service) (states_of v.cells.items) made.visits had.1 had.2 in
+    let foot : h.footprint.items ≡ footprint_of s service = c.glance-held.ensures.footprint ∙ made.recs in
+    let cells : states_of h.cells.items ≡ states_of v.cells.items = ap states_of c.glance-held.ensures.cells ∙ again.0 in
+    let there = site_there c.args.pass.seat.me.0 h.seat.me.0 h.seat.me.0 had.0 _ _ b s st.site_is in (
+      had.0,
+      ap (λ (x : Sight). x.hub) had.1,
+      subst (λ (l : List ℕ). MayLook records h.seat.me.0 had.0 h.cells.items (Some (Read (now (seat_of h.seat.me.0)) service l (states_of h.cells.items)))) (sym foot)
+          (may_read h.seat.me.0 had.0 (footprint_of s service) (states_of v.cells.items) h.cells.items service b.has cells (inl (ap (λ (z : SiteData). footprint_of z service) (sym there)))),
+    )
 
 pub look_read-requires-clause-mark : goal.look_read-requires-clause-mark
 look_read-requires-clause-mark g c =
@@ -186,18 +190,19 @@ returns-in-Ok-told-clause-stands g c =
     c.exchange.ensures.exchanged in
     let again = all_again s service (states_of v.cells.items) (states_of c.exchange.new.hand.items) c.exchange.new.cells.states.items z c.footprint_of-2.result.now (states_of c.exchange.new.hand.items) (states_of c.exchange-2.new.hand.items)
     c.exchange.new.cells.states.items c.exchange-2.new.cells.states.items c.footprint_of-2.ensures refl refl c.exchange-2.ensures.exchanged in
-    let h = c.hub-held.result in
-    let b = hub_behind c.args.pass.seat.me.0 v.seat.me.0 h.seat.me.0 h.hub (footprint_of s service) (states_of v.cells.items) made.visits c.hub-held.ensures.taken c.hub-held.ensures.found in
-    let foot : h.footprint.items ≡ footprint_of s service = c.hub-held.ensures.footprint ∙ made.recs in
-    let cells : states_of h.cells.items ≡ states_of v.cells.items = ap states_of c.hub-held.ensures.cells ∙ again.0 in
-    let there = site_there c.args.pass.seat.me.0 h.seat.me.0 h.seat.me.0 h.hub _ _ b s st.site_is in
+    let h = c.glance-held.result in
+    let had = c.glance-held.ensures.hub in
+    let b = hub_behind c.args.pass.seat.me.0 v.seat.me.0 h.seat.me.0 had.0 (footprint_of s service) (states_of v.cells.items) made.visits had.1 had.2 in
+    let foot : h.footprint.items ≡ footprint_of s service = c.glance-held.ensures.footprint ∙ made.recs in
+    let cells : states_of h.cells.items ≡ states_of v.cells.items = ap states_of c.glance-held.ensures.cells ∙ again.0 in
+    let there = site_there c.args.pass.seat.me.0 h.seat.me.0 h.seat.me.0 had.0 _ _ b s st.site_is in
     let u = c.look_read.result.seat.me.0 in
     let noted = subst (λ (l : List ℕ × List RecState). seat_of u ≡ with_mark (seat_of h.seat.me.0) (λ at. Read at service l.0 l.1)) (λ i. (foot i, cells i)) c.look_read.ensures.marked in
     let many : length c.exchange.new.cells.states.items ≡ length s.names = c.exchange.ensures.exchanged.long ∙ ap length st.furnished.states_are ∙ sym (valid_count s.configs s.opening c.opening_is_valid.ensures) ∙ sym c.names_and_configs.ensures.same in
     let call = behind (seat_of c.args.pass.seat.me.0) (seat_of h.seat.me.0) (seat_of u) b.others (AreSnapshot c.args.pass.seat.me.0.seen.base.site (Ok c.in-Ok-told.rows))
     (subst (λ (k : SiteData). Calls (seat_of h.seat.me.0) (seat_of u) (AreSnapshot k (Ok c.in-Ok-told.rows))) (sym st.site_is)
     (snapshot_calls (seat_of h.seat.me.0) (seat_of u) s c.in-Ok-told.rows c.exchange.new.cells.states.items (states_of v.cells.items) there b.has.legal noted b.has.finds many z.given (c.in-Ok-told.ensures {u = tt} ∙ ap (rows_shown s.names) c.as_slice.ensures.value))) in
-    stands_on _ _ s _ _ _ _ _ _ c.args.pass.seat.me.0 c.look_read.result.seat.me.0 st (again.1 ∙ sym st.furnished.states_are) (c.exchange-2.ensures.ports ∙ c.exchange.ensures.ports) (c.look_read.ensures.own ∙ c.hub-held.ensures.own ∙ made.own) _ call
+    stands_on _ _ s _ _ _ _ _ _ c.args.pass.seat.me.0 c.look_read.result.seat.me.0 st (again.1 ∙ sym st.furnished.states_are) (c.exchange-2.ensures.ports ∙ c.exchange.ensures.ports) (c.look_read.ensures.own ∙ c.glance-held.ensures.own ∙ made.own) _ call
 
 pub returns-in-Ok-told-clause-calls : goal.returns-in-Ok-told-clause-calls
 returns-in-Ok-told-clause-calls g c =
@@ -209,11 +214,12 @@ returns-in-Ok-told-clause-calls g c =
     c.exchange.ensures.exchanged in
     let again = all_again s service (states_of v.cells.items) (states_of c.exchange.new.hand.items) c.exchange.new.cells.states.items z c.footprint_of-2.result.now (states_of c.exchange.new.hand.items) (states_of c.exchange-2.new.hand.items)
     c.exchange.new.cells.states.items c.exchange-2.new.cells.states.items c.footprint_of-2.ensures refl refl c.exchange-2.ensures.exchanged in
-    let h = c.hub-held.result in
-    let b = hub_behind c.args.pass.seat.me.0 v.seat.me.0 h.seat.me.0 h.hub (footprint_of s service) (states_of v.cells.items) made.visits c.hub-held.ensures.taken c.hub-held.ensures.found in
-    let foot : h.footprint.items ≡ footprint_of s service = c.hub-held.ensures.footprint ∙ made.recs in
-    let cells : states_of h.cells.items ≡ states_of v.cells.items = ap states_of c.hub-held.ensures.cells ∙ again.0 in
-    let there = site_there c.args.pass.seat.me.0 h.seat.me.0 h.seat.me.0 h.hub _ _ b s st.site_is in
+    let h = c.glance-held.result in
+    let had = c.glance-held.ensures.hub in
+    let b = hub_behind c.args.pass.seat.me.0 v.seat.me.0 h.seat.me.0 had.0 (footprint_of s service) (states_of v.cells.items) made.visits had.1 had.2 in
+    let foot : h.footprint.items ≡ footprint_of s service = c.glance-held.ensures.footprint ∙ made.recs in
+    let cells : states_of h.cells.items ≡ states_of v.cells.items = ap states_of c.glance-held.ensures.cells ∙ again.0 in
+    let there = site_there c.args.pass.seat.me.0 h.seat.me.0 h.seat.me.0 had.0 _ _ b s st.site_is in
     let u = c.look_read.result.seat.me.0 in
     let noted = subst (λ (l : List ℕ × List RecState). seat_of u ≡ with_mark (seat_of h.seat.me.0) (λ at. Read at service l.0 l.1)) (λ i. (foot i, cells i)) c.look_read.ensures.marked in
     let many : length c.exchange.new.cells.states.items ≡ length s.names = c.exchange.ensures.exchanged.long ∙ ap length st.furnished.states_are ∙ sym (valid_count s.configs s.opening c.opening_is_valid.ensures) ∙ sym c.names_and_configs.ensures.same in
@@ -232,11 +238,12 @@ returns-in-Ok-told-clause-ends g c =
     c.exchange.ensures.exchanged in
     let again = all_again s service (states_of v.cells.items) (states_of c.exchange.new.hand.items) c.exchange.new.cells.states.items z c.footprint_of-2.result.now (states_of c.exchange.new.hand.items) (states_of c.exchange-2.new.hand.items)
     c.exchange.new.cells.states.items c.exchange-2.new.cells.states.items c.footprint_of-2.ensures refl refl c.exchange-2.ensures.exchanged in
-    let h = c.hub-held.result in
-    let b = hub_behind c.args.pass.seat.me.0 v.seat.me.0 h.seat.me.0 h.hub (footprint_of s service) (states_of v.cells.items) made.visits c.hub-held.ensures.taken c.hub-held.ensures.found in
-    let foot : h.footprint.items ≡ footprint_of s service = c.hub-held.ensures.footprint ∙ made.recs in
-    let cells : states_of h.cells.items ≡ states_of v.cells.items = ap states_of c.hub-held.ensures.cells ∙ again.0 in
-    let there = site_there c.args.pass.seat.me.0 h.seat.me.0 h.seat.me.0 h.hub _ _ b s st.site_is in
+    let h = c.glance-held.result in
+    let had = c.glance-held.ensures.hub in
+    let b = hub_behind c.args.pass.seat.me.0 v.seat.me.0 h.seat.me.0 had.0 (footprint_of s service) (states_of v.cells.items) made.visits had.1 had.2 in
+    let foot : h.footprint.items ≡ footprint_of s service = c.glance-held.ensures.footprint ∙ made.recs in
+    let cells : states_of h.cells.items ≡ states_of v.cells.items = ap states_of c.glance-held.ensures.cells ∙ again.0 in
+    let there = site_there c.args.pass.seat.me.0 h.seat.me.0 h.seat.me.0 had.0 _ _ b s st.site_is in
     let u = c.look_read.result.seat.me.0 in
     let noted = subst (λ (l : List ℕ × List RecState). seat_of u ≡ with_mark (seat_of h.seat.me.0) (λ at. Read at service l.0 l.1)) (λ i. (foot i, cells i)) c.look_read.ensures.marked in
     ends_behind (seat_of c.args.pass.seat.me.0) (seat_of h.seat.me.0) (seat_of u) b.others (inr (read_ends (seat_of h.seat.me.0) (seat_of u) service (footprint_of s service) (states_of v.cells.items) noted))
@@ -273,7 +280,7 @@ pub returns-in-Err-clause-others : goal.returns-in-Err-clause-others
 returns-in-Err-clause-others g c = ap (λ p. p.seat.me.0.others) (c.in-Err.ensures {u = tt}).back
 
 pub returns-in-Ok-told-clause-others : goal.returns-in-Ok-told-clause-others
-returns-in-Ok-told-clause-others g c = c.look_read.ensures.others ∙ c.hub-held.ensures.others ∙ (c.in-Ok.ensures {u = tt}).others
+returns-in-Ok-told-clause-others g c = c.look_read.ensures.others ∙ c.glance-held.ensures.others ∙ (c.in-Ok.ensures {u = tt}).others
 
 pub returns-in-Err-told-clause-others : goal.returns-in-Err-told-clause-others
 returns-in-Err-told-clause-others g c = c.leave.ensures.others ∙ (c.in-Ok.ensures {u = tt}).others

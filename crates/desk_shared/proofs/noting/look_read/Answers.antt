@@ -5,13 +5,14 @@ use Rattle.desk_shared.specs.Hands.{states_of}
 use Rattle.desk_shared.proofs.Marked.{is_entry, look_marked, may_noted}
 use Rattle.desk_shared.proofs.noting.look_read.Goals as goal
 
-pub look-requires-clause-may : goal.look-requires-clause-may
-look-requires-clause-may g c =
+pub glanced-requires-clause-may : goal.glanced-requires-clause-may
+glanced-requires-clause-may g c =
     let h = c.args.held in
-    may_noted h.seat.me.0 h.hub h.cells.items _ g.B.Notes.mark c.requires.mark c.requires.may
+    let may = c.requires.may in
+    (may.0, may.1, may_noted h.seat.me.0 may.0 h.cells.items _ g.B.Notes.mark c.requires.mark may.2)
 
 pub returns-clause-marked : goal.returns-clause-marked
 returns-clause-marked g c =
     let h = c.args.held in
-    look_marked h.seat.me.0 c.look.result.seat.me.0 (λ at. Read at c.args._channel h.footprint.items (states_of h.cells.items)) g.B.Notes.mark c.requires.mark (λ e. false≢true (ap is_entry e))
-    c.look.ensures.number c.look.ensures.seen c.look.ensures.log
+    look_marked h.seat.me.0 c.glanced.result.seat.me.0 (λ at. Read at c.args._channel h.footprint.items (states_of h.cells.items)) g.B.Notes.mark c.requires.mark (λ e. false≢true (ap is_entry e))
+    c.glanced.ensures.number c.glanced.ensures.seen c.glanced.ensures.log

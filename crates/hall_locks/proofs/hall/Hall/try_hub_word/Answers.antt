@@ -1,13 +1,13 @@
 use Rattle.std.proofs.Common.{arith, ap, subst, ◌∙◌}
 use Rattle.hall_locks.specs.Steps.{TookHub}
-use Rattle.hall_locks.proofs.Hubs.{takes_hub}
+use Rattle.hall_locks.proofs.Lines.{hub_within, takes_hub}
 use Rattle.hall_locks.proofs.hall.Hall.try_hub_word.Goals as goal
 
 pub compare_exchange-requires : goal.compare_exchange-requires
 compare_exchange-requires g c =
     let wide = c.args.self.now.wide in (
       c.loop.invariant.0 ∙ c.requires.own,
-      omega (arith, wide.0),
+      hub_within _ _ wide.0,
       takes_hub _ _ _ _ _ _ _ g.T.Law.meaning _ _ _ (omega (arith, wide.1)) c.loop.seat.me (ap (λ m. m.0.live) c.loop.invariant.2 ∙ c.requires.live),
     )
 
