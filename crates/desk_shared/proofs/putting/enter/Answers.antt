@@ -1,4 +1,4 @@
-use Rattle.std.proofs.Common.{List, sym, ◌∙◌, ap, subst}
+use Rattle.std.proofs.Common.{List, sym, ap, subst}
 use Rattle.rec_kinds.specs.declared.state.RecState.{RecState}
 use Rattle.desk_shared.specs.Hands.{states_of, IsDrafted}
 use Rattle.desk_shared.specs.Records.{seat_of}

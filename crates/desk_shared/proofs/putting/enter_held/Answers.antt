@@ -1,8 +1,5 @@
-use Rattle.std.proofs.Common.{◌≡◌, ◌∙◌, ℕ, ◌+◌, ◌≤◌, List, length, Ok, refl, sym, ap, subst, arith}
-use Rattle.desk_core.specs.Ports.{ports_there}
-use Rattle.mon_shown.specs.Slots.{Stand}
-use Rattle.desk_api.specs.Triggers.{channel_view, may_be_watched}
-use Rattle.desk_api.specs.declared.history.SiteData.{SiteData}
+use Rattle.std.proofs.Common.{◌∙◌, ℕ, List, length, Ok, refl, sym, ap, subst, arith}
+use Rattle.desk_api.specs.Triggers.{channel_view}
 use Rattle.desk_shared.specs.Hands.{states_of}
 use Rattle.journal_core.specs.Histories.{kept}
 use Rattle.journal_core.specs.Legality.{AreValid}

@@ -1,5 +1,4 @@
 use Rattle.std.proofs.Common.{◌≡◌, ◌∙◌, ◌<◌, ℕ, List, [], true, Some, Ok, Err, Result, length, refl, sym, ap, subst}
-use Rattle.rec_kinds.specs.declared.state.RecState.{RecState}
 use Rattle.std.specs.List.{AllByRecursion}
 use Rattle.std.specs.List.Sorted.{IsStrictlyIncreasing}
 use Rattle.desk_api.specs.Calls.{Calls}
@@ -14,10 +13,9 @@ use Rattle.desk_core.proofs.Ported.{as_many_ports, ported}
 use Rattle.desk_core.proofs.Reading.{below, found_all, shows_at_once, whole_wanted}
 use Rattle.desk_core.specs.Ports.{ports_there, ports_wanted}
 use Rattle.desk_shared.specs.Entries.{AreEntered}
-use Rattle.desk_shared.specs.Exchanges.{AreExchanged}
 use Rattle.desk_shared.specs.Hands.{IsDrafted, states_of}
 use Rattle.desk_shared.specs.Records.{seat_of}
-use Rattle.desk_shared.proofs.Ahead.{calls_ahead, site_ahead, told_ahead, visits_ahead}
+use Rattle.desk_shared.proofs.Ahead.{calls_ahead, site_ahead, visits_ahead}
 use Rattle.desk_shared.proofs.Behind.{stands_on}
 use Rattle.desk_shared.proofs.Entered.{drafted, entry_calls, none_entered}
 use Rattle.desk_shared.proofs.Footprints.{footprint_within}

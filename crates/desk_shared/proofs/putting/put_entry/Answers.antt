@@ -1,5 +1,4 @@
-use Rattle.std.proofs.Common.{◌≡◌, ◌∙◌, ◌<◌, ℕ, List, [], length, refl, sym, ap, subst}
-use Rattle.rec_kinds.specs.declared.state.RecState.{RecState}
+use Rattle.std.proofs.Common.{◌≡◌, ◌∙◌, ◌<◌, ℕ, [], length, refl, sym, ap, subst}
 use Rattle.std.specs.List.{AllByRecursion}
 use Rattle.std.specs.List.Sorted.{IsStrictlyIncreasing}
 use Rattle.desk_api.specs.Puts.{footprint_by, footprint_with}
@@ -9,8 +8,6 @@ use Rattle.desk_core.proofs.Doing.{stay_driven}
 use Rattle.desk_core.proofs.Listing.{valid_count}
 use Rattle.desk_core.proofs.Ported.{as_many_ports, ported}
 use Rattle.desk_core.specs.Ports.{ports_there, ports_wanted}
-use Rattle.desk_shared.specs.Entries.{AreEntry}
-use Rattle.desk_shared.specs.Exchanges.{AreExchanged}
 use Rattle.desk_shared.specs.Hands.{states_of}
 use Rattle.desk_shared.specs.Records.{seat_of}
 use Rattle.desk_shared.proofs.Ahead.{calls_ahead, site_ahead, told_ahead, visits_ahead}
