@@ -1,29 +1,20 @@
 -- What an entry posts is seen of the records that it holds alone.
-use Rattle.std.proofs.Common.{◌≡◌, ◌==◌, ◌||◌, ◌&&◌, ℕ, suc, zero, Bool, true, false, List, [], ◌∷◌, Option, None, Some, IsTrue, refl, sym, ◌∙◌, ap, subst, ◌⊎◌, inl, inr, length, map}
-use Rattle.std.specs.List.{slice_get, list_all, list_any, fold, AllByRecursion}
+use Rattle.std.proofs.Common.{◌≡◌, ◌==◌, ◌||◌, ◌&&◌, ℕ, suc, zero, Bool, true, false, List, [], ◌∷◌, Option, None, Some, refl, sym, ◌∙◌, ap, subst, ◌⊎◌, inl, inr}
+use Rattle.std.specs.List.{slice_get, list_all, list_any, fold}
 use Rattle.std.specs.FinSet.{FinSet, contains, contains-empty, contains-intersection, contains-union, empty, intersection, union}
 use Rattle.std.specs.Ordering.{nat_cmp}
 use Rattle.std.specs.Cmp.{nat_cmp_total}
 use Rattle.std.specs.Prelude.{if◌then◌else◌}
-use Rattle.std.proofs.lemmas.Bool.{eq-eqb, eqb-true, false≢true}
+use Rattle.std.proofs.lemmas.Bool.{eqb-true, false≢true}
 use Rattle.std.proofs.lemmas.Option.{none-some}
 use Rattle.pvd_type.specs.Numbers.{leaves}
-use Rattle.pvd_type.specs.Tree.{Tree}
-use Rattle.pvd_value.specs.Data.{Data}
 use Rattle.pvd_value.specs.Leaves.{leaf_at}
-use Rattle.rec_kinds.specs.Configs.{Config}
 use Rattle.rec_kinds.specs.declared.state.RecState.{RecState}
 use Rattle.group_view.specs.Groups.{GroupData}
 use Rattle.group_view.specs.Laws.{Agree}
-use Rattle.group_view.specs.Leaves.{footprint, triggered}
-use Rattle.group_view.specs.Types.{group_tree}
-use Rattle.group_view.specs.Views.{group_shown}
+use Rattle.group_view.specs.Leaves.{footprint}
 use Rattle.group_view.proofs.Depending.{reads_footprint}
-use Rattle.journal_core.specs.Histories.{written}
 use Rattle.journal_core.specs.Legality.{AreValid}
-use Rattle.journal_core.specs.declared.entry.Entry.{Entry}
-use Rattle.mon_queue.specs.Shown.{anew}
-use Rattle.mon_shown.specs.Channels.{ChannelView, SeenAlike, watch}
 use Rattle.mon_shown.specs.Channels.{triggered as triggered_by}
 use Rattle.desk_api.specs.Puts.{is_held_with}
 use Rattle.desk_api.specs.Sites.{AreOver}

@@ -1,14 +1,15 @@
 -- A call behind what others did before it.
-use Rattle.std.proofs.Common.{◌≡◌, ℕ, Bool, List, [], true, Result, Ok, Err, inl, inr, sym, ◌∙◌, ap, subst}
+use Rattle.std.proofs.Common.{◌≡◌, ℕ, Bool, List, [], true, Result, Ok, Err, inl, inr, ◌⊎◌, sym, ◌∙◌, ap, subst}
 use Rattle.std.proofs.lemmas.List.{append-nil}
 use Rattle.atomic_table.specs.Seated.{TableId}
 use Rattle.rec_kinds.specs.declared.state.RecState.{RecState}
-use Rattle.desk_api.specs.Calls.{Adds, Calls, EndsAtItsMarks, OnSubscribed}
+use Rattle.desk_api.specs.Calls.{Adds, Calls, EndsAtItsMarks, EndsAtLastMark, OnSubscribed, OnTold}
 use Rattle.desk_api.specs.Living.{lives}
 use Rattle.desk_api.specs.declared.history.Base.{Base}
 use Rattle.desk_api.specs.declared.history.SiteData.{SiteData}
 use Rattle.desk_api.specs.declared.mark.Mark.{Mark}
 use Rattle.desk_api.specs.declared.mark.Seat.{Seat}
+use Rattle.desk_api.specs.declared.put.PutAnswer.{PutAnswer}
 use Rattle.desk_api.specs.declared.sub.Sub.{Sub}
 use Rattle.desk_api.specs.declared.sub.SubAnswer.{SubAnswer}
 use Rattle.desk_api.specs.declared.sub.SubAnswer.TheVariants as answers
@@ -34,6 +35,9 @@ module _ (a b c : Seat) (before : Adds a b []) where
   subscribed_behind (Ok sub) ends = ends_behind ends
   subscribed_behind (Err (answers.TooManyMonitors count)) ends = ends_behind ends
   subscribed_behind (Err answers.NoMemory) ends = tt
+
+  pub told_behind : {A : Type 0} (answer : Result A PutAnswer) → OnTold answer (EndsAtItsMarks b c) → OnTold answer (EndsAtItsMarks a c)
+  told_behind answer ends = subst (λ (l : List Mark). OnTold answer ((c.log ≡ l) ⊎ EndsAtLastMark c)) same_log ends
 
 -- no call, which leaves all as it was
 pub uncalled : (a b : Seat) (are : List Mark → Type 0) → b ≡ a → Adds a a [] → are [] → Calls a b are

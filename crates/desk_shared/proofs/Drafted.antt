@@ -1,5 +1,5 @@
 -- An entry that was drafted on the records in hand, with the hub above them.
-use Rattle.std.proofs.Common.{◌≡◌, ◌≢◌, ◌==◌, ℕ, ◌+◌, ◌<◌, ◌≤◌, ◌&&◌, ◌||◌, zero, suc, Bool, true, false, List, [], ◌∷◌, ◌++◌, length, map, take, set, Option, None, Some, Ok, Err, Result, IsTrue, inr, inl, refl, sym, ◌∙◌, ap, subst, arith}
+use Rattle.std.proofs.Common.{◌≡◌, ◌==◌, ℕ, ◌+◌, ◌<◌, ◌≤◌, ◌&&◌, ◌||◌, zero, suc, Bool, true, false, List, [], ◌∷◌, length, take, set, Option, None, Some, Ok, Err, inr, refl, sym, ◌∙◌, ap, subst, arith}
 use Rattle.std.specs.List.{slice_get, list_all, list_any, AllByRecursion}
 use Rattle.std.proofs.Math.Seq.{take-length}
 use Rattle.std.proofs.lemmas.Bool.{false≢true, leb-false, leb-true}
@@ -12,7 +12,7 @@ use Rattle.rec_kinds.specs.Configs.{Config}
 use Rattle.rec_kinds.specs.declared.datum.Action.{Action}
 use Rattle.rec_kinds.specs.declared.state.RecState.{RecState}
 use Rattle.hall_locks.specs.Hands.{MayLook}
-use Rattle.journal_core.specs.Histories.{kept, replayed, written}
+use Rattle.journal_core.specs.Histories.{kept, written}
 use Rattle.journal_core.specs.Legality.{AreProcessed, AreValid, IsDone, IsLegalEntry}
 use Rattle.journal_core.specs.Moments.{Moment}
 use Rattle.journal_core.specs.Weights.{weight}
@@ -23,8 +23,8 @@ use Rattle.mon_queue.specs.Shown.{anew}
 use Rattle.mon_shown.specs.Channels.{watch}
 use Rattle.mon_shown.specs.Slots.{AreReady}
 use Rattle.mon_shown.specs.declared.subscriptions.Readied.{Readied}
-use Rattle.desk_api.specs.Calls.{Adds, Calls, EndsAtItsMarks, EndsAtLastMark, OnTold, now, with_mark}
-use Rattle.desk_api.specs.History.{History, IsLegal, commits, kept_at, state_at}
+use Rattle.desk_api.specs.Calls.{Calls, EndsAtItsMarks, now, with_mark}
+use Rattle.desk_api.specs.History.{IsLegal, commits, kept_at, state_at}
 use Rattle.desk_api.specs.Marks.{IsTrueOverweight}
 use Rattle.desk_api.specs.Puts.{is_held, is_held_with}
 use Rattle.desk_api.specs.Sites.{AreOver}
@@ -46,7 +46,7 @@ use Rattle.desk_hub.proofs.Logs.{marked}
 use Rattle.desk_shared.specs.Entries.{AreEntered}
 use Rattle.desk_shared.specs.Exchanges.{AreExchanged}
 use Rattle.desk_shared.specs.Hands.{states_of, AgreeAt, HasHub, IsDrafted, MayEnter, Undoes}
-use Rattle.desk_shared.specs.Records.{Sight, base_of, records, seat_of}
+use Rattle.desk_shared.specs.Records.{Sight, records, seat_of}
 use Rattle.desk_shared.specs.declared.books.Books.{Books}
 use Rattle.desk_shared.specs.declared.records.RecCell.{RecCell}
 use Rattle.desk_shared.proofs.Alike.{held_write, seen_alike}

@@ -1,24 +1,20 @@
 -- What the entries of a put come to on a desk on a pass.
-use Rattle.std.proofs.Common.{◌≡◌, ◌==◌, ℕ, ◌+◌, ◌<◌, ◌≤◌, zero, suc, Bool, true, false, List, [], ◌∷◌, ◌++◌, length, map, take, option_map, Option, None, Some, Ok, Err, Result, IsTrue, inl, inr, refl, sym, ◌∙◌, ap, subst, arith, length-append}
+use Rattle.std.proofs.Common.{◌≡◌, ◌==◌, ℕ, ◌+◌, ◌<◌, zero, suc, Bool, true, false, List, [], ◌∷◌, ◌++◌, length, take, Some, Ok, Err, Result, IsTrue, inl, inr, refl, sym, ◌∙◌, ap, subst, arith, length-append}
 use Rattle.std.specs.Prelude.{if◌then◌else◌}
 use Rattle.std.specs.List.{slice_get, list_all, list_any, AllByRecursion}
 use Rattle.std.specs.List.Sorted.{IsStrictlyIncreasing}
-use Rattle.std.proofs.lemmas.List.{append-nil, length-map, take-map}
+use Rattle.std.proofs.lemmas.List.{append-nil}
 use Rattle.std.proofs.lemmas.Bool.Decides.{nat_tests}
-use Rattle.std.proofs.lemmas.Option.{slice_get-map}
 use Rattle.rec_kinds.specs.declared.datum.Action.{Action}
 use Rattle.rec_kinds.specs.declared.state.RecState.{RecState}
-use Rattle.rec_fields.specs.declared.puts.FieldAnswer.{FieldAnswer}
-use Rattle.rec_fields.specs.declared.puts.FieldAnswer.TheVariants.{Refused, NoMemory}
-use Rattle.journal_core.specs.Histories.{written}
 use Rattle.journal_core.specs.Legality.{AreProcessed, AreValid}
 use Rattle.journal_core.specs.Moments.{Moment}
 use Rattle.journal_core.specs.declared.entry.Entry.{Entry}
-use Rattle.desk_api.specs.Calls.{Adds, Asked, AreAdded, ArePut, Calls, EndsAtItsMarks, EndsAtLastMark, IsAdded, OnTold, asked_actions, asked_entries, entries_of_actions, entries_or_none, first_place}
+use Rattle.desk_api.specs.Calls.{Adds, Asked, AreAdded, ArePut, Calls, EndsAtItsMarks, OnTold, asked_entries, entries_or_none, first_place}
 use Rattle.desk_api.specs.History.{IsLegal}
 use Rattle.desk_api.specs.Marks.{place}
-use Rattle.desk_api.specs.Puts.{IsRefusedBy, entries_by, footprint_by, footprint_with, is_held}
-use Rattle.desk_api.specs.Sites.{AreOver, is_atomic}
+use Rattle.desk_api.specs.Puts.{footprint_with, is_held}
+use Rattle.desk_api.specs.Sites.{AreOver}
 use Rattle.desk_api.specs.declared.history.SiteData.{SiteData}
 use Rattle.desk_api.specs.declared.mark.Mark.{Mark}
 use Rattle.desk_api.specs.declared.mark.Mark.TheVariants.{Entered, Overweight}
@@ -33,11 +29,10 @@ use Rattle.desk_core.proofs.Soloing.{WriteInside}
 use Rattle.desk_core.specs.Begun.{IsHeld}
 use Rattle.desk_core.specs.Effects.{IsDraft}
 use Rattle.desk_core.specs.Ports.{Ports}
-use Rattle.desk_core.specs.Standing.{answer_of}
-use Rattle.desk_shared.specs.Entries.{AreAllHeld, AreAllPut, AreEntered, AreEntry, AreFullAfter, ArePutInTurn, AreStoppedAfter, IsEntered, IsTooHeavy}
+use Rattle.desk_shared.specs.Entries.{AreAllHeld, AreEntered, AreEntry, AreFullAfter, ArePutInTurn, AreStoppedAfter, IsEntered}
 use Rattle.desk_shared.specs.Exchanges.{AreExchanged}
 use Rattle.desk_shared.specs.Hands.{HasHub, IsDrafted}
-use Rattle.desk_shared.specs.Records.{Sight, seat_of}
+use Rattle.desk_shared.specs.Records.{Sight}
 use Rattle.desk_shared.specs.declared.books.Books.{Books}
 use Rattle.desk_shared.proofs.Footprints.{footprint_within, held_there, looked_there}
 use Rattle.desk_shared.proofs.Listed.{among, written_count}

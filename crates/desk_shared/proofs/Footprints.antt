@@ -1,19 +1,18 @@
 -- The records that an entry holds.
-use Rattle.std.proofs.Common.{◌≡◌, ◌==◌, ◌||◌, ℕ, ◌+◌, ◌<◌, ◌≤◌, zero, suc, Bool, true, false, List, [], ◌∷◌, length, Option, Some, refl, sym, ◌∙◌, ap, subst, arith}
-use Rattle.std.specs.List.{slice_get, filter, list_any, range_with_len, AllByRecursion}
+use Rattle.std.proofs.Common.{◌≡◌, ◌==◌, ◌||◌, ℕ, ◌+◌, ◌<◌, ◌≤◌, zero, suc, Bool, true, false, List, [], ◌∷◌, length, refl, sym, ◌∙◌, ap, arith}
+use Rattle.std.specs.List.{filter, list_any, range_with_len, AllByRecursion}
 use Rattle.std.proofs.lemmas.Bool.{eq-eqb, eqb-true, false≢true}
 use Rattle.std.specs.Prelude.{if◌then◌else◌}
 use Rattle.rec_kinds.specs.declared.datum.Action.{Action}
-use Rattle.group_view.specs.Groups.{GroupData}
 use Rattle.group_view.specs.Leaves.{footprint}
 use Rattle.desk_api.specs.Grouping.{is_among}
-use Rattle.desk_api.specs.Puts.{footprint_by, footprint_with, is_held, is_held_with}
+use Rattle.desk_api.specs.Puts.{footprint_with, is_held, is_held_with}
 use Rattle.desk_api.specs.Sites.{AreOver}
 use Rattle.desk_api.specs.declared.history.SiteData.{SiteData}
 use Rattle.desk_api.proofs.Noting.{one_of_all, some_place}
 use Rattle.desk_api.proofs.Reaching.{footprint_below}
 use Rattle.desk_api.proofs.Showing.{over_at}
-use Rattle.desk_shared.proofs.Listed.{among, among_there}
+use Rattle.desk_shared.proofs.Listed.{among}
 
 -- ---- numbers of a range that pass
 

@@ -1,13 +1,7 @@
 -- What gets of a desk on a pass add.
-use Rattle.std.proofs.Common.{◌≡◌, ◌≢◌, ◌==◌, ℕ, ◌+◌, ◌<◌, ◌≤◌, zero, suc, Bool, true, false, List, [], ◌∷◌, ◌++◌, length, map, take, set, Option, None, Some, Ok, Err, Result, IsTrue, inl, inr, refl, sym, ◌∙◌, ap, subst, arith}
-use Rattle.std.specs.List.{slice_get, range_with_len, AllByRecursion}
-use Rattle.std.specs.declared.vec.Vec.{Vec}
+use Rattle.std.proofs.Common.{◌≡◌, ℕ, suc, Bool, true, false, List, [], ◌∷◌, length, Option, Some, Ok, refl, sym, ◌∙◌, ap, subst, arith}
+use Rattle.std.specs.List.{slice_get}
 use Rattle.std.proofs.lemmas.Bool.{false≢true}
-use Rattle.std.proofs.lemmas.List.{append-nil, length-append, length-map, length-set, map-append, take-append-le}
-use Rattle.std.proofs.lemmas.List.FromFn.{length-range_with_len}
-use Rattle.std.proofs.Math.Seq.{take-length}
-use Rattle.std.proofs.lemmas.Option.{none-some, slice_get_within}
-use Rattle.pvd_type.specs.declared.memory.NoMemory.{NoMemory}
 use Rattle.pvd_value.specs.View.{view}
 use Rattle.pvd_value.specs.declared.value.PvValue.{PvValue}
 use Rattle.rec_kinds.specs.Configs.{Config}
@@ -16,31 +10,25 @@ use Rattle.rec_kinds.specs.declared.state.RecState.{RecState}
 use Rattle.hall_locks.specs.Hands.{MayLook}
 use Rattle.journal_core.specs.Legality.{AreValid}
 use Rattle.journal_core.proofs.Keeping.{valid_at}
-use Rattle.desk_api.specs.Calls.{Adds, Calls, AreFindings, AreGet, AreLooks, AreSnapshot, EndsAtItsMarks, EndsAtLastMark, laid_by, looks_by, looks_of, now, rows_shown, with_mark}
-use Rattle.desk_api.specs.History.{History, IsLegal, entries, state_at}
-use Rattle.desk_api.specs.Marks.{IsLookOf, IsTrueIn, IsTrueRead}
-use Rattle.desk_api.specs.Sites.{all_records, channel_of, footprint_of, is_atomic}
-use Rattle.desk_api.specs.Views.{AreStatesOf, laid, value_of}
+use Rattle.desk_api.specs.Calls.{Adds, AreFindings, AreGet, AreLooks, EndsAtLastMark, laid_by, looks_by, looks_of, now, with_mark}
+use Rattle.desk_api.specs.History.{IsLegal, state_at}
+use Rattle.desk_api.specs.Marks.{IsLookOf}
+use Rattle.desk_api.specs.Sites.{footprint_of, is_atomic}
+use Rattle.desk_api.specs.Views.{AreStatesOf, value_of}
 use Rattle.desk_api.specs.declared.channel.Channel.{Channel}
-use Rattle.desk_api.specs.declared.channel.ChannelKind.TheVariants.{Service}
 use Rattle.desk_api.specs.declared.history.SiteData.{SiteData}
 use Rattle.desk_api.specs.declared.mark.Mark.{Mark}
 use Rattle.desk_api.specs.declared.mark.Mark.TheVariants.{Read}
 use Rattle.desk_api.specs.declared.mark.Seat.{Seat}
-use Rattle.desk_api.specs.declared.rows.RecRow.{RecRow}
-use Rattle.desk_api.proofs.Adding.{adds_more, adds_nothing}
-use Rattle.desk_core.proofs.Marking.{looks, looks_end, same_seen}
+use Rattle.desk_core.proofs.Marking.{looks, looks_end}
 use Rattle.desk_core.proofs.Reading.{shows_at_once, whole_wanted}
-use Rattle.desk_core.specs.Effects.{restored}
-use Rattle.desk_hub.specs.Seats.{KeepsSeat, Subs}
 use Rattle.desk_hub.proofs.Logs.{marked}
 use Rattle.desk_shared.specs.Exchanges.{AreExchanged}
 use Rattle.desk_shared.specs.Hands.{states_of, HasHub}
-use Rattle.desk_shared.specs.Looks.{AreAll, AreLookedAt, IsLook, IsRestorable, one_by_one}
 use Rattle.desk_shared.specs.Records.{Sight, records, seat_of}
 use Rattle.desk_shared.specs.declared.books.Books.{Books}
 use Rattle.desk_shared.specs.declared.records.RecCell.{RecCell}
-use Rattle.desk_shared.proofs.Listed.{among, each_from_states, place_among, same_lists, set_elsewhere, set_there, some_same, some_there}
+use Rattle.desk_shared.proofs.Listed.{among, each_from_states, place_among}
 use Rattle.desk_shared.proofs.Marked.{is_entry, may_look_aside}
 
 -- ---- states that are valid

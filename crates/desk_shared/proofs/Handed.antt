@@ -1,5 +1,5 @@
 -- What is in hand, from what the steps of a hall tell.
-use Rattle.std.proofs.Common.{◌≡◌, ◌≢◌, ℕ, ◌+◌, ◌<◌, ◌≤◌, zero, suc, List, [], ◌∷◌, ◌++◌, length, map, reverse, take, option_map, Option, None, Some, refl, sym, ◌∙◌, ap, subst, arith}
+use Rattle.std.proofs.Common.{◌≡◌, ℕ, zero, suc, List, [], ◌∷◌, ◌++◌, length, map, reverse, option_map, Option, Some, refl, sym, ◌∙◌, ap, subst, arith}
 use Rattle.std.specs.List.{slice_get}
 use Rattle.std.proofs.Math.Seq.{take-length}
 use Rattle.std.proofs.lemmas.List.{append-nil, map-append, reverse-append, reverse-reverse, length-map, length-reverse}
@@ -11,23 +11,21 @@ use Rattle.histories.specs.History.{Every, Begins, deeds_by}
 use Rattle.hall_core.specs.Meanings.{Among}
 use Rattle.hall_locks.specs.Hall.{numbers_of, shown_by, shown_cells, with_hub, WasShown}
 use Rattle.hall_locks.specs.Hands.{in_visit, values_of, AsTaken, AsAfter, Found}
-use Rattle.hall_locks.proofs.Lists.{among_left, among_right, among_rest, every_append}
-use Rattle.journal_core.specs.Histories.{replayed, written}
+use Rattle.hall_locks.proofs.Lists.{among_left, among_right, every_append}
+use Rattle.journal_core.specs.Histories.{replayed}
 use Rattle.journal_core.specs.Legality.{AreValid, IsLegal as AreLegal}
 use Rattle.journal_core.specs.declared.entry.Entry.{Entry}
 use Rattle.journal_core.proofs.Growing.{last_state}
 use Rattle.journal_core.proofs.Keeping.{valid_at, valid_history}
 use Rattle.desk_api.specs.Calls.{Adds, now}
-use Rattle.desk_api.specs.History.{History, commits, state_at, IsLegal}
+use Rattle.desk_api.specs.History.{History, commits, state_at}
 use Rattle.desk_api.specs.Views.{AreStatesOf}
-use Rattle.desk_api.specs.declared.history.Base.{Base}
 use Rattle.desk_api.specs.declared.history.SiteData.{SiteData}
 use Rattle.desk_api.specs.declared.mark.Mark.{Mark}
-use Rattle.desk_api.specs.declared.mark.Seat.{Seat}
 use Rattle.desk_api.proofs.Adding.{as_many, grown_length}
 use Rattle.desk_hub.specs.Seats.{KeepsSeat}
 use Rattle.desk_shared.specs.Hands.{states_of, HasHub, Visits, WasLegal}
-use Rattle.desk_shared.specs.Records.{Sight, base_of, records, seat_of}
+use Rattle.desk_shared.specs.Records.{Sight, records, seat_of}
 use Rattle.desk_shared.specs.declared.books.Books.{Books}
 use Rattle.desk_shared.specs.declared.records.RecCell.{RecCell}
 use Rattle.desk_shared.proofs.Listed.{some_same, some_there, states_from_each}

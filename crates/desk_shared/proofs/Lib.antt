@@ -13,6 +13,7 @@ pub mod Looked
 pub mod Watched
 pub mod Opened
 pub mod Footprints
+pub mod Ahead
 pub mod Entered
 pub mod Together
 pub mod Places

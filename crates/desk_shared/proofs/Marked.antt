@@ -1,5 +1,5 @@
 -- The steps that give the hub back with a mark.
-use Rattle.std.proofs.Common.{◌≡◌, ◌≢◌, ℕ, ◌+◌, ◌<◌, ◌≤◌, List, [], ◌∷◌, ◌++◌, length, map, reverse, set, take, Bool, true, false, Option, None, Some, refl, sym, ◌∙◌, ap, subst, arith, inr}
+use Rattle.std.proofs.Common.{◌≡◌, ◌≢◌, ℕ, ◌+◌, ◌≤◌, List, [], ◌∷◌, ◌++◌, length, take, Bool, true, false, None, Some, refl, sym, ◌∙◌, ap, subst, arith}
 use Rattle.std.proofs.lemmas.List.{append-nil, length-append, take-append-le}
 use Rattle.std.proofs.lemmas.List.Sums.{fold-append}
 use Rattle.std.proofs.Math.Seq.{take-length}
@@ -10,16 +10,16 @@ use Rattle.histories.specs.declared.story.Deed.TheVariants as deeds
 use Rattle.histories.proofs.Stories.{entries_append, roll_by_seat_append}
 use Rattle.hall_core.specs.Meanings.{Adds as Added, adds_nothing as no_deed, adds_entry, adds_item}
 use Rattle.hall_locks.specs.Hall.{with_mark as with_note}
-use Rattle.hall_locks.specs.Hands.{values_of, with_entry, with_look, AsAfter, AsTaken, IsOneMore, MayCommit, MayLook}
+use Rattle.hall_locks.specs.Hands.{with_entry, with_look, MayCommit, MayLook}
 use Rattle.journal_core.specs.Histories.{Journal, kept, replayed, written, WritesWithin}
 use Rattle.journal_core.specs.Legality.{IsLegalEntry, MayFollow, IsLegal as AreLegal}
 use Rattle.journal_core.specs.Weights.{weight}
 use Rattle.journal_core.specs.declared.entry.Entry.{Entry}
 use Rattle.journal_core.proofs.Growing.{last_state, legal_push, replayed_count}
 use Rattle.mon_shown.specs.declared.subscriptions.Readied.{Readied}
-use Rattle.desk_api.specs.Calls.{Adds, Calls, EndsAtItsMarks, EndsAtLastMark, now, with_mark}
+use Rattle.desk_api.specs.Calls.{Adds, EndsAtLastMark, now, with_mark}
 use Rattle.desk_api.specs.History.{History, commits, entries, kept_at, roll, state_at, IsLegal}
-use Rattle.desk_api.specs.Marks.{deed_of, IsTrueEntry, IsTrueIn, least_after, place}
+use Rattle.desk_api.specs.Marks.{deed_of, IsTrueEntry, IsTrueIn}
 use Rattle.desk_api.specs.Views.{AreStatesOf, found_in}
 use Rattle.desk_api.specs.declared.history.Base.{Base}
 use Rattle.desk_api.specs.declared.mark.Mark.{Mark}

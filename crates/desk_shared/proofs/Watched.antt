@@ -13,7 +13,7 @@ use Rattle.mon_shown.specs.Keeping.{tree_of}
 use Rattle.mon_shown.specs.Slots.{slot_in, Stand}
 use Rattle.mon_shown.specs.declared.slots.NotBegun.{NotBegun}
 use Rattle.mon_shown.specs.declared.watching.Watching.{Watching}
-use Rattle.desk_api.specs.Calls.{Adds, Calls, AreSubscribe, EndsAtItsMarks, EndsAtLastRoll, FitsSubscribed, IsEnding, IsPop, OnSubscribed, now, with_mark}
+use Rattle.desk_api.specs.Calls.{Calls, AreSubscribe, EndsAtItsMarks, EndsAtLastRoll, FitsSubscribed, IsEnding, IsPop, OnSubscribed, now, with_mark}
 use Rattle.desk_api.specs.History.{state_at}
 use Rattle.desk_api.specs.Living.{living, lives}
 use Rattle.desk_api.specs.Sites.{footprint_of}
@@ -31,7 +31,7 @@ use Rattle.desk_hub.specs.Seats.{Subs}
 use Rattle.desk_hub.specs.Steps.{Ends, Pops, StartsNot}
 use Rattle.desk_hub.proofs.Logs.{marked}
 use Rattle.desk_shared.specs.Exchanges.{AreExchanged}
-use Rattle.desk_shared.specs.Hands.{states_of, HasHub, Visits}
+use Rattle.desk_shared.specs.Hands.{states_of, IsBehind, Visits}
 use Rattle.desk_shared.specs.Records.{Sight, records, seat_of}
 use Rattle.desk_shared.specs.declared.books.Books.{Books}
 use Rattle.desk_shared.specs.declared.records.RecCell.{RecCell}
@@ -40,11 +40,6 @@ use Rattle.desk_shared.proofs.Gotten.{LooksShow}
 use Rattle.desk_shared.proofs.Handed.{has_hub, others_before, visits_of}
 use Rattle.desk_shared.proofs.Returned.{hand_again, states_again}
 use Rattle.desk_shared.proofs.Subscribed.{shown_here}
-
--- The hub was taken behind what others did.
-pub record IsBehind (before w : Sight) (hub : Books) (recs : List ℕ) (states : List RecState) : Type 0 where
-  pub has : HasHub w hub recs states
-  pub others : Adds (seat_of before) (seat_of w) []
 
 module _ {P : Type 0} where
   -- above the cells of records

@@ -1,5 +1,5 @@
 -- What a desk on a pass has in hand.
-use Rattle.std.specs.Prelude.{◌≡◌, ◌<◌, ◌≤◌, ◌+◌, ◌==◌, ℕ, true, List, length, map, reverse, Option, Some, slice_get}
+use Rattle.std.specs.Prelude.{◌≡◌, ◌<◌, ◌≤◌, ◌+◌, ◌==◌, ℕ, true, List, [], length, map, reverse, Option, Some, slice_get}
 use Rattle.std.specs.List.{AllByRecursion, list_any}
 use Rattle.std.specs.List.Sorted.{IsStrictlyIncreasing}
 use Rattle.rec_kinds.specs.declared.state.RecState.{RecState}
@@ -12,7 +12,7 @@ use Rattle.journal_core.specs.Weights.{weight}
 use Rattle.journal_core.specs.declared.entry.Entry.{Entry}
 use Rattle.mon_shown.specs.Slots.{AreReady}
 use Rattle.mon_shown.specs.declared.subscriptions.Readied.{Readied}
-use Rattle.desk_api.specs.Calls.{now}
+use Rattle.desk_api.specs.Calls.{Adds, now}
 use Rattle.desk_api.specs.History.{commits, state_at, IsLegal}
 use Rattle.desk_api.specs.Views.{AreStatesOf, found_in}
 use Rattle.desk_api.specs.Puts.{is_held}
@@ -65,6 +65,11 @@ pub record HasHub (v : Sight) (hub : Books) (recs : List ℕ) (states : List Rec
   pub values : values_of v.cells ≡ reverse (map Some states)
   pub finds : AreStatesOf (state_at v.seen (now (seat_of v))) recs states
 
+-- The hub was taken behind what others did.
+pub record IsBehind (before w : Sight) (hub : Books) (recs : List ℕ) (states : List RecState) : Type 0 where
+  pub has : HasHub w hub recs states
+  pub others : Adds (seat_of before) (seat_of w) []
+
 -- An entry of the records in hand may be added, of which these are the states after it: it is legal and light enough,
 -- there is room for it, and what it posts was made ready. Its records have the states that it leaves, and so have those
 -- that are then looked at.
@@ -104,3 +109,11 @@ pub record IsDrafted (v : Sight) (hub : Books) (recs : List ℕ) (hand : List Re
   pub footprint_is : entry.footprint ≡ recs
   pub actions_held : (k : ℕ) → is_held site entry.actions k ≡ true → list_any (λ r. r == k) recs ≡ true
   pub looked_held : (k : ℕ) → list_any (λ r. r == k) looked ≡ true → list_any (λ r. r == k) recs ≡ true
+
+-- The same while the hub is still to be taken, whatever others do until then.
+pub record IsDraftedAhead (v : Sight) (recs : List ℕ) (hand : List RecState) (site : SiteData) (states : List RecState)
+    (before : List (ℕ × RecState)) (entry : Entry) (looked : List ℕ) : Type 0 where
+  pub taken : List RecState
+  pub visits : Visits v v recs taken
+  pub drafted : (w : Sight) (hub : Books) → IsBehind v w hub recs taken
+      → IsDrafted w hub recs hand site states before entry looked

@@ -1,5 +1,5 @@
 -- What the records of a site are to a hall.
-use Rattle.std.specs.Prelude.{◌≡◌, ℕ, List, [], Option, Some, slice_get}
+use Rattle.std.specs.Prelude.{◌≡◌, [], Option, Some, slice_get}
 use Rattle.hall_core.specs.Meanings.{Meaning, Adds, adds_nothing, adds_entry, adds_item}
 use Rattle.hall_locks.specs.declared.view.View.{View}
 use Rattle.rec_kinds.specs.declared.state.RecState.{RecState}

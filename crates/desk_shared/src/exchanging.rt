@@ -11,10 +11,6 @@ use crate::lent::LentPort;
 use crate::records::RecCell;
 use desk_api::RecState;
 use desk_core::Cells;
-use std::snapshot::Snapshot;
-
-/// The ports at their records' places, as they stood before the hub was taken. It takes no bytes.
-pub(crate) type Left<P> = Snapshot<Vec<Option<LentPort<P>>>>;
 
 /// Exchanges two states.
 fn exchange_states(mine: &mut RecState, theirs: &mut RecState)

@@ -21,14 +21,14 @@ use crate::noting::look_read;
 use crate::records::Records;
 use crate::visiting::{opening_is_valid, visit_channel, visit_records};
 use desk_api::{Channel, NoMemory, PvValue, RecRow, Site, footprints_rise, looks_show_states};
-use desk_core::{Cells, Port, SERVICE, groups_over_records, names_and_configs};
+use desk_core::{Cells, SERVICE, groups_over_records, names_and_configs};
 use hall_locks::{Hall, Pass};
 use std::alloc::Global;
 use std::marker::Brand;
 use std::sync::Wait;
 
 /// What a channel shows of its records, which are looked at in one place. The value is made before the hub is taken.
-fn get_at_once<R: Wait, P: Port + Drop>(
+fn get_at_once<R: Wait, P: Drop>(
     rt: &R,
     alloc: Global,
     hall: &Hall<Records<P>>,
@@ -76,7 +76,7 @@ fn one_record(alloc: Global, rec: u32) -> Result<Vec<u32>, NoMemory>
 }
 
 /// Looks at one record for a get of the channel, and keeps a copy of its state at the record's place.
-fn look_at<R: Wait, P: Port + Drop>(
+fn look_at<R: Wait, P: Drop>(
     rt: &R,
     alloc: Global,
     hall: &Hall<Records<P>>,
@@ -124,7 +124,7 @@ fn look_at<R: Wait, P: Port + Drop>(
 }
 
 /// Looks at these records one after another, and keeps a copy of each state at its record's place.
-fn look_at_each<R: Wait, P: Port + Drop>(
+fn look_at_each<R: Wait, P: Drop>(
     rt: &R,
     alloc: Global,
     hall: &Hall<Records<P>>,
@@ -163,7 +163,7 @@ fn look_at_each<R: Wait, P: Port + Drop>(
 }
 
 /// What a channel shows of its records, which are looked at one after another.
-fn get_one_by_one<R: Wait, P: Port + Drop>(
+fn get_one_by_one<R: Wait, P: Drop>(
     rt: &R,
     alloc: Global,
     hall: &Hall<Records<P>>,
@@ -202,7 +202,7 @@ fn get_one_by_one<R: Wait, P: Port + Drop>(
 }
 
 /// What a channel shows of its records.
-pub(crate) fn get_in<R: Wait, P: Port + Drop>(
+pub(crate) fn get_in<R: Wait, P: Drop>(
     rt: &R,
     alloc: Global,
     hall: &Hall<Records<P>>,
@@ -227,7 +227,7 @@ pub(crate) fn get_in<R: Wait, P: Port + Drop>(
 }
 
 /// A row for each record, all of which are looked at in one place. The rows are made before the hub is taken.
-pub(crate) fn snapshot_in<R: Wait, P: Port + Drop>(
+pub(crate) fn snapshot_in<R: Wait, P: Drop>(
     rt: &R,
     alloc: Global,
     hall: &Hall<Records<P>>,

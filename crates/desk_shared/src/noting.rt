@@ -1,4 +1,5 @@
 // The steps that give the hub back, each with its mark. The arguments of each are the parts of its mark, from which the caller picks it.
+// Of a port's type they know only that it may be let go, so that none can be driven here.
 ghost use Rattle.std.specs.Prelude.{◌≡◌, ◌<◌, ◌+◌, ◌^◌, Some, length};
 ghost use Rattle.std.specs.List.{AllByRecursion};
 ghost use Rattle.std.specs.List.Sorted.{IsStrictlyIncreasing};
@@ -14,18 +15,18 @@ ghost use Rattle.hall_locks.specs.Hands.{MayGlance, MayLook};
 ghost use Rattle.journal_core.specs.Histories.{kept};
 ghost use Rattle.journal_core.specs.Weights.{weight as weight_of};
 
-use crate::exchanging::{Left, exchange};
+use crate::exchanging::exchange;
 use crate::lent::LentPort;
 use crate::records::{Noted, Notes, Records};
 use desk_api::{Channel, Update};
-use desk_core::{Cells, Port};
+use desk_core::Cells;
 use desk_hub::{Readied, post};
 use hall_locks::{Glance, Hall, Held, Pass};
 use journal_core::Entry;
 use pvd_type::BitSet;
 
 /// Gives all back with the mark of a look of a get of this channel, which found the records in hand. The hub stayed where it is.
-pub(crate) fn look_read<P: Port + Drop, B: Notes>(
+pub(crate) fn look_read<P: Drop, B: Notes>(
     hall: &Hall<Records<P>>,
     held: Glance<Records<P>>,
     _channel: Channel,
@@ -41,7 +42,7 @@ pub(crate) fn look_read<P: Port + Drop, B: Notes>(
 }
 
 /// Gives all back with the mark of an entry that would have been too heavy.
-pub(crate) fn look_overweight<P: Port + Drop, B: Notes>(
+pub(crate) fn look_overweight<P: Drop, B: Notes>(
     hall: &Hall<Records<P>>,
     held: Held<Records<P>>,
     _entry: &Entry,
@@ -60,7 +61,7 @@ pub(crate) fn look_overweight<P: Port + Drop, B: Notes>(
 }
 
 /// Gives all back with the mark of a subscription that began.
-pub(crate) fn look_begun<P: Port + Drop, B: Notes>(
+pub(crate) fn look_begun<P: Drop, B: Notes>(
     hall: &Hall<Records<P>>,
     held: Held<Records<P>>,
     _slot: u32,
@@ -79,7 +80,7 @@ pub(crate) fn look_begun<P: Port + Drop, B: Notes>(
 }
 
 /// Gives all back with the mark that no subscription began, since so many live.
-pub(crate) fn look_crowded<P: Port + Drop, B: Notes>(
+pub(crate) fn look_crowded<P: Drop, B: Notes>(
     hall: &Hall<Records<P>>,
     held: Held<Records<P>>,
     _count: u32,
@@ -95,7 +96,7 @@ pub(crate) fn look_crowded<P: Port + Drop, B: Notes>(
 }
 
 /// Gives the hub back with the mark of a pop.
-pub(crate) fn look_popped<P: Port + Drop, B: Notes>(
+pub(crate) fn look_popped<P: Drop, B: Notes>(
     hall: &Hall<Records<P>>,
     held: Held<Records<P>>,
     _slot: u32,
@@ -112,7 +113,7 @@ pub(crate) fn look_popped<P: Port + Drop, B: Notes>(
 }
 
 /// Gives the hub back with the mark of a subscription's end.
-pub(crate) fn look_dropped<P: Port + Drop, B: Notes>(
+pub(crate) fn look_dropped<P: Drop, B: Notes>(
     hall: &Hall<Records<P>>,
     held: Held<Records<P>>,
     _slot: u32,
@@ -128,8 +129,8 @@ pub(crate) fn look_dropped<P: Port + Drop, B: Notes>(
 }
 
 /// Adds an entry, of which these are the states after it, posts what was made ready of it, and gives all back with its mark: these
-/// records were then looked at. It takes no memory. No port was driven since the hub was taken.
-pub(crate) fn commit_entered<P: Port + Drop, B: Notes>(
+/// records were then looked at. It takes no memory.
+pub(crate) fn commit_entered<P: Drop, B: Notes>(
     hall: &Hall<Records<P>>,
     mut held: Held<Records<P>>,
     cells: &mut Cells<LentPort<P>>,
@@ -137,10 +138,8 @@ pub(crate) fn commit_entered<P: Port + Drop, B: Notes>(
     entry: Entry,
     ready: Readied,
     _looked: &[u32],
-    _left: &Left<P>,
 ) -> Pass<Records<P>>
     requires own { held.seat.table_id ≡ hall.now.table.shared.table_id }
-    requires left { cells.old.ports.items ≡ _left.now.value.items }
     requires may { MayEnter held.seat.me.0 held.hub recs.now cells.old.states.items entry _looked.now ready }
     requires weight { kept held.hub.history.entries + weight_of entry < 2 ^ 64 }
     requires many { length held.cells.items ≡ length recs.now }

@@ -11,14 +11,15 @@ ghost use Rattle.desk_api.specs.Views.{found_in};
 ghost use Rattle.desk_core.specs.Ports.{ports_there};
 ghost use Rattle.desk_shared.specs.Desks.{Stands};
 ghost use Rattle.desk_shared.specs.Entries.{AreEntered, AreEntry, ArePutGot, ArePutInTurn};
-ghost use Rattle.desk_shared.specs.Hands.{IsDrafted, Undoes, states_of};
+ghost use Rattle.desk_shared.specs.Hands.{IsDrafted, IsDraftedAhead, Undoes, states_of};
 ghost use Rattle.desk_shared.specs.Records.{seat_of};
 ghost use Rattle.group_view.specs.Puts.{MayBeDoneBy};
+ghost use Rattle.hall_locks.specs.Passes.{hall_id, pass_hall, pass_others, pass_view, visit_hall, visit_others, visit_view};
 ghost use Rattle.journal_core.specs.Weights.{weight as weight_of};
 ghost use Rattle.pvd_value.specs.Fits.{fits_of};
 ghost use Rattle.pvd_value.specs.View.{view};
 
-use crate::exchanging::{Left, exchange};
+use crate::exchanging::exchange;
 use crate::lent::LentPort;
 use crate::looking::get_in;
 use crate::noting::{commit_entered, look_overweight};
@@ -32,12 +33,11 @@ use desk_core::{
     Cells, Port, discard, groups_over_records, names_and_configs, not_done, one_action,
 };
 use desk_hub::make_ready;
-use hall_locks::{Hall, Held, NoMark, Pass};
+use hall_locks::{Hall, Held, NoMark, Pass, Visit};
 use journal_core::{Entry, weight};
 use pvd_type::BitSet;
 use std::alloc::Global;
 use std::marker::Brand;
-use std::snapshot::Snapshot;
 use std::sync::Wait;
 
 /// Whether the entries may weigh so much more.
@@ -47,17 +47,15 @@ fn is_light(kept: u64, added: u64, limit: u64) -> bool
     kept <= limit && added <= limit - kept
 }
 
-/// Gives all back as it was taken, with what an entry had written put back, and without a mark. No port was driven since the hub was taken.
-fn give_up<P: Port + Drop>(
+/// Gives all back as it was taken, with what an entry had written put back, and without a mark.
+fn give_up<P: Drop>(
     hall: &Hall<Records<P>>,
     site: &Site,
     mut held: Held<Records<P>>,
     cells: &mut Cells<LentPort<P>>,
     recs: &[u32],
-    _left: &Left<P>,
 ) -> Pass<Records<P>>
     requires own { held.seat.table_id ≡ hall.now.table.shared.table_id }
-    requires left { cells.old.ports.items ≡ _left.now.value.items }
     requires undoes { Undoes held.seat.me.0 held.hub recs.now (states_of held.cells.items) site.now.opening cells.old.states.items cells.old.before.items }
     requires many { length held.cells.items ≡ length recs.now }
     requires ports { length cells.old.ports.items ≡ length cells.old.states.items }
@@ -72,10 +70,8 @@ fn give_up<P: Port + Drop>(
     hall.look::<NoMark>(held)
 }
 
-/// Adds the entry that was drafted on the records in hand, behind so many others of its put, and tells its place, unless the history
-/// would then be above its limit. It is posted to the subscriptions of all seats that it concerns. All memory is taken before anything
-/// is changed. No port was driven since the hub was taken.
-fn enter<P: Port + Drop>(
+/// What `enter` does once it has the hub.
+fn enter_held<P: Drop>(
     alloc: Global,
     hall: &Hall<Records<P>>,
     site: &Site,
@@ -85,10 +81,8 @@ fn enter<P: Port + Drop>(
     entry: Entry,
     looked: &[u32],
     done: u32,
-    left: &Left<P>,
 ) -> (Pass<Records<P>>, Result<u64, PutAnswer>)
     requires own { held.seat.table_id ≡ hall.now.table.shared.table_id }
-    requires left { cells.old.ports.items ≡ left.now.value.items }
     requires drafted { IsDrafted held.seat.me.0 held.hub recs.now (states_of held.cells.items) site.now cells.old.states.items cells.old.before.items entry looked.now }
     requires weight { weight_of entry < 2 ^ 64 }
     requires many { length held.cells.items ≡ length recs.now }
@@ -121,7 +115,7 @@ fn enter<P: Port + Drop>(
     let states = cells.states.as_slice();
     let Ok(ready) = make_ready(alloc, site, &held.hub.subs, &entry, states) else {
         return (
-            give_up(hall, site, held, cells, recs, left),
+            give_up(hall, site, held, cells, recs),
             Err(PutAnswer::NoMemory { done }),
         );
     };
@@ -129,13 +123,44 @@ fn enter<P: Port + Drop>(
     let Ok(()) = hub.history.reserve() else {
         discard(ready);
         return (
-            give_up(hall, site, held, cells, recs, left),
+            give_up(hall, site, held, cells, recs),
             Err(PutAnswer::NoMemory { done }),
         );
     };
     let place = held.hub.history.len();
-    let pass = commit_entered::<P, Brand>(hall, held, cells, recs, entry, ready, looked, left);
+    let pass = commit_entered::<P, Brand>(hall, held, cells, recs, entry, ready, looked);
     (pass, Ok(place))
+}
+
+/// Takes the hub and adds the entry that was drafted on the records in hand, behind so many others of its put, and tells its place, unless
+/// the history would then be above its limit. It is posted to the subscriptions of all seats that it concerns. All memory is taken before
+/// anything is changed. From here to where the hub is given back no port can be driven: of its type no more is known than that it may be let go.
+fn enter<R: Wait, P: Drop>(
+    rt: &R,
+    alloc: Global,
+    hall: &Hall<Records<P>>,
+    site: &Site,
+    cells: &mut Cells<LentPort<P>>,
+    visit: Visit<Records<P>>,
+    recs: &[u32],
+    entry: Entry,
+    looked: &[u32],
+    done: u32,
+) -> (Pass<Records<P>>, Result<u64, PutAnswer>)
+    requires own { visit_hall visit ≡ hall_id hall.now }
+    requires ahead { IsDraftedAhead (visit_view visit) recs.now (states_of visit.cells.items) site.now cells.old.states.items cells.old.before.items entry looked.now }
+    requires weight { weight_of entry < 2 ^ 64 }
+    requires many { length visit.cells.items ≡ length recs.now }
+    requires ports { length cells.old.ports.items ≡ length cells.old.states.items }
+    ensures own { pass_hall result.0 ≡ visit_hall visit }
+    ensures others { pass_others result.0 ≡ visit_others visit }
+    ensures calls { Calls (seat_of (visit_view visit)) (seat_of (pass_view result.0)) (AreEntered entry looked.now (found_in cells.old.states.items looked.now) done result.1) }
+    ensures ends { OnTold result.1 (EndsAtItsMarks (seat_of (visit_view visit)) (seat_of (pass_view result.0))) }
+    ensures states { cells.new.states.items ≡ site.now.opening }
+    ensures ports { ports_there cells.new.ports.items ≡ ports_there cells.old.ports.items }
+{
+    let held = hall.hub(rt, visit);
+    enter_held(alloc, hall, site, cells, held, recs, entry, looked, done)
 }
 
 /// Adds the entry of these actions behind so many others of its put, and tells its place. Its records are taken first, then it is
@@ -178,20 +203,7 @@ fn put_entry<R: Wait, P: Port + Drop>(
         exchange(&mut visit.cells, recs, cells);
         return (hall.leave(visit), Err(PutAnswer::NoMemory { done }));
     };
-    let left = Snapshot::of(&cells.ports);
-    let held = hall.hub(rt, visit);
-    enter(
-        alloc,
-        hall,
-        site,
-        cells,
-        held,
-        recs,
-        entry,
-        &[],
-        done,
-        &left,
-    )
+    enter(rt, alloc, hall, site, cells, visit, recs, entry, &[], done)
 }
 
 /// Adds all actions as one entry.
@@ -344,11 +356,7 @@ fn put_and_show<R: Wait, P: Port + Drop>(
         return (hall.leave(visit), Err(PutAnswer::NoMemory { done: 0 }));
     };
     let (entry, value) = drafted;
-    let left = Snapshot::of(&cells.ports);
-    let held = hall.hub(rt, visit);
-    let (pass, entered) = enter(
-        alloc, hall, site, cells, held, recs, entry, looked, 0, &left,
-    );
+    let (pass, entered) = enter(rt, alloc, hall, site, cells, visit, recs, entry, looked, 0);
     match entered {
         Ok(first) => (pass, Ok((Done { first, count: 1 }, value))),
         Err(answer) => {

@@ -14,7 +14,7 @@ use crate::noting::{look_begun, look_crowded, look_dropped, look_popped};
 use crate::records::Records;
 use crate::visiting::{opening_is_valid, visit_channel};
 use desk_api::{Channel, Site, Sub, SubAnswer, Update, footprints_rise, looks_show_states};
-use desk_core::{Cells, MOST, Port, discard, groups_over_records, names_and_configs};
+use desk_core::{Cells, MOST, discard, groups_over_records, names_and_configs};
 use desk_hub::{NotBegun, begin, end, logs_tell_slots, pop, ready};
 use hall_locks::{Hall, NoMark, Pass};
 use pvd_type::BitSet;
@@ -23,7 +23,7 @@ use std::marker::Brand;
 use std::sync::Wait;
 
 /// Begins a subscription to the marked leaves of what the channel shows. What it is shown, and its queue, are made before the hub is taken.
-pub(crate) fn subscribe_in<R: Wait, P: Port + Drop>(
+pub(crate) fn subscribe_in<R: Wait, P: Drop>(
     rt: &R,
     alloc: Global,
     hall: &Hall<Records<P>>,
@@ -82,7 +82,7 @@ pub(crate) fn subscribe_in<R: Wait, P: Port + Drop>(
 }
 
 /// The oldest unread update of a living subscription of this seat, or none. It takes no memory.
-pub(crate) fn pop_in<R: Wait, P: Port + Drop>(
+pub(crate) fn pop_in<R: Wait, P: Drop>(
     rt: &R,
     alloc: Global,
     hall: &Hall<Records<P>>,
@@ -108,7 +108,7 @@ pub(crate) fn pop_in<R: Wait, P: Port + Drop>(
 }
 
 /// Ends a living subscription of this seat. It takes no memory.
-pub(crate) fn unsubscribe_in<R: Wait, P: Port + Drop>(
+pub(crate) fn unsubscribe_in<R: Wait, P: Drop>(
     rt: &R,
     alloc: Global,
     hall: &Hall<Records<P>>,

@@ -10,7 +10,7 @@ ghost use Rattle.journal_core.specs.Legality.{AreValid};
 
 use crate::records::Records;
 use desk_api::{Channel, NoMemory, Site, footprints_rise};
-use desk_core::{Port, groups_over_records, names_and_configs};
+use desk_core::{groups_over_records, names_and_configs};
 use hall_locks::{Hall, NoMark, Pass, Visit};
 use std::alloc::Global;
 use std::sync::Wait;
@@ -23,7 +23,7 @@ pub(crate) fn opening_is_valid(site: &Site)
 }
 
 /// Takes the cells of these records. It may wait for each.
-pub(crate) fn visit_records<R: Wait, P: Port + Drop>(
+pub(crate) fn visit_records<R: Wait, P: Drop>(
     rt: &R,
     alloc: Global,
     hall: &Hall<Records<P>>,
@@ -46,7 +46,7 @@ pub(crate) fn visit_records<R: Wait, P: Port + Drop>(
 }
 
 /// Takes the cells of these records, whose list it copies. It may wait for each.
-pub(crate) fn visit_these<R: Wait, P: Port + Drop>(
+pub(crate) fn visit_these<R: Wait, P: Drop>(
     rt: &R,
     alloc: Global,
     hall: &Hall<Records<P>>,
@@ -69,7 +69,7 @@ pub(crate) fn visit_these<R: Wait, P: Port + Drop>(
 }
 
 /// Takes the cells of the records that a get of the channel reads. It may wait for each.
-pub(crate) fn visit_channel<R: Wait, P: Port + Drop>(
+pub(crate) fn visit_channel<R: Wait, P: Drop>(
     rt: &R,
     alloc: Global,
     hall: &Hall<Records<P>>,
@@ -96,7 +96,7 @@ pub(crate) fn visit_channel<R: Wait, P: Port + Drop>(
 }
 
 /// Sees the history to its present end. It may wait, and takes no memory.
-pub(crate) fn catch_up<R: Wait, P: Port + Drop>(
+pub(crate) fn catch_up<R: Wait, P: Drop>(
     rt: &R,
     alloc: Global,
     hall: &Hall<Records<P>>,

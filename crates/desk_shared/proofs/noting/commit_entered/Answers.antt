@@ -1,12 +1,9 @@
-use Rattle.std.proofs.Common.{◌≡◌, ◌∙◌, ℕ, List, Some, refl, sym, ap, subst}
-use Rattle.rec_kinds.specs.declared.state.RecState.{RecState}
+use Rattle.std.proofs.Common.{Some, refl, sym, subst}
 use Rattle.hall_locks.specs.Hands.{MayCommit}
-use Rattle.desk_api.specs.Calls.{now}
 use Rattle.desk_api.specs.Views.{found_in}
-use Rattle.desk_api.specs.declared.history.SiteData.{SiteData}
 use Rattle.desk_api.specs.declared.mark.Mark.{Mark}
 use Rattle.desk_api.specs.declared.mark.Mark.TheVariants.{Entered}
-use Rattle.desk_shared.specs.Records.{records, seat_of}
+use Rattle.desk_shared.specs.Records.{records}
 use Rattle.desk_shared.proofs.Marked.{entry_marked, may_enter, one_longer, writes_there}
 use Rattle.desk_shared.proofs.noting.commit_entered.Goals as goal
 

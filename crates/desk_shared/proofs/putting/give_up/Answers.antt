@@ -1,5 +1,4 @@
-use Rattle.std.proofs.Common.{◌≡◌, ◌∙◌, ℕ, List, length, refl, sym, ap, subst}
-use Rattle.std.specs.List.{AllByRecursion}
+use Rattle.std.proofs.Common.{◌∙◌, length, refl, sym, ap}
 use Rattle.desk_core.specs.Ports.{ports_there}
 use Rattle.desk_shared.specs.Hands.{states_of}
 use Rattle.desk_shared.proofs.Drafted.{back_inside, hand_back, restored_count, states_back}

@@ -1,5 +1,4 @@
 use Rattle.std.proofs.Common.{◌≡◌, ◌∙◌, ◌<◌, ℕ, List, [], true, Some, Ok, Err, Result, length, refl, sym, ap, subst}
-use Rattle.rec_kinds.specs.declared.state.RecState.{RecState}
 use Rattle.std.specs.List.{AllByRecursion}
 use Rattle.std.specs.List.Sorted.{IsStrictlyIncreasing}
 use Rattle.desk_api.specs.Calls.{Calls}
@@ -14,17 +13,17 @@ use Rattle.desk_core.proofs.Ported.{as_many_ports, ported}
 use Rattle.desk_core.proofs.Reading.{below, found_all, shows_at_once, whole_wanted}
 use Rattle.desk_core.specs.Ports.{ports_there, ports_wanted}
 use Rattle.desk_shared.specs.Entries.{AreEntered}
-use Rattle.desk_shared.specs.Exchanges.{AreExchanged}
 use Rattle.desk_shared.specs.Hands.{IsDrafted, states_of}
 use Rattle.desk_shared.specs.Records.{seat_of}
-use Rattle.desk_shared.proofs.Behind.{behind, stands_on}
+use Rattle.desk_shared.proofs.Ahead.{calls_ahead, site_ahead, visits_ahead}
+use Rattle.desk_shared.proofs.Behind.{stands_on}
 use Rattle.desk_shared.proofs.Entered.{drafted, entry_calls, none_entered}
 use Rattle.desk_shared.proofs.Footprints.{footprint_within}
 use Rattle.desk_shared.proofs.Handed.{as_taken, left_alone}
 use Rattle.desk_shared.proofs.Listed.{written_count}
 use Rattle.desk_shared.proofs.Returned.{hand_again, ports_and_states, states_again, valid_with}
 use Rattle.desk_shared.proofs.Together.{shown_not, shown_put}
-use Rattle.desk_shared.proofs.Watched.{hub_behind, same_exchange, site_there}
+use Rattle.desk_shared.proofs.Watched.{same_exchange, site_there}
 use Rattle.desk_shared.proofs.putting.put_and_show.Goals as goal
 
 pub footprint_with-requires-clause-below : goal.footprint_with-requires-clause-below
@@ -166,8 +165,8 @@ returns-in_default-draft_shown-clause-stands g c =
     (states_again recs (states_of v.cells.items) (states_of c.exchange.new.hand.items) (states_of c.exchange-in_default-draft_shown.new.hand.items) s.opening e.states.items c.exchange-in_default-draft_shown.new.cells.states.items x y ∙ sym st.furnished.states_are)
     (c.exchange-in_default-draft_shown.ensures.ports ∙ stay ∙ sym st.furnished.ports_are) (c.leave.ensures.own ∙ made.own) _ call
 
-pub enter-pass-requires-clause-drafted : goal.enter-pass-requires-clause-drafted
-enter-pass-requires-clause-drafted g c =
+pub enter-pass-requires-clause-ahead : goal.enter-pass-requires-clause-ahead
+enter-pass-requires-clause-ahead g c =
     let s = c.args.site.now in
     let st = c.requires.stands in
     let looks = footprint_of s c.args.channel in
@@ -184,14 +183,16 @@ enter-pass-requires-clause-drafted g c =
     let done = c.in-Ok-draft_shown.ensures.drafted in
     let stay : ports_there d.ports.items ≡ ports_wanted s.configs = ported _ s.configs e.ports.items (c.exchange.ensures.ports ∙ st.furnished.ports_are) d.ports.items (stay_driven _ _ entry.drove entry.writes done.done.driven) in
     let long : length d.states.items ≡ length s.opening = ap length done.done.cells_are ∙ written_count e.states.items entry.writes ∙ x.long in
-    let h = c.hub-held.result in
-    let b = hub_behind c.args.pass.seat.me.0 v.seat.me.0 h.seat.me.0 h.hub recs (states_of v.cells.items) made.visits c.hub-held.ensures.taken c.hub-held.ensures.found in
-    let there = site_there c.args.pass.seat.me.0 h.seat.me.0 h.seat.me.0 h.hub _ _ b s st.site_is in
-    let x_there = subst (λ (l : List RecState). AreExchanged recs (states_of v.cells.items) l s.opening e.states.items) (sym (ap states_of c.hub-held.ensures.cells)) x in
     let valid = valid_with c.args.pass.seat.me.0 v.seat.me.0 recs (states_of v.cells.items) (states_of c.exchange.new.hand.items) e.states.items s made.visits st.site_is c.opening_is_valid.ensures x in
-    subst (IsDrafted h.seat.me.0 h.hub recs (states_of h.cells.items) s d.states.items d.before.items entry) (sym c.footprint_of-looked.ensures)
-    (drafted c.entries_write_inside.ensures.put_gets s c.groups_over_records.ensures h.seat.me.0 h.hub recs (states_of v.cells.items) (states_of h.cells.items) e.states.items d.states.items b.has there x_there valid c.opening_is_valid.ensures many _ _
-    c.args.actions.items looks c.args.moment entry d.before.items done recs_are c.requires.within inside)
+    record {
+      taken = states_of v.cells.items;
+      visits = visits_ahead c.args.pass.seat.me.0 v.seat.me.0 recs (states_of v.cells.items) made.visits;
+      drafted = λ w hub b.
+          subst (IsDrafted w hub recs (states_of c.exchange.new.hand.items) s d.states.items d.before.items entry) (sym c.footprint_of-looked.ensures)
+          (drafted c.entries_write_inside.ensures.put_gets s c.groups_over_records.ensures w hub recs (states_of v.cells.items) (states_of c.exchange.new.hand.items) e.states.items d.states.items b.has
+          (site_there v.seat.me.0 w w hub recs (states_of v.cells.items) b s (site_ahead c.args.pass.seat.me.0 v.seat.me.0 recs (states_of v.cells.items) made.visits s st.site_is)) x valid c.opening_is_valid.ensures many _ _
+          c.args.actions.items looks c.args.moment entry d.before.items done recs_are c.requires.within inside);
+    }
 
 pub enter-pass-requires-clause-ports : goal.enter-pass-requires-clause-ports
 enter-pass-requires-clause-ports g c =
@@ -226,15 +227,13 @@ returns-in-Ok-entered-clause-stands g c =
     let done = c.in-Ok-draft_shown.ensures.drafted in
     let stay : ports_there d.ports.items ≡ ports_wanted s.configs = ported _ s.configs e.ports.items (c.exchange.ensures.ports ∙ st.furnished.ports_are) d.ports.items (stay_driven _ _ entry.drove entry.writes done.done.driven) in
     let long : length d.states.items ≡ length s.opening = ap length done.done.cells_are ∙ written_count e.states.items entry.writes ∙ x.long in
-    let h = c.hub-held.result in
-    let b = hub_behind c.args.pass.seat.me.0 v.seat.me.0 h.seat.me.0 h.hub recs (states_of v.cells.items) made.visits c.hub-held.ensures.taken c.hub-held.ensures.found in
     let t = c.enter-pass.result.0.seat.me.0 in
     let found = found_in d.states.items looks in
-    let entered = subst (λ (l : List ℕ). Calls (seat_of h.seat.me.0) (seat_of t) (AreEntered entry l (found_in d.states.items l) 0 c.enter-pass.result.1)) c.footprint_of-looked.ensures c.enter-pass.ensures.calls in
-    let call = behind (seat_of c.args.pass.seat.me.0) (seat_of h.seat.me.0) (seat_of t) b.others _
-    (entry_calls s e.states.items d.states.items _ _ c.args.actions.items looks c.args.moment entry d.before.items done found (seat_of h.seat.me.0) (seat_of t) 0 (Ok c.in-Ok-entered.first) (subst (λ (z : Result ℕ PutAnswer). Calls (seat_of h.seat.me.0) (seat_of t) (AreEntered entry looks found 0 z)) c.in-Ok-entered.is entered)) in
+    let entered = subst (λ (l : List ℕ). Calls (seat_of v.seat.me.0) (seat_of t) (AreEntered entry l (found_in d.states.items l) 0 c.enter-pass.result.1)) c.footprint_of-looked.ensures c.enter-pass.ensures.calls in
+    let call = calls_ahead c.args.pass.seat.me.0 v.seat.me.0 recs (states_of v.cells.items) made.visits (seat_of t) _
+    (entry_calls s e.states.items d.states.items _ _ c.args.actions.items looks c.args.moment entry d.before.items done found (seat_of v.seat.me.0) (seat_of t) 0 (Ok c.in-Ok-entered.first) (subst (λ (z : Result ℕ PutAnswer). Calls (seat_of v.seat.me.0) (seat_of t) (AreEntered entry looks found 0 z)) c.in-Ok-entered.is entered)) in
     stands_on _ _ s _ _ _ _ _ _ c.args.pass.seat.me.0 t st (c.enter-pass.ensures.states ∙ sym st.furnished.states_are) (c.enter-pass.ensures.ports ∙ stay ∙ sym st.furnished.ports_are)
-    (c.enter-pass.ensures.own ∙ c.hub-held.ensures.own ∙ made.own) _ call
+    (c.enter-pass.ensures.own ∙ made.own) _ call
 
 pub returns-in-Ok-entered-clause-calls : goal.returns-in-Ok-entered-clause-calls
 returns-in-Ok-entered-clause-calls g c =
@@ -252,13 +251,11 @@ returns-in-Ok-entered-clause-calls g c =
     let done = c.in-Ok-draft_shown.ensures.drafted in
     let stay : ports_there d.ports.items ≡ ports_wanted s.configs = ported _ s.configs e.ports.items (c.exchange.ensures.ports ∙ st.furnished.ports_are) d.ports.items (stay_driven _ _ entry.drove entry.writes done.done.driven) in
     let long : length d.states.items ≡ length s.opening = ap length done.done.cells_are ∙ written_count e.states.items entry.writes ∙ x.long in
-    let h = c.hub-held.result in
-    let b = hub_behind c.args.pass.seat.me.0 v.seat.me.0 h.seat.me.0 h.hub recs (states_of v.cells.items) made.visits c.hub-held.ensures.taken c.hub-held.ensures.found in
     let t = c.enter-pass.result.0.seat.me.0 in
     let found = found_in d.states.items looks in
-    let entered = subst (λ (l : List ℕ). Calls (seat_of h.seat.me.0) (seat_of t) (AreEntered entry l (found_in d.states.items l) 0 c.enter-pass.result.1)) c.footprint_of-looked.ensures c.enter-pass.ensures.calls in
-    let call = behind (seat_of c.args.pass.seat.me.0) (seat_of h.seat.me.0) (seat_of t) b.others _
-    (entry_calls s e.states.items d.states.items _ _ c.args.actions.items looks c.args.moment entry d.before.items done found (seat_of h.seat.me.0) (seat_of t) 0 (Ok c.in-Ok-entered.first) (subst (λ (z : Result ℕ PutAnswer). Calls (seat_of h.seat.me.0) (seat_of t) (AreEntered entry looks found 0 z)) c.in-Ok-entered.is entered)) in
+    let entered = subst (λ (l : List ℕ). Calls (seat_of v.seat.me.0) (seat_of t) (AreEntered entry l (found_in d.states.items l) 0 c.enter-pass.result.1)) c.footprint_of-looked.ensures c.enter-pass.ensures.calls in
+    let call = calls_ahead c.args.pass.seat.me.0 v.seat.me.0 recs (states_of v.cells.items) made.visits (seat_of t) _
+    (entry_calls s e.states.items d.states.items _ _ c.args.actions.items looks c.args.moment entry d.before.items done found (seat_of v.seat.me.0) (seat_of t) 0 (Ok c.in-Ok-entered.first) (subst (λ (z : Result ℕ PutAnswer). Calls (seat_of v.seat.me.0) (seat_of t) (AreEntered entry looks found 0 z)) c.in-Ok-entered.is entered)) in
     let finds = found_all d.states.items looks (below s c.args.channel (length d.states.items) c.groups_over_records.ensures c.names_and_configs.ensures.same (many ∙ sym long) c.requires.channel) in
     shown_put s c.args.channel c.args.moment c.args.actions.items found (seat_of c.args.pass.seat.me.0) (seat_of t) c.in-Ok-entered.first _ c.in-Ok-draft_shown.drafted.1 refl
     (c.in-Ok-draft_shown.ensures.shown ∙ sym (shows_at_once c.looks_show_states.ensures s c.args.channel (Some true) d.states.items found (whole_wanted s c.args.channel) (sym long) finds)) call
@@ -279,15 +276,13 @@ returns-clause-stands g c =
     let done = c.in-Ok-draft_shown.ensures.drafted in
     let stay : ports_there d.ports.items ≡ ports_wanted s.configs = ported _ s.configs e.ports.items (c.exchange.ensures.ports ∙ st.furnished.ports_are) d.ports.items (stay_driven _ _ entry.drove entry.writes done.done.driven) in
     let long : length d.states.items ≡ length s.opening = ap length done.done.cells_are ∙ written_count e.states.items entry.writes ∙ x.long in
-    let h = c.hub-held.result in
-    let b = hub_behind c.args.pass.seat.me.0 v.seat.me.0 h.seat.me.0 h.hub recs (states_of v.cells.items) made.visits c.hub-held.ensures.taken c.hub-held.ensures.found in
     let t = c.enter-pass.result.0.seat.me.0 in
     let found = found_in d.states.items looks in
-    let entered = subst (λ (l : List ℕ). Calls (seat_of h.seat.me.0) (seat_of t) (AreEntered entry l (found_in d.states.items l) 0 c.enter-pass.result.1)) c.footprint_of-looked.ensures c.enter-pass.ensures.calls in
-    let call = behind (seat_of c.args.pass.seat.me.0) (seat_of h.seat.me.0) (seat_of t) b.others _
-    (entry_calls s e.states.items d.states.items _ _ c.args.actions.items looks c.args.moment entry d.before.items done found (seat_of h.seat.me.0) (seat_of t) 0 (Err c.in-Err-entered.answer) (subst (λ (z : Result ℕ PutAnswer). Calls (seat_of h.seat.me.0) (seat_of t) (AreEntered entry looks found 0 z)) c.in-Err-entered.is entered)) in
+    let entered = subst (λ (l : List ℕ). Calls (seat_of v.seat.me.0) (seat_of t) (AreEntered entry l (found_in d.states.items l) 0 c.enter-pass.result.1)) c.footprint_of-looked.ensures c.enter-pass.ensures.calls in
+    let call = calls_ahead c.args.pass.seat.me.0 v.seat.me.0 recs (states_of v.cells.items) made.visits (seat_of t) _
+    (entry_calls s e.states.items d.states.items _ _ c.args.actions.items looks c.args.moment entry d.before.items done found (seat_of v.seat.me.0) (seat_of t) 0 (Err c.in-Err-entered.answer) (subst (λ (z : Result ℕ PutAnswer). Calls (seat_of v.seat.me.0) (seat_of t) (AreEntered entry looks found 0 z)) c.in-Err-entered.is entered)) in
     stands_on _ _ s _ _ _ _ _ _ c.args.pass.seat.me.0 t st (c.enter-pass.ensures.states ∙ sym st.furnished.states_are) (c.enter-pass.ensures.ports ∙ stay ∙ sym st.furnished.ports_are)
-    (c.enter-pass.ensures.own ∙ c.hub-held.ensures.own ∙ made.own) _ call
+    (c.enter-pass.ensures.own ∙ made.own) _ call
 
 pub returns-clause-calls : goal.returns-clause-calls
 returns-clause-calls g c =
@@ -305,20 +300,18 @@ returns-clause-calls g c =
     let done = c.in-Ok-draft_shown.ensures.drafted in
     let stay : ports_there d.ports.items ≡ ports_wanted s.configs = ported _ s.configs e.ports.items (c.exchange.ensures.ports ∙ st.furnished.ports_are) d.ports.items (stay_driven _ _ entry.drove entry.writes done.done.driven) in
     let long : length d.states.items ≡ length s.opening = ap length done.done.cells_are ∙ written_count e.states.items entry.writes ∙ x.long in
-    let h = c.hub-held.result in
-    let b = hub_behind c.args.pass.seat.me.0 v.seat.me.0 h.seat.me.0 h.hub recs (states_of v.cells.items) made.visits c.hub-held.ensures.taken c.hub-held.ensures.found in
     let t = c.enter-pass.result.0.seat.me.0 in
     let found = found_in d.states.items looks in
-    let entered = subst (λ (l : List ℕ). Calls (seat_of h.seat.me.0) (seat_of t) (AreEntered entry l (found_in d.states.items l) 0 c.enter-pass.result.1)) c.footprint_of-looked.ensures c.enter-pass.ensures.calls in
-    let call = behind (seat_of c.args.pass.seat.me.0) (seat_of h.seat.me.0) (seat_of t) b.others _
-    (entry_calls s e.states.items d.states.items _ _ c.args.actions.items looks c.args.moment entry d.before.items done found (seat_of h.seat.me.0) (seat_of t) 0 (Err c.in-Err-entered.answer) (subst (λ (z : Result ℕ PutAnswer). Calls (seat_of h.seat.me.0) (seat_of t) (AreEntered entry looks found 0 z)) c.in-Err-entered.is entered)) in
+    let entered = subst (λ (l : List ℕ). Calls (seat_of v.seat.me.0) (seat_of t) (AreEntered entry l (found_in d.states.items l) 0 c.enter-pass.result.1)) c.footprint_of-looked.ensures c.enter-pass.ensures.calls in
+    let call = calls_ahead c.args.pass.seat.me.0 v.seat.me.0 recs (states_of v.cells.items) made.visits (seat_of t) _
+    (entry_calls s e.states.items d.states.items _ _ c.args.actions.items looks c.args.moment entry d.before.items done found (seat_of v.seat.me.0) (seat_of t) 0 (Err c.in-Err-entered.answer) (subst (λ (z : Result ℕ PutAnswer). Calls (seat_of v.seat.me.0) (seat_of t) (AreEntered entry looks found 0 z)) c.in-Err-entered.is entered)) in
     shown_not s c.args.channel c.args.moment c.args.actions.items found (seat_of c.args.pass.seat.me.0) (seat_of t) c.in-Err-entered.answer call
 
 pub returns-in_default-draft_shown-clause-others : goal.returns-in_default-draft_shown-clause-others
 returns-in_default-draft_shown-clause-others g c = c.leave.ensures.others ∙ (c.in-Ok-visit_these.ensures {u = tt}).others
 
 pub returns-in-Ok-entered-clause-others : goal.returns-in-Ok-entered-clause-others
-returns-in-Ok-entered-clause-others g c = c.enter-pass.ensures.others ∙ c.hub-held.ensures.others ∙ (c.in-Ok-visit_these.ensures {u = tt}).others
+returns-in-Ok-entered-clause-others g c = c.enter-pass.ensures.others ∙ (c.in-Ok-visit_these.ensures {u = tt}).others
 
 pub returns-clause-others : goal.returns-clause-others
-returns-clause-others g c = c.enter-pass.ensures.others ∙ c.hub-held.ensures.others ∙ (c.in-Ok-visit_these.ensures {u = tt}).others
+returns-clause-others g c = c.enter-pass.ensures.others ∙ (c.in-Ok-visit_these.ensures {u = tt}).others

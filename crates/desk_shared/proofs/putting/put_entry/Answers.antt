@@ -1,5 +1,4 @@
-use Rattle.std.proofs.Common.{◌≡◌, ◌∙◌, ◌<◌, ℕ, List, [], length, refl, sym, ap, subst}
-use Rattle.rec_kinds.specs.declared.state.RecState.{RecState}
+use Rattle.std.proofs.Common.{◌≡◌, ◌∙◌, ◌<◌, ℕ, [], length, refl, sym, ap, subst}
 use Rattle.std.specs.List.{AllByRecursion}
 use Rattle.std.specs.List.Sorted.{IsStrictlyIncreasing}
 use Rattle.desk_api.specs.Puts.{footprint_by, footprint_with}
@@ -9,17 +8,16 @@ use Rattle.desk_core.proofs.Doing.{stay_driven}
 use Rattle.desk_core.proofs.Listing.{valid_count}
 use Rattle.desk_core.proofs.Ported.{as_many_ports, ported}
 use Rattle.desk_core.specs.Ports.{ports_there, ports_wanted}
-use Rattle.desk_shared.specs.Entries.{AreEntry}
-use Rattle.desk_shared.specs.Exchanges.{AreExchanged}
 use Rattle.desk_shared.specs.Hands.{states_of}
 use Rattle.desk_shared.specs.Records.{seat_of}
-use Rattle.desk_shared.proofs.Behind.{behind, stands_on}
+use Rattle.desk_shared.proofs.Ahead.{calls_ahead, site_ahead, told_ahead, visits_ahead}
+use Rattle.desk_shared.proofs.Behind.{stands_on}
 use Rattle.desk_shared.proofs.Entered.{drafted, entry_calls, none_entered}
 use Rattle.desk_shared.proofs.Footprints.{footprint_within}
 use Rattle.desk_shared.proofs.Handed.{as_taken, left_alone}
 use Rattle.desk_shared.proofs.Listed.{written_count}
 use Rattle.desk_shared.proofs.Returned.{hand_again, ports_and_states, states_again, valid_with}
-use Rattle.desk_shared.proofs.Watched.{hub_behind, same_exchange, site_there}
+use Rattle.desk_shared.proofs.Watched.{same_exchange, site_there}
 use Rattle.desk_shared.proofs.putting.put_entry.Goals as goal
 
 pub visit_these-requires-clause-inside : goal.visit_these-requires-clause-inside
@@ -146,8 +144,8 @@ returns-in_default-draft-clause-stands g c =
     (states_again recs (states_of v.cells.items) (states_of c.exchange.new.hand.items) (states_of c.exchange-in_default-draft.new.hand.items) s.opening e.states.items c.exchange-in_default-draft.new.cells.states.items x y ∙ sym st.furnished.states_are)
     (c.exchange-in_default-draft.ensures.ports ∙ stay ∙ sym st.furnished.ports_are) (c.leave.ensures.own ∙ made.own) _ call
 
-pub enter-requires-clause-drafted : goal.enter-requires-clause-drafted
-enter-requires-clause-drafted g c =
+pub enter-requires-clause-ahead : goal.enter-requires-clause-ahead
+enter-requires-clause-ahead g c =
     let s = c.args.site.now in
     let st = c.requires.stands in
     let recs = c.as_slice-recs.result.now in
@@ -162,13 +160,15 @@ enter-requires-clause-drafted g c =
     let done = c.in-Ok-draft.ensures.drafted in
     let stay : ports_there d.ports.items ≡ ports_wanted s.configs = ported _ s.configs e.ports.items (c.exchange.ensures.ports ∙ st.furnished.ports_are) d.ports.items (stay_driven _ _ entry.drove entry.writes done.done.driven) in
     let long : length d.states.items ≡ length s.opening = ap length done.done.cells_are ∙ written_count e.states.items entry.writes ∙ x.long in
-    let h = c.hub-held.result in
-    let b = hub_behind c.args.pass.seat.me.0 v.seat.me.0 h.seat.me.0 h.hub recs (states_of v.cells.items) made.visits c.hub-held.ensures.taken c.hub-held.ensures.found in
-    let there = site_there c.args.pass.seat.me.0 h.seat.me.0 h.seat.me.0 h.hub _ _ b s st.site_is in
-    let x_there = subst (λ (l : List RecState). AreExchanged recs (states_of v.cells.items) l s.opening e.states.items) (sym (ap states_of c.hub-held.ensures.cells)) x in
     let valid = valid_with c.args.pass.seat.me.0 v.seat.me.0 recs (states_of v.cells.items) (states_of c.exchange.new.hand.items) e.states.items s made.visits st.site_is c.opening_is_valid.ensures x in
-    drafted c.entries_write_inside.ensures.put_gets s c.groups_over_records.ensures h.seat.me.0 h.hub recs (states_of v.cells.items) (states_of h.cells.items) e.states.items d.states.items b.has there x_there valid c.opening_is_valid.ensures many _ _
-    c.args.actions.items [] c.args.moment entry d.before.items done recs_are c.requires.within tt
+    record {
+      taken = states_of v.cells.items;
+      visits = visits_ahead c.args.pass.seat.me.0 v.seat.me.0 recs (states_of v.cells.items) made.visits;
+      drafted = λ w hub b.
+          drafted c.entries_write_inside.ensures.put_gets s c.groups_over_records.ensures w hub recs (states_of v.cells.items) (states_of c.exchange.new.hand.items) e.states.items d.states.items b.has
+          (site_there v.seat.me.0 w w hub recs (states_of v.cells.items) b s (site_ahead c.args.pass.seat.me.0 v.seat.me.0 recs (states_of v.cells.items) made.visits s st.site_is)) x valid c.opening_is_valid.ensures many _ _
+          c.args.actions.items [] c.args.moment entry d.before.items done recs_are c.requires.within tt;
+    }
 
 pub enter-requires-clause-ports : goal.enter-requires-clause-ports
 enter-requires-clause-ports g c =
@@ -186,8 +186,6 @@ enter-requires-clause-ports g c =
     let done = c.in-Ok-draft.ensures.drafted in
     let stay : ports_there d.ports.items ≡ ports_wanted s.configs = ported _ s.configs e.ports.items (c.exchange.ensures.ports ∙ st.furnished.ports_are) d.ports.items (stay_driven _ _ entry.drove entry.writes done.done.driven) in
     let long : length d.states.items ≡ length s.opening = ap length done.done.cells_are ∙ written_count e.states.items entry.writes ∙ x.long in
-    let h = c.hub-held.result in
-    let b = hub_behind c.args.pass.seat.me.0 v.seat.me.0 h.seat.me.0 h.hub recs (states_of v.cells.items) made.visits c.hub-held.ensures.taken c.hub-held.ensures.found in
     as_many_ports s.configs d.ports.items stay ∙ many ∙ sym long
 
 pub returns-clause-stands : goal.returns-clause-stands
@@ -206,13 +204,11 @@ returns-clause-stands g c =
     let done = c.in-Ok-draft.ensures.drafted in
     let stay : ports_there d.ports.items ≡ ports_wanted s.configs = ported _ s.configs e.ports.items (c.exchange.ensures.ports ∙ st.furnished.ports_are) d.ports.items (stay_driven _ _ entry.drove entry.writes done.done.driven) in
     let long : length d.states.items ≡ length s.opening = ap length done.done.cells_are ∙ written_count e.states.items entry.writes ∙ x.long in
-    let h = c.hub-held.result in
-    let b = hub_behind c.args.pass.seat.me.0 v.seat.me.0 h.seat.me.0 h.hub recs (states_of v.cells.items) made.visits c.hub-held.ensures.taken c.hub-held.ensures.found in
     let t = c.enter.result.0.seat.me.0 in
-    let call = behind (seat_of c.args.pass.seat.me.0) (seat_of h.seat.me.0) (seat_of t) b.others _
-    (entry_calls s e.states.items d.states.items _ _ c.args.actions.items [] c.args.moment entry d.before.items done [] (seat_of h.seat.me.0) (seat_of t) c.args.done c.enter.result.1 c.enter.ensures.calls) in
+    let call = calls_ahead c.args.pass.seat.me.0 v.seat.me.0 recs (states_of v.cells.items) made.visits (seat_of t) _
+    (entry_calls s e.states.items d.states.items _ _ c.args.actions.items [] c.args.moment entry d.before.items done [] (seat_of v.seat.me.0) (seat_of t) c.args.done c.enter.result.1 c.enter.ensures.calls) in
     stands_on _ _ s _ _ _ _ _ _ c.args.pass.seat.me.0 t st (c.enter.ensures.states ∙ sym st.furnished.states_are) (c.enter.ensures.ports ∙ stay ∙ sym st.furnished.ports_are)
-    (c.enter.ensures.own ∙ c.hub-held.ensures.own ∙ made.own) _ call
+    (c.enter.ensures.own ∙ made.own) _ call
 
 pub returns-clause-calls : goal.returns-clause-calls
 returns-clause-calls g c =
@@ -230,15 +226,17 @@ returns-clause-calls g c =
     let done = c.in-Ok-draft.ensures.drafted in
     let stay : ports_there d.ports.items ≡ ports_wanted s.configs = ported _ s.configs e.ports.items (c.exchange.ensures.ports ∙ st.furnished.ports_are) d.ports.items (stay_driven _ _ entry.drove entry.writes done.done.driven) in
     let long : length d.states.items ≡ length s.opening = ap length done.done.cells_are ∙ written_count e.states.items entry.writes ∙ x.long in
-    let h = c.hub-held.result in
-    let b = hub_behind c.args.pass.seat.me.0 v.seat.me.0 h.seat.me.0 h.hub recs (states_of v.cells.items) made.visits c.hub-held.ensures.taken c.hub-held.ensures.found in
     let t = c.enter.result.0.seat.me.0 in
-    let call = behind (seat_of c.args.pass.seat.me.0) (seat_of h.seat.me.0) (seat_of t) b.others _
-    (entry_calls s e.states.items d.states.items _ _ c.args.actions.items [] c.args.moment entry d.before.items done [] (seat_of h.seat.me.0) (seat_of t) c.args.done c.enter.result.1 c.enter.ensures.calls) in
+    let call = calls_ahead c.args.pass.seat.me.0 v.seat.me.0 recs (states_of v.cells.items) made.visits (seat_of t) _
+    (entry_calls s e.states.items d.states.items _ _ c.args.actions.items [] c.args.moment entry d.before.items done [] (seat_of v.seat.me.0) (seat_of t) c.args.done c.enter.result.1 c.enter.ensures.calls) in
     call
+
+pub returns-clause-ends : goal.returns-clause-ends
+returns-clause-ends g c =
+    told_ahead c.args.pass.seat.me.0 c.in-Ok-visit_these.visit.seat.me.0 c.as_slice-recs.result.now (states_of c.in-Ok-visit_these.visit.cells.items) (c.in-Ok-visit_these.ensures {u = tt}).visits (seat_of c.enter.result.0.seat.me.0) c.enter.result.1 c.enter.ensures.ends
 
 pub returns-in_default-draft-clause-others : goal.returns-in_default-draft-clause-others
 returns-in_default-draft-clause-others g c = c.leave.ensures.others ∙ (c.in-Ok-visit_these.ensures {u = tt}).others
 
 pub returns-clause-others : goal.returns-clause-others
-returns-clause-others g c = c.enter.ensures.others ∙ c.hub-held.ensures.others ∙ (c.in-Ok-visit_these.ensures {u = tt}).others
+returns-clause-others g c = c.enter.ensures.others ∙ (c.in-Ok-visit_these.ensures {u = tt}).others

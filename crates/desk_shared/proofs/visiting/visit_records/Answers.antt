@@ -1,4 +1,3 @@
-use Rattle.std.proofs.Common.{refl}
 use Rattle.desk_shared.proofs.Handed.{visits_of}
 use Rattle.desk_shared.proofs.Listed.{every_of_all, rises_of}
 use Rattle.desk_shared.proofs.visiting.visit_records.Goals as goal
