@@ -1,14 +1,26 @@
 #!/bin/sh
 # Puts to a record and gets of it by a desk of one session, and by a desk on a pass of a hall; by the same four times as often, so that
-# the history is four times as long; by the same beside 1,000 subscriptions of another record; and by four desks on passes of one hall,
-# in a thread each, on a record each and all on one. Prints how many of them are done in a second, by the best of three runs.
-# It works in a copy of the crates, since a program of this kind is no part of the repository. Needs `rt`, and takes over what was
-# proved of the crates below; the program itself is proved first, which takes ten minutes and more.
+# the history is four times as long; by the same beside 1,000 subscriptions of another record; and by as many desks on passes of one hall
+# as there are processors, in a thread each, on a record each and all on one. Prints how many of them are done in a second, by the best of three runs.
+# Then it prints what as many threads as there are processors do at a bare word (shared.rs).
+# It works in a copy of the crates, since a program of this kind is no part of the repository. Needs `rt` and `rustc`, and takes over what
+# was proved of the crates below; the program itself is proved first, which takes ten minutes and more.
 set -eu
 top=$(cd "$(dirname "$0")/.." && pwd)
 work=$(mktemp -d)
 trap 'rm -rf "$work"' EXIT
 bench=$work/crates/shared_bench
+desks=$(nproc)
+[ "$desks" -ge 2 ] || desks=2
+[ "$desks" -le 64 ] || desks=64
+# the counts of desks into whose halves that of all is split again and again, from the least one on
+counts=
+halve() {
+    case " $counts " in *" $1 "*) return 0 ;; esac
+    [ "$1" -lt 2 ] || { halve $(($1 / 2)); halve $((($1 + 1) / 2)); }
+    counts="$counts $1"
+}
+halve "$desks"
 mkdir -p "$work/crates"
 for name in histories hall_core hall_locks pvd_type pvd_value mon_queue db_text nt_types rec_kinds db_load group_defs rec_fields group_view journal_core mon_shown pva_outside desk_api desk_hub desk_core desk_shared; do
     mkdir -p "$work/crates/$name/out"
@@ -23,7 +35,7 @@ done
 echo 'shared_bench: desk_shared desk_core desk_api hall_locks hall_core mon_shown mon_queue journal_core group_view rec_fields rec_kinds histories nt_types pva_outside pvd_type pvd_value atomic_table' >> "$work/crates.txt"
 cp "$top/HANDLES" "$work/HANDLES"
 git init -q "$work"
-mkdir -p "$bench/proofs" "$bench/proofs/desks/by_four" "$bench/proofs/desks/by_two" "$bench/proofs/desks/no_ports" "$bench/proofs/desks/watched" "$bench/proofs/desks/with_desk_here" "$bench/proofs/rounds/gets" "$bench/proofs/rounds/leaf_of" "$bench/proofs/rounds/put_times" "$bench/src"
+mkdir -p "$bench/proofs" "$bench/proofs/desks/no_ports" "$bench/proofs/desks/watched" "$bench/proofs/desks/with_desk_here" "$bench/proofs/rounds/gets" "$bench/proofs/rounds/leaf_of" "$bench/proofs/rounds/put_times" "$bench/src"
 cat > "$bench/src/desks.rt" <<'RT'
 // Desks of one session, and on passes.
 ghost use Rattle.std.specs.Prelude.{◌≡◌, IfOk, IfSome, IsTrue, is_some, length, true};
@@ -45,17 +57,19 @@ use std::thread::{self, Threads};
 
 /// The records that are put to, and one that is only watched.
 const RECORDS: &str = "\
-record(longout, \"R0\") {} record(longout, \"R1\") {} record(longout, \"R2\") {} record(longout, \"R3\") {}
+RT
+for record in $(seq 0 $((desks - 1))); do echo "record(longout, \\\"R$record\\\") {}"; done >> "$bench/src/desks.rt"
+cat >> "$bench/src/desks.rt" <<'RT'
 record(longout, \"IDLE\") {}
 ";
 
 /// The record of this number.
 fn name_of(record: u8) -> &'static str {
     match record {
-        0 => "R0",
-        1 => "R1",
-        2 => "R2",
-        _ => "R3",
+RT
+for record in $(seq 1 $((desks - 1))); do echo "        $record => \"R$record\","; done >> "$bench/src/desks.rt"
+cat >> "$bench/src/desks.rt" <<'RT'
+        _ => "R0",
     }
 }
 
@@ -223,15 +237,46 @@ pub(crate) fn alone<R: Wait>(rt: &R, alloc: Global, rounds: Rounds, idle: u32) -
     with_desk_here(rt, alloc, &hall, &site, pass, work)
 }
 
-/// Done by two desks, each on a pass of its own, in a thread each.
-fn by_two<R: Threads + Wait + Sync, P: Port + Drop + Send>(
+/// Done by one desk of several.
+fn by_1<R: Wait, P: Port + Drop>(
+    rt: &R,
+    alloc: Global,
+    hall: &Hall<Records<P>>,
+    site: &Site,
+    pass: Pass<Records<P>>,
+    work: Work,
+    _step: u8,
+) -> u32
+    requires site { pass.seat.me.0.seen.base.site ≡ site.now }
+    requires count { hall.now.count ≡ length site.now.names }
+    requires own { pass.seat.table_id ≡ hall.now.table.shared.table_id }
+{
+    with_desk_here(rt, alloc, hall, site, pass, work)
+}
+
+/// The same, done to the record that is so many times so many behind.
+fn behind(work: Work, step: u8, times: u8) -> Work {
+    Work {
+        rounds: work.rounds,
+        record: work.record.wrapping_add(step.wrapping_mul(times)),
+        idle: work.idle,
+    }
+}
+RT
+for count in $counts; do
+    [ "$count" -ge 2 ] || continue
+    less=$((count / 2)) more=$((count - count / 2))
+    cat >> "$bench/src/desks.rt" <<RT
+
+/// Done by $count desks, each on a pass of its own, in a thread each: by the first as told, and by each other to the record so many behind.
+fn by_$count<R: Threads + Wait + Sync, P: Port + Drop + Send>(
     rt: &R,
     alloc: Global,
     hall: &Hall<Records<P>>,
     site: &Site,
     pass: Pass<Records<P>>,
     first: Work,
-    second: Work,
+    step: u8,
 ) -> u32
     requires site { pass.seat.me.0.seen.base.site ≡ site.now }
     requires count { hall.now.count ≡ length site.now.names }
@@ -241,68 +286,61 @@ fn by_two<R: Threads + Wait + Sync, P: Port + Drop + Send>(
     let Ok(two) = hall.split(&mut one) else {
         return 0;
     };
+    let second = behind(first, step, $more);
     let (a, b) = thread::join(
         rt,
         move || -> u32
             requires { (hall.now.count ≡ length site.now.names) × (one.seat.table_id ≡ hall.now.table.shared.table_id) × (one.seat.me.0.seen.base.site ≡ site.now) }
-        { with_desk_here(rt, alloc, hall, site, one, first) },
+        { by_$more(rt, alloc, hall, site, one, first, step) },
         move || -> u32
             requires { (hall.now.count ≡ length site.now.names) × (two.seat.table_id ≡ hall.now.table.shared.table_id) × (two.seat.me.0.seen.base.site ≡ site.now) }
-        { with_desk_here(rt, alloc, hall, site, two, second) },
+        { by_$less(rt, alloc, hall, site, two, second, step) },
     );
     a.saturating_add(b)
 }
+RT
+    mkdir -p "$bench/proofs/desks/by_$count"
+    cat > "$bench/proofs/desks/by_$count/Answers.antt" <<ANTT
+use contract.Lifetimes.{Lfts}
+use denote.Param.{param}
+use denote.Param.Send.{IsSend, IsSync, sendable, param_send, arg_send, shr_send, struct_send, enum_send, recorded_send}
+use Rattle.std.proofs.Crossing.{crosses, send as heap_send}
+use Rattle.hall_locks.proofs.hall.Hall.TheSendSync as hall
+use Rattle.hall_locks.proofs.pass.Pass.TheSendSync as pass
+use Rattle.desk_shared.proofs.records.RecCell.TheSendSync as cell
+use Rattle.desk_shared.proofs.Crossing.{books_send}
+use Rattle.desk_api.proofs.Crossing.{site_sync}
+use Rattle.shared_bench.proofs.desks.Work.TheSendSync as work
+use Rattle.shared_bench.proofs.desks.by_$count.Given.{Over}
+use Rattle.shared_bench.proofs.desks.by_$count.Lts as Lts
+use Rattle.shared_bench.proofs.desks.by_$count.Goals as goal
 
-/// The same by four, which do the same to the records of these numbers.
-fn by_four<R: Threads + Wait + Sync, P: Port + Drop + Send>(
-    rt: &R,
-    alloc: Global,
-    hall: &Hall<Records<P>>,
-    site: &Site,
-    pass: Pass<Records<P>>,
-    rounds: Rounds,
-    records: (u8, u8, u8, u8),
-) -> u32
-    requires site { pass.seat.me.0.seen.base.site ≡ site.now }
-    requires count { hall.now.count ≡ length site.now.names }
-    requires own { pass.seat.table_id ≡ hall.now.table.shared.table_id }
-{
-    let mut one = pass;
-    let Ok(two) = hall.split(&mut one) else {
-        return 0;
-    };
-    let works = (work_on(rounds, records.0), work_on(rounds, records.1), work_on(rounds, records.2), work_on(rounds, records.3));
-    let (a, b) = thread::join(
-        rt,
-        move || -> u32
-            requires { (hall.now.count ≡ length site.now.names) × (one.seat.table_id ≡ hall.now.table.shared.table_id) × (one.seat.me.0.seen.base.site ≡ site.now) }
-        { by_two(rt, alloc, hall, site, one, works.0, works.1) },
-        move || -> u32
-            requires { (hall.now.count ≡ length site.now.names) × (two.seat.table_id ≡ hall.now.table.shared.table_id) × (two.seat.me.0.seen.base.site ≡ site.now) }
-        { by_two(rt, alloc, hall, site, two, works.2, works.3) },
-    );
-    a.saturating_add(b)
-}
+-- What a thread takes along, apart from all that is known where it is made: a search among that takes too many steps.
+sends : (g : Over) (κs : Lfts 12) → IsSync (param 0 g.row.R) → IsSend (param 1 g.row.P) → IsSend (param 1 (Lts.arg-3-1 g.row.R g.row.P g.R.laws g.P.laws g.R.Threads-dict g.R.Wait-dict g.P.Port-dict g.P.Destruct-dict κs))
+sends g κs r p = search (heap_send, pass.the_send, hall.the_sync, cell.the_send, books_send, site_sync, work.the_send, param_send, arg_send, shr_send, struct_send, enum_send, recorded_send) depth 80 fits 20000
 
-fn work_on(rounds: Rounds, record: u8) -> Work {
-    Work {
-        rounds,
-        record,
-        idle: 0,
-    }
-}
+pub join-a-requires-send-F : goal.join-a-requires-send-F
+join-a-requires-send-F g c κs within = sends g κs c.type_bounds.sync-R c.type_bounds.send-P
+ANTT
+done
+cat >> "$bench/src/desks.rt" <<RT
 
-/// Done by four desks on passes of a hall of their own, in a thread each, to the records of these numbers.
+/// Done by all desks on passes of a hall of their own, in a thread each: each to the record so many behind that of the one before.
 pub(crate) fn together<R: Threads + Wait + Sync>(
     rt: &R,
     alloc: Global,
     rounds: Rounds,
-    records: (u8, u8, u8, u8),
+    step: u8,
 ) -> u32 {
     let Some((site, hall, pass)) = opened(alloc) else {
         return 0;
     };
-    by_four(rt, alloc, &hall, &site, pass, rounds, records)
+    let first = Work {
+        rounds,
+        record: 0,
+        idle: 0,
+    };
+    by_$desks(rt, alloc, &hall, &site, pass, first, step)
 }
 RT
 cat > "$bench/src/main.rt" <<'RT'
@@ -333,8 +371,8 @@ enum By {
     One,
     /// The same, beside 1,000 subscriptions of another record.
     Beside,
-    /// Four on passes, in a thread each, on a record each.
-    Four,
+    /// As many as there are processors, on passes, in a thread each, on a record each.
+    Many,
     /// The same, all on one record.
     Crowd,
 }
@@ -344,8 +382,8 @@ fn run<R: Threads + Wait + Sync>(rt: &R, alloc: Global, by: By, rounds: Rounds) 
         By::Solo => solo(alloc, rounds),
         By::One => alone(rt, alloc, rounds, 0),
         By::Beside => alone(rt, alloc, rounds, 1000),
-        By::Four => together(rt, alloc, rounds, (0, 1, 2, 3)),
-        By::Crowd => together(rt, alloc, rounds, (0, 0, 0, 0)),
+        By::Many => together(rt, alloc, rounds, 1),
+        By::Crowd => together(rt, alloc, rounds, 0),
     }
 }
 
@@ -408,13 +446,13 @@ fn main(rt: HostRuntime) -> io::Result<()> {
     line(&rt, "one puts", best(&rt, alloc, By::One, puts)?)?;
     line(&rt, "longer puts", best(&rt, alloc, By::One, longer_puts)?)?;
     line(&rt, "beside puts", best(&rt, alloc, By::Beside, puts)?)?;
-    line(&rt, "four puts", best(&rt, alloc, By::Four, puts)?)?;
+    line(&rt, "many puts", best(&rt, alloc, By::Many, puts)?)?;
     line(&rt, "crowd puts", best(&rt, alloc, By::Crowd, puts)?)?;
     line(&rt, "solo gets", best(&rt, alloc, By::Solo, gets)?)?;
     line(&rt, "one gets", best(&rt, alloc, By::One, gets)?)?;
     line(&rt, "longer gets", best(&rt, alloc, By::One, longer_gets)?)?;
     line(&rt, "beside gets", best(&rt, alloc, By::Beside, gets)?)?;
-    line(&rt, "four gets", best(&rt, alloc, By::Four, gets)?)?;
+    line(&rt, "many gets", best(&rt, alloc, By::Many, gets)?)?;
     line(&rt, "crowd gets", best(&rt, alloc, By::Crowd, gets)?)?;
     Ok(())
 }
@@ -561,50 +599,6 @@ fn get_once<D: Desk>(alloc: Global, desk: &mut D, channel: Channel) -> u32
 RT
 cat > "$bench/proofs/Lib.antt" <<'ANTT'
 ANTT
-cat > "$bench/proofs/desks/by_four/Answers.antt" <<'ANTT'
-use contract.Lifetimes.{Lfts}
-use denote.Param.{param}
-use denote.Param.Send.{IsSend, IsSync, sendable, param_send, arg_send, shr_send, struct_send, enum_send, recorded_send}
-use Rattle.std.proofs.Crossing.{crosses, send as heap_send}
-use Rattle.hall_locks.proofs.hall.Hall.TheSendSync as hall
-use Rattle.hall_locks.proofs.pass.Pass.TheSendSync as pass
-use Rattle.desk_shared.proofs.records.RecCell.TheSendSync as cell
-use Rattle.desk_shared.proofs.Crossing.{books_send}
-use Rattle.desk_api.proofs.Crossing.{site_sync}
-use Rattle.shared_bench.proofs.desks.Work.TheSendSync as work
-use Rattle.shared_bench.proofs.desks.by_four.Given.{Over}
-use Rattle.shared_bench.proofs.desks.by_four.Lts as Lts
-use Rattle.shared_bench.proofs.desks.by_four.Goals as goal
-
--- What a thread takes along, apart from all that is known where it is made: a search among that takes too many steps.
-sends : (g : Over) (κs : Lfts 12) → IsSync (param 0 g.row.R) → IsSend (param 1 g.row.P) → IsSend (param 1 (Lts.arg-3-1 g.row.R g.row.P g.R.laws g.P.laws g.R.Threads-dict g.R.Wait-dict g.P.Port-dict g.P.Destruct-dict κs))
-sends g κs r p = search (heap_send, pass.the_send, hall.the_sync, cell.the_send, books_send, site_sync, work.the_send, param_send, arg_send, shr_send, struct_send, enum_send, recorded_send) depth 80 fits 20000
-
-pub join-a-requires-send-F : goal.join-a-requires-send-F
-join-a-requires-send-F g c κs within = sends g κs c.type_bounds.sync-R c.type_bounds.send-P
-ANTT
-cat > "$bench/proofs/desks/by_two/Answers.antt" <<'ANTT'
-use contract.Lifetimes.{Lfts}
-use denote.Param.{param}
-use denote.Param.Send.{IsSend, IsSync, sendable, param_send, arg_send, shr_send, struct_send, enum_send, recorded_send}
-use Rattle.std.proofs.Crossing.{crosses, send as heap_send}
-use Rattle.hall_locks.proofs.hall.Hall.TheSendSync as hall
-use Rattle.hall_locks.proofs.pass.Pass.TheSendSync as pass
-use Rattle.desk_shared.proofs.records.RecCell.TheSendSync as cell
-use Rattle.desk_shared.proofs.Crossing.{books_send}
-use Rattle.desk_api.proofs.Crossing.{site_sync}
-use Rattle.shared_bench.proofs.desks.Work.TheSendSync as work
-use Rattle.shared_bench.proofs.desks.by_two.Given.{Over}
-use Rattle.shared_bench.proofs.desks.by_two.Lts as Lts
-use Rattle.shared_bench.proofs.desks.by_two.Goals as goal
-
--- What a thread takes along, apart from all that is known where it is made: a search among that takes too many steps.
-sends : (g : Over) (κs : Lfts 12) → IsSync (param 0 g.row.R) → IsSend (param 1 g.row.P) → IsSend (param 1 (Lts.arg-2-1 g.row.R g.row.P g.R.laws g.P.laws g.R.Threads-dict g.R.Wait-dict g.P.Port-dict g.P.Destruct-dict κs))
-sends g κs r p = search (heap_send, pass.the_send, hall.the_sync, cell.the_send, books_send, site_sync, work.the_send, param_send, arg_send, shr_send, struct_send, enum_send, recorded_send) depth 80 fits 20000
-
-pub join-a-requires-send-F : goal.join-a-requires-send-F
-join-a-requires-send-F g c κs within = sends g κs c.type_bounds.sync-R c.type_bounds.send-P
-ANTT
 cat > "$bench/proofs/desks/no_ports/Answers.antt" <<'ANTT'
 use Rattle.std.proofs.Common.{◌≡◌, ◌+◌, ◌≤◌, ◌++◌, ℕ, suc, [], ◌∷◌, length, take, sym, ap, ◌∙◌, arith}
 use Rattle.std.proofs.lemmas.List.{length-map, map-append, take_all}
@@ -724,8 +718,8 @@ invariant-loop g l = (g.D.Desk.seat l.desk).seen.base ≡ (g.D.Desk.seat l.fn.de
 ANTT
 cd "$bench"
 rt run > "$work/told" 2> "$work/log" || { cat "$work/log"; exit 1; }
-awk -v cores="$(nproc)" '
-    function expected(name) { return name == "longer" || name == "four" || name == "crowd" ? 800000 : 200000 }
+awk -v cores="$(nproc)" -v desks="$desks" '
+    function expected(name) { return 200000 * (name == "longer" ? 4 : name == "many" || name == "crowd" ? desks : 1) }
     function told(text, name, beside) {
         printf "  %s: %d, %.0f ns each, %.0f a second, ratio to %s %.2f\n", text, count[name, what], 1e9 / per[name, what], per[name, what], beside == "solo" ? "that" : "one", per[name, what] / per[beside, what]
     }
@@ -741,7 +735,9 @@ awk -v cores="$(nproc)" '
             told("one desk on a pass", "one", "solo")
             told("with four times as many", "longer", "one")
             told("beside 1,000 subscriptions of another record", "beside", "one")
-            told("four desks in threads, on a record each", "four", "one")
-            told("four desks in threads, on one record", "crowd", "one")
+            told(desks " desks in threads, on a record each", "many", "one")
+            told(desks " desks in threads, on one record", "crowd", "one")
         }
     }' "$work/told"
+rustc --edition 2021 -O -o "$work/bare" "$top/bench/shared.rs"
+"$work/bare"

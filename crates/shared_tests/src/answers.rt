@@ -1,9 +1,9 @@
 // What calls of a desk on a pass answer: put-gets, looks at all records, gets of one record after another, and a full history.
 use crate::halls::alone;
 use crate::scenes::{
-    Answer, Doing, both_shown, entered, mask_for, pair, pair_with, put_both, put_number,
+    Answer, Doing, both_shown, entered, pair_in, pair_with, put_both, put_get, put_number,
 };
-use desk_api::{Desk, Done, Moment, PutAnswer, PvValue, RecRow, found_channels};
+use desk_api::{Desk, Done, PutAnswer, RecRow};
 use desk_core::discard;
 use std::alloc::Global;
 use std::test::Fail;
@@ -13,33 +13,12 @@ type PutGot = (Answer, Option<[i32; 2]>);
 
 /// Puts a number to both members of the group, and gets it.
 fn put_get_both<D: Desk>(alloc: Global, desk: &mut D, number: i32, atomic: Option<bool>) -> PutGot {
-    found_channels();
-    let Some(channel) = desk.find("G") else {
-        return (None, None);
-    };
     let Ok(value) = pair_with(alloc, [number, number]) else {
         return (None, None);
     };
-    let told = match mask_for(alloc, desk, channel, &value, &[1, 2]) {
-        Ok(mask) => {
-            told_by(desk.put_get(alloc, channel, &mask, &value, Moment::new(100, 5), atomic))
-        }
-        Err(_) => (None, None),
-    };
+    let (answer, shown) = put_get(alloc, desk, "G", &value, &[1, 2], atomic);
     discard(value);
-    told
-}
-
-/// The same of an answer.
-fn told_by(answer: Result<(Done, PvValue), PutAnswer>) -> PutGot {
-    match answer {
-        Ok((done, value)) => {
-            let shown = pair(&value);
-            discard(value);
-            (Some(Ok(done)), shown)
-        }
-        Err(answer) => (Some(Err(answer)), None),
-    }
+    (answer, pair_in(shown))
 }
 
 /// Put-gets of the group as one entry and as one for each member, and then gets of it in one place and of one record after another.

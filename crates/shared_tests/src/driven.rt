@@ -2,7 +2,7 @@
 ghost use Rattle.std.specs.Prelude.{◌≡◌, ◌<◌};
 
 use crate::halls::{Taking, opened, opened_of, with_desk_here};
-use crate::scenes::{Answer, Doing, entered, got, int, put_number, put_pair};
+use crate::scenes::{Answer, Doing, entered, int, put_and_get, put_pair};
 use desk_api::{Desk, PvValue};
 use desk_core::discard;
 use desk_shared::{Hall, LentPort, Pass, Records};
@@ -32,28 +32,34 @@ fn has_message(value: &PvValue, message: &str) -> bool {
     }
 }
 
-/// Puts this number to A, and gets A, whose alarm is to have this message.
+/// What a record's structure shows, and whether its alarm has this message.
+fn alarmed(shown: Option<PvValue>, message: &str) -> Option<(Row, bool)> {
+    let Some(value) = shown else {
+        return None;
+    };
+    let told = row(&value);
+    let has = has_message(&value, message);
+    discard(value);
+    match told {
+        Some(row) => Some((row, has)),
+        None => None,
+    }
+}
+
+/// Puts this number to A, and gets A, by one call or by two. A's alarm is to have this message.
 #[derive(Drop)]
 struct PutAndGet {
     number: i32,
     message: &'static str,
+    at_once: bool,
 }
 
 impl Doing for PutAndGet {
     type Told = (Answer, Option<(Row, bool)>);
 
     fn with<D: Desk>(&self, alloc: Global, desk: &mut D) -> Self::Told {
-        let answer = put_number(alloc, desk, "A", self.number);
-        let Some(value) = got(alloc, desk, "A", None) else {
-            return (answer, None);
-        };
-        let shown = row(&value);
-        let message = has_message(&value, self.message);
-        discard(value);
-        match shown {
-            Some(row) => (answer, Some((row, message))),
-            None => (answer, None),
-        }
+        let (answer, shown) = put_and_get(alloc, desk, self.number, self.at_once);
+        (answer, alarmed(shown, self.message))
     }
 }
 
@@ -89,8 +95,8 @@ fn driven<R: Wait>(
 /// was driven, and whether with the number last.
 type Put = (Option<(Answer, Option<(Row, bool)>)>, Option<(u64, bool)>);
 
-/// Puts 7 and 8 to A, whose port fails once.
-fn put_twice<R: Wait>(rt: &R, alloc: Global) -> Option<[Put; 2]> {
+/// Puts 7 and 8 to A, whose port fails once, and gets A each time, by the same call or by another.
+fn put_twice<R: Wait>(rt: &R, alloc: Global, at_once: bool) -> Option<[Put; 2]> {
     let Some((site, hall, pass)) = opened(alloc, 1_000_000) else {
         return None;
     };
@@ -100,27 +106,36 @@ fn put_twice<R: Wait>(rt: &R, alloc: Global) -> Option<[Put; 2]> {
     let first = PutAndGet {
         number: 7,
         message: "WRITE",
+        at_once,
     };
     let (pass, seven) = with_desk_here(rt, alloc, &hall, &site, pass, &first);
     let (pass, once) = driven(rt, alloc, &hall, pass, 0, "7");
     let second = PutAndGet {
         number: 8,
         message: "",
+        at_once,
     };
     let (pass, eight) = with_desk_here(rt, alloc, &hall, &site, pass, &second);
     let (_pass, twice) = driven(rt, alloc, &hall, pass, 0, "8");
     Some([(seven, once), (eight, twice)])
 }
 
-#[test]
-fn a_port_is_driven_with_each_put_and_its_fault_is_an_alarm(rt: HostRuntime) -> Result<(), Fail> {
-    let told = put_twice(&rt, rt.alloc());
+/// What both puts are to come to.
+fn seven_and_eight() -> Option<[Put; 2]> {
     let seven = Some((entered(0), Some(([7, 3, 2], true))));
     let eight = Some((entered(1), Some(([8, 0, 0], true))));
-    assert_eq!(rt;
-        told,
-        Some([(seven, Some((1, true))), (eight, Some((2, true)))])
-    );
+    Some([(seven, Some((1, true))), (eight, Some((2, true)))])
+}
+
+#[test]
+fn a_port_is_driven_with_each_put_and_its_fault_is_an_alarm(rt: HostRuntime) -> Result<(), Fail> {
+    assert_eq!(rt; put_twice(&rt, rt.alloc(), false), seven_and_eight());
+    Ok(())
+}
+
+#[test]
+fn a_put_get_drives_the_port_and_shows_what_it_answered(rt: HostRuntime) -> Result<(), Fail> {
+    assert_eq!(rt; put_twice(&rt, rt.alloc(), true), seven_and_eight());
     Ok(())
 }
 

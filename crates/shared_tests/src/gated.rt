@@ -1,7 +1,7 @@
 // A port that waits holds up no other record.
 
 use crate::halls::{Making, in_threads, ports_by, site};
-use crate::scenes::{Answer, Doing, entered, got, int, put_number};
+use crate::scenes::{Answer, Doing, entered, int, put_and_get, put_number};
 use desk_api::{Desk, NoMemory, PvValue};
 use desk_core::discard;
 use desk_shared::open_hall;
@@ -87,26 +87,43 @@ impl Making for Gates {
     }
 }
 
-/// The severity in a record's structure.
-fn severity(value: &PvValue) -> Option<i32> {
-    let alarm = value.members().get(1)?.members();
-    int(alarm.get(0))
+/// The severity in a record's structure, where it is shown.
+fn severity(shown: Option<PvValue>) -> Option<i32> {
+    let Some(value) = shown else {
+        return None;
+    };
+    let alarm = value.members().get(1);
+    let severity = match alarm {
+        Some(alarm) => int(alarm.members().get(0)),
+        None => None,
+    };
+    discard(value);
+    severity
 }
 
-/// Puts 7 to A, and tells A's severity.
-struct PutGated;
+/// A put's answer, and the severity that A shows behind it.
+type Put = (Answer, Option<i32>);
+
+/// Puts 7 and then 8 to A, and gets A each time, by the same call or by another.
+#[derive(Drop)]
+struct PutGated {
+    at_once: bool,
+}
+
+impl PutGated {
+    /// Puts one number.
+    fn put<D: Desk>(&self, alloc: Global, desk: &mut D, number: i32) -> Put {
+        let (answer, shown) = put_and_get(alloc, desk, number, self.at_once);
+        (answer, severity(shown))
+    }
+}
 
 impl Doing for PutGated {
-    type Told = (Answer, Option<i32>);
+    type Told = (Put, Put);
 
     fn with<D: Desk>(&self, alloc: Global, desk: &mut D) -> Self::Told {
-        let answer = put_number(alloc, desk, "A", 7);
-        let Some(value) = got(alloc, desk, "A", None) else {
-            return (answer, None);
-        };
-        let shown = severity(&value);
-        discard(value);
-        (answer, shown)
+        let seven = self.put(alloc, desk, 7);
+        (seven, self.put(alloc, desk, 8))
     }
 }
 
@@ -127,11 +144,11 @@ impl Doing for PutAndOpen {
     }
 }
 
-/// What the two puts tell, and whether their passes met.
-type Told = (Option<(Answer, Option<i32>)>, Option<(bool, bool)>, bool);
+/// What the puts to both records tell, and whether their passes met.
+type Told = (Option<(Put, Put)>, Option<(bool, bool)>, bool);
 
-/// The port of A waits until a put to B was answered, which begins once A's port is driven.
-fn gated_puts<R: Threads + Wait + Sync>(rt: &R, alloc: Global) -> Option<Told> {
+/// The port of A waits until a put to B was answered, which begins once A's port is driven. A is got by the call that puts, or by another.
+fn gated_puts<R: Threads + Wait + Sync>(rt: &R, alloc: Global, at_once: bool) -> Option<Told> {
     let Ok(gates) = Gates::new(alloc) else {
         return None;
     };
@@ -153,16 +170,26 @@ fn gated_puts<R: Threads + Wait + Sync>(rt: &R, alloc: Global) -> Option<Told> {
         &hall,
         &site,
         (one, two),
-        (&PutGated, &PutAndOpen { gates }),
+        (&PutGated { at_once }, &PutAndOpen { gates }),
     );
     let met = hall.meet(&mut one, &mut two).is_ok();
     Some((waited, other, met))
 }
 
+/// What they are to tell: B's put was added first, and the port took both numbers.
+fn both_gated() -> Option<Told> {
+    let waited = ((entered(1), Some(0)), (entered(2), Some(0)));
+    Some((Some(waited), Some((true, true)), true))
+}
+
 #[test]
 fn a_port_that_waits_holds_up_no_other_record(rt: HostRuntime) -> Result<(), Fail> {
-    let told = gated_puts(&rt, rt.alloc());
-    let waited = Some((entered(1), Some(0)));
-    assert_eq!(rt; told, Some((waited, Some((true, true)), true)));
+    assert_eq!(rt; gated_puts(&rt, rt.alloc(), false), both_gated());
+    Ok(())
+}
+
+#[test]
+fn a_port_that_waits_in_a_put_get_holds_up_no_other_record(rt: HostRuntime) -> Result<(), Fail> {
+    assert_eq!(rt; gated_puts(&rt, rt.alloc(), true), both_gated());
     Ok(())
 }

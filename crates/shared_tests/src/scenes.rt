@@ -50,7 +50,7 @@ fn leaves_of(alloc: Global, ty: &PvType, numbers: &[u16]) -> Result<BitSet, NoMe
 }
 
 /// Those of these numbers that are leaves of the channel, where the value is one of it.
-pub(crate) fn mask_for<D: Desk>(
+fn mask_for<D: Desk>(
     alloc: Global,
     desk: &D,
     channel: Channel,
@@ -115,6 +115,69 @@ pub(crate) fn put_number<D: Desk>(alloc: Global, desk: &mut D, name: &str, numbe
     answer
 }
 
+/// Puts leaves of a value at 100 seconds and 5 nanoseconds, and gets the channel by the same call.
+pub(crate) fn put_get<D: Desk>(
+    alloc: Global,
+    desk: &mut D,
+    name: &str,
+    value: &PvValue,
+    numbers: &[u16],
+    atomic: Option<bool>,
+) -> (Answer, Option<PvValue>) {
+    found_channels();
+    let Some(channel) = desk.find(name) else {
+        return (None, None);
+    };
+    match mask_for(alloc, desk, channel, value, numbers) {
+        Ok(mask) => told_by(desk.put_get(
+            alloc,
+            channel,
+            &mask,
+            value,
+            Moment::new(100, 5),
+            atomic,
+        )),
+        Err(_) => (None, None),
+    }
+}
+
+/// What a put-get answers of its put, and what the channel then shows.
+fn told_by(answer: Result<(Done, PvValue), PutAnswer>) -> (Answer, Option<PvValue>) {
+    match answer {
+        Ok((done, value)) => (Some(Ok(done)), Some(value)),
+        Err(answer) => (Some(Err(answer)), None),
+    }
+}
+
+/// Puts a number to A and gets A, by one call or by two.
+pub(crate) fn put_and_get<D: Desk>(
+    alloc: Global,
+    desk: &mut D,
+    number: i32,
+    at_once: bool,
+) -> (Answer, Option<PvValue>) {
+    if at_once {
+        return put_get_number(alloc, desk, "A", number);
+    }
+    let answer = put_number(alloc, desk, "A", number);
+    (answer, got(alloc, desk, "A", None))
+}
+
+/// Puts a number to a record, and gets it by the same call.
+fn put_get_number<D: Desk>(
+    alloc: Global,
+    desk: &mut D,
+    name: &str,
+    number: i32,
+) -> (Answer, Option<PvValue>) {
+    let Ok(value) = value_with(alloc, number) else {
+        return (None, None);
+    };
+    let told = put_get(alloc, desk, name, &value, &[1], None);
+    discard(value);
+    told
+}
+
 /// The group's structure with these numbers in its members.
 pub(crate) fn pair_with(alloc: Global, numbers: [i32; 2]) -> Result<PvValue, NoMemory> {
     Ok(PvValue::Struct(vec![in alloc; PvValue::I32(numbers[0]), PvValue::I32(numbers[1])]?))
@@ -160,8 +223,18 @@ pub(crate) fn int(value: Option<&PvValue>) -> Option<i32> {
     }
 }
 
+/// The numbers of the group's members, where it is shown.
+pub(crate) fn pair_in(shown: Option<PvValue>) -> Option<[i32; 2]> {
+    let Some(value) = shown else {
+        return None;
+    };
+    let pair = pair(&value);
+    discard(value);
+    pair
+}
+
 /// The numbers of the group's members.
-pub(crate) fn pair(group: &PvValue) -> Option<[i32; 2]> {
+fn pair(group: &PvValue) -> Option<[i32; 2]> {
     let members = group.members();
     Some([int(members.get(0))?, int(members.get(1))?])
 }
@@ -172,12 +245,7 @@ pub(crate) fn both_shown<D: Desk>(
     desk: &mut D,
     atomic: Option<bool>,
 ) -> Option<[i32; 2]> {
-    let Some(value) = got(alloc, desk, "G", atomic) else {
-        return None;
-    };
-    let pair = pair(&value);
-    discard(value);
-    pair
+    pair_in(got(alloc, desk, "G", atomic))
 }
 
 /// The leaf of a channel's value, where it may be subscribed to.
