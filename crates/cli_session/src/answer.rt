@@ -147,9 +147,18 @@ fn get_answer(
 {
     let command = Command::Get.byte();
     match turn {
-        Turn::BeginGet => at_beginning(command, sub, status, Answer::Begun(ty)),
-        Turn::Get => at_sub(command, 0x00, sub, status, Answer::Value(part)),
-        _ => wrong(turn, command),
+        Turn::BeginGet => {
+            discard(part);
+            at_beginning(command, sub, status, Answer::Begun(ty))
+        }
+        Turn::Get => {
+            discard(ty);
+            at_sub(command, 0x00, sub, status, Answer::Value(part))
+        }
+        _ => {
+            discard((status, ty, part));
+            wrong(turn, command)
+        }
     }
 }
 
@@ -166,10 +175,22 @@ fn put_answer(
 {
     let command = Command::Put.byte();
     match turn {
-        Turn::BeginPut => at_beginning(command, sub, status, Answer::Begun(ty)),
-        Turn::ReadBack => at_sub(command, 0x40, sub, status, Answer::Present(part)),
-        Turn::Put => at_sub(command, 0x00, sub, status, Answer::Done),
-        _ => wrong(turn, command),
+        Turn::BeginPut => {
+            discard(part);
+            at_beginning(command, sub, status, Answer::Begun(ty))
+        }
+        Turn::ReadBack => {
+            discard(ty);
+            at_sub(command, 0x40, sub, status, Answer::Present(part))
+        }
+        Turn::Put => {
+            discard((ty, part));
+            at_sub(command, 0x00, sub, status, Answer::Done)
+        }
+        _ => {
+            discard((status, ty, part));
+            wrong(turn, command)
+        }
     }
 }
 
@@ -186,9 +207,18 @@ fn put_get_answer(
 {
     let command = Command::PutGet.byte();
     match turn {
-        Turn::BeginPutGet => at_beginning(command, sub, status, Answer::Begun(got)),
-        Turn::PutGet => at_sub(command, 0x00, sub, status, Answer::Value(part)),
-        _ => wrong(turn, command),
+        Turn::BeginPutGet => {
+            discard(part);
+            at_beginning(command, sub, status, Answer::Begun(got))
+        }
+        Turn::PutGet => {
+            discard(got);
+            at_sub(command, 0x00, sub, status, Answer::Value(part))
+        }
+        _ => {
+            discard((status, got, part));
+            wrong(turn, command)
+        }
     }
 }
 
@@ -220,10 +250,19 @@ fn monitor_update_answer(
 {
     let command = Command::Monitor.byte();
     match turn {
-        Turn::BeginMonitor => Err(ClientFault::WrongPhase(command)),
+        Turn::BeginMonitor => {
+            discard(update);
+            Err(ClientFault::WrongPhase(command))
+        }
         Turn::Updates if sub == 0x00 => Ok(Answer::Update(update)),
-        Turn::Updates => Err(ClientFault::WrongPhase(command)),
-        _ => wrong(turn, command),
+        Turn::Updates => {
+            discard(update);
+            Err(ClientFault::WrongPhase(command))
+        }
+        _ => {
+            discard(update);
+            wrong(turn, command)
+        }
     }
 }
 

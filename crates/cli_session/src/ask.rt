@@ -37,6 +37,7 @@ pub enum Operation {
 pub struct Ask {
     /// The channel.
     pub name: Name,
+    /// What is done with it.
     pub operation: Operation,
     /// The paths of the fields that a get, a put-get or a monitor is for, names with dots between them; all
     /// fields where there are none. Of a path 30 names count. An empty name, or more names than a type has

@@ -65,6 +65,17 @@ fn type_for<'a>(own: Option<u32>, ty: &'a Option<PvType>, named: Option<u32>) ->
     }
 }
 
+/// A part in place of one of the same type.
+fn given_over(present: Part, mask: BitSet, value: PvValue) -> Part
+    ensures { result ≡ record present { mask = mask; value = value } }
+{
+    Part {
+        ty: present.ty,
+        mask,
+        value,
+    }
+}
+
 /// What the words of a put give over a present value.
 fn read_words(alloc: Global, words: &[Name], present: Option<Part>) -> Result<Part, ClientFault>
     requires { part_fits (part_view present) ≡ true }
@@ -78,9 +89,8 @@ fn read_words(alloc: Global, words: &[Name], present: Option<Part>) -> Result<Pa
         discard(present);
         return Err(ClientFault::Words(PutText::NoField(0)));
     }
-    let Part { ty, value, .. } = present;
-    let (mask, value) = put_words(alloc, &ty, &value, words)?;
-    Ok(Part { ty, mask, value })
+    let (mask, value) = put_words(alloc, &present.ty, &present.value, words)?;
+    Ok(given_over(present, mask, value))
 }
 
 /// Nothing is told.

@@ -3,6 +3,7 @@ ghost use Rattle.pvd_value.specs.Leaves.{marked_leaves};
 ghost use Rattle.pva_messages.specs.Views.{part_view, update_view, valued_view};
 ghost use Rattle.cli_session.specs.Fitting.{part_fits, update_fits, valued_fits, all_fit};
 ghost use Rattle.cli_session.specs.Seen.{reports_view};
+ghost use Rattle.cli_session.specs.declared.report.Report.TheVariants as reports;
 ghost use Rattle.cli_session.specs.Steps.{value_told, type_told, outcome_told, update_told};
 
 use pva_messages::Part;
@@ -39,19 +40,26 @@ pub(crate) struct Telling {
     pub(crate) finished: bool,
 }
 
+/// A part of a value, of which these leaves changed more than once.
+fn part_report(part: Part, overrun: BitSet) -> Report
+    ensures { result ≡ reports.Part part.ty part.mask overrun part.value }
+{
+    Report::Part {
+        ty: part.ty,
+        mask: part.mask,
+        overrun,
+        value: part.value,
+    }
+}
+
 /// A part of a value, of which nothing changed more than once.
 pub(crate) fn value_report(alloc: Global, part: Option<Part>) -> Option<Report>
     requires { part_fits (part_view part) ≡ true }
     ensures told { reports_view result ≡ value_told (part_view part) }
     ensures fits { all_fit (reports_view result) ≡ true }
 {
-    let Part { ty, mask, value } = part?;
-    Some(Report::Part {
-        ty,
-        mask,
-        overrun: BitSet::new(alloc),
-        value,
-    })
+    let part = part?;
+    Some(part_report(part, BitSet::new(alloc)))
 }
 
 /// The type that was asked for.
@@ -96,10 +104,10 @@ fn within(alloc: Global, ty: &PvType, bits: &BitSet) -> Result<BitSet, NoMemory>
 }
 
 /// The leaves that bits mark, where a structure's bit stands for all its leaves, and a bit outside the type marks none.
-fn leaves_marked(alloc: Global, ty: &PvType, bits: &BitSet) -> Result<BitSet, NoMemory>
-    ensures { IfOk result (λ s. s ≡ marked_leaves ty.now bits.now) }
+fn leaves_marked(alloc: Global, ty: &PvType, bits: BitSet) -> Result<BitSet, NoMemory>
+    ensures { IfOk result (λ s. s ≡ marked_leaves ty.now bits) }
 {
-    let bits = within(alloc, ty, bits)?;
+    let bits = within(alloc, ty, &bits)?;
     match leaves_of(alloc, ty, &bits) {
         Ok(leaves) => Ok(leaves),
         Err(_) => Err(NoMemory),
@@ -118,12 +126,6 @@ pub(crate) fn update_report(
     let Some((part, bits)) = update else {
         return Ok(None);
     };
-    let Part { ty, mask, value } = part;
-    let overrun = leaves_marked(alloc, &ty, &bits)?;
-    Ok(Some(Report::Part {
-        ty,
-        mask,
-        overrun,
-        value,
-    }))
+    let overrun = leaves_marked(alloc, &part.ty, bits)?;
+    Ok(Some(part_report(part, overrun)))
 }

@@ -2,9 +2,10 @@
 ghost use Rattle.std.specs.Prelude.{◌≡◌, ◌∷◌, [], codes, IfOk, true};
 ghost use Rattle.std.specs.Option.{option_copied};
 ghost use Rattle.pvd_type.specs.Numbers.{path_of, path_after};
-ghost use Rattle.pvd_type.specs.Tree.{node, struct, field};
+ghost use Rattle.pvd_type.specs.Tree.{node, leaf, plain, struct, field, no_fields};
 ghost use Rattle.pvd_type.specs.View.{shape_view, member_view, members_view};
-ghost use Rattle.pvd_value.specs.Data.{members, more};
+ghost use Rattle.pvd_type.specs.declared.shape.Scalar.TheVariants as scalars;
+ghost use Rattle.pvd_value.specs.Data.{single, text, members, more, end};
 ghost use Rattle.pvd_value.specs.Fits.{fits_of};
 ghost use Rattle.pvd_value.specs.View.{view, row_view};
 ghost use Rattle.cli_session.specs.Seen.{texts_seen, paths_seen, shape_seen, pair_view};
@@ -149,6 +150,21 @@ fn fields_of(alloc: Global, fields: &[Name]) -> Result<Vec<Member>, NoMemory>
     chosen(alloc, &paths, DEEPEST)
 }
 
+/// A structure of one member.
+fn around(alloc: Global, name: &str, shape: Shape) -> Result<Shape, NoMemory>
+    ensures { IfOk result (λ s. shape_view s ≡ spec.structure (field name.now (shape_view shape) no_fields)) }
+{
+    let member = member(alloc, name, shape)?;
+    structure_of(alloc, "", vec![in alloc; member]?)
+}
+
+/// A structure of two members.
+fn side_by_side(alloc: Global, first: Member, second: Member) -> Result<Shape, NoMemory>
+    ensures { IfOk result (λ s. shape_view s ≡ spec.structure (field (member_view first).0 (member_view first).1 (field (member_view second).0 (member_view second).1 no_fields))) }
+{
+    structure_of(alloc, "", vec![in alloc; first, second]?)
+}
+
 /// A request: the structure of this name with these members and, where there are options, `record`, which has them.
 fn request(
     alloc: Global,
@@ -160,30 +176,54 @@ fn request(
 {
     let fields = structure_of(alloc, "", fields)?;
     let blank = blank_shape(alloc, &fields)?;
-    let fields = member(alloc, root, fields)?;
     if options.is_empty() {
-        let shape = structure_of(alloc, "", vec![in alloc; fields]?)?;
-        return typed(alloc, shape, PvValue::Struct(vec![in alloc; blank]?));
+        return without_options(alloc, root, fields, blank);
     }
-    with_options(alloc, fields, blank, options)
+    with_options(alloc, root, fields, blank, options)
+}
+
+/// A request of a structure of fields, with its value.
+fn without_options(
+    alloc: Global,
+    root: &str,
+    fields: Shape,
+    blank: PvValue,
+) -> Result<(PvType, PvValue), NoMemory>
+    ensures { IfOk result (λ r. pair_view r ≡ (spec.structure (field root.now (shape_view fields) no_fields), members (more (view blank) end))) }
+{
+    let value = PvValue::Struct(vec![in alloc; blank]?);
+    typed(alloc, around(alloc, root, fields)?, value)
 }
 
 /// A request of a structure of fields, with its value, and the structure `record`.
 fn with_options(
     alloc: Global,
-    fields: Member,
+    root: &str,
+    fields: Shape,
     blank: PvValue,
     options: &[Text<'_>],
 ) -> Result<(PvType, PvValue), NoMemory>
-    ensures { IfOk result (λ r. pair_view r ≡ (spec.structure (field (member_view fields).0 (member_view fields).1 (spec.record_fields (texts_seen options.now))), members (more (view blank) (spec.record_row (texts_seen options.now))))) }
+    ensures { IfOk result (λ r. pair_view r ≡ (spec.structure (field root.now (shape_view fields) (spec.record_fields (texts_seen options.now))), members (more (view blank) (spec.record_row (texts_seen options.now))))) }
 {
     let (shape, texts) = texts_of(alloc, options)?;
-    let options = member(alloc, "_options", shape)?;
-    let shape = structure_of(alloc, "", vec![in alloc; options]?)?;
-    let record = member(alloc, "record", shape)?;
-    let shape = structure_of(alloc, "", vec![in alloc; fields, record]?)?;
-    let texts = PvValue::Struct(vec![in alloc; texts]?);
-    typed(alloc, shape, PvValue::Struct(vec![in alloc; blank, texts]?))
+    let value = record_value(alloc, blank, texts)?;
+    typed(alloc, record_shape(alloc, root, fields, shape)?, value)
+}
+
+/// The fields under their name, and beside them `record` around the options.
+fn record_shape(alloc: Global, root: &str, fields: Shape, options: Shape) -> Result<Shape, NoMemory>
+    ensures { IfOk result (λ s. shape_view s ≡ spec.structure (field root.now (shape_view fields) (field (codes "record") (spec.structure (field (codes "_options") (shape_view options) no_fields)) no_fields))) }
+{
+    let record = member(alloc, "record", around(alloc, "_options", options)?)?;
+    side_by_side(alloc, member(alloc, root, fields)?, record)
+}
+
+/// The value of the fields, and beside it that of `record`, where the options have this one.
+fn record_value(alloc: Global, fields: PvValue, options: PvValue) -> Result<PvValue, NoMemory>
+    ensures { IfOk result (λ v. view v ≡ members (more (view fields) (more (members (more (view options) end)) end))) }
+{
+    let options = PvValue::Struct(vec![in alloc; options]?);
+    Ok(PvValue::Struct(vec![in alloc; fields, options]?))
 }
 
 /// The option of a request that is to be atomic, or isn't.
@@ -239,24 +279,34 @@ pub(crate) fn user_of(alloc: Global, user: &str, host: &str) -> Result<(PvType, 
     typed(alloc, shape, value)
 }
 
+/// The structure of an NTURI with this query.
+fn uri_shape(alloc: Global, query: Shape) -> Result<Shape, NoMemory>
+    ensures { IfOk result (λ s. shape_view s ≡ node struct (codes "epics:nt/NTURI:1.0") (field (codes "scheme") (leaf (plain scalars.Text)) (field (codes "path") (leaf (plain scalars.Text)) (field (codes "query") (shape_view query) no_fields)))) }
+{
+    let mut members = Vec::with_capacity(alloc, 3)?;
+    members.push(member(alloc, "scheme", Shape::Plain(Scalar::Text))?)?;
+    members.push(member(alloc, "path", Shape::Plain(Scalar::Text))?)?;
+    members.push(member(alloc, "query", query)?)?;
+    structure_of(alloc, "epics:nt/NTURI:1.0", members)
+}
+
+/// The value of an NTURI with this path and this query.
+fn uri_value(alloc: Global, path: &str, query: PvValue) -> Result<PvValue, NoMemory>
+    ensures { IfOk result (λ v. view v ≡ members (more (single (text (codes "pva"))) (more (single (text path.now)) (more (view query) end)))) }
+{
+    let mut values = Vec::with_capacity(alloc, 3)?;
+    values.push(PvValue::Text(Name::of(alloc, "pva")?))?;
+    values.push(PvValue::Text(Name::of(alloc, path)?))?;
+    values.push(query)?;
+    Ok(PvValue::Struct(values))
+}
+
 /// An NTURI that calls the operation of this name (EPICS Normative Types 1.0, "NTURI").
 pub(crate) fn uri(alloc: Global, path: &str, operation: &str) -> Result<(PvType, PvValue), NoMemory>
     ensures is { IfOk result (λ r. pair_view r ≡ spec.uri path.now operation.now) }
     ensures fits { IfOk result (λ r. fits_of 16 (view r.1) r.0 ≡ true) }
 {
     let (query, texts) = texts_of(alloc, &[("op", operation)])?;
-    let query = member(alloc, "query", query)?;
-    let members = vec![in alloc;
-        member(alloc, "scheme", Shape::Plain(Scalar::Text))?,
-        member(alloc, "path", Shape::Plain(Scalar::Text))?,
-        query,
-    ]?;
-    let shape = structure_of(alloc, "epics:nt/NTURI:1.0", members)?;
-    let scheme = PvValue::Text(Name::of(alloc, "pva")?);
-    let path = PvValue::Text(Name::of(alloc, path)?);
-    typed(
-        alloc,
-        shape,
-        PvValue::Struct(vec![in alloc; scheme, path, texts]?),
-    )
+    let value = uri_value(alloc, path, texts)?;
+    typed(alloc, uri_shape(alloc, query)?, value)
 }

@@ -23,7 +23,7 @@ pub enum PutText {
 }
 
 /// Why one word is refused.
-#[derive(Clone, Copy, Debug, PartialEq, Eq)]
+#[derive(Clone, Copy)]
 pub enum Cause {
     BadNumber,
     OutOfRange,

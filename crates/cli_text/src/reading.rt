@@ -1,11 +1,11 @@
-ghost use Rattle.std.specs.Prelude.{◌≡◌, ◌^◌, pos};
+ghost use Rattle.std.specs.Prelude.{◌≡◌, ◌<◌, ◌≤◌, ◌^◌, pos, true, IfOk};
 ghost use Rattle.std.specs.List.{list_all};
 ghost use Rattle.std.specs.Char.{is_ascii_digit};
 ghost use Rattle.std.specs.Str.Parse.{without_leading_sign};
 ghost use Rattle.pvd_value.specs.Data.{single};
 ghost use Rattle.pvd_value.specs.View.{view, items_view};
 ghost use Rattle.cli_text.specs.Faults.{Gives, Makes};
-ghost use Rattle.cli_text.specs.Words.{leads_with_zero, is_plain, made, read_signed, read_unsigned, read_truth, read_bounded, read_scalar, with_word, place_from, read_choice, within, in_signed};
+ghost use Rattle.cli_text.specs.Words.{leads_with_zero, is_plain, made, read_signed, read_unsigned, read_truth, read_bounded, read_scalar, with_word, place_from, read_choice, within, in_signed, in_unsigned};
 
 use crate::fault::Cause;
 use pvd_type::{Name, Scalar};
@@ -59,84 +59,106 @@ fn read_number(text: &str) -> Result<i128, Cause>
     }
 }
 
+/// Whether a number is one of a signed type, whose numbers reach from `-half` to `half - 1`.
+fn is_signed(half: u128, number: i128) -> bool
+    ensures { result ≡ in_signed half number }
+{
+    if number < 0 {
+        return number.unsigned_abs() <= half;
+    }
+    number.unsigned_abs() < half
+}
+
+/// Whether a number is one of an unsigned type, whose numbers are below this bound.
+fn is_unsigned(bound: u128, number: i128) -> bool
+    ensures { result ≡ in_unsigned bound number }
+{
+    if number < 0 {
+        return false;
+    }
+    number.unsigned_abs() < bound
+}
+
+/// The number of such a signed type that a word spells.
+fn read_signed(half: u128, text: &str) -> Result<i128, Cause>
+    requires { half ≤ 2 ^ 127 }
+    ensures number { Gives (λ x. x) result (read_signed half text.now) }
+    ensures within { IfOk result (λ z. in_signed half z ≡ true) }
+{
+    let number = read_number(text)?;
+    if !is_signed(half, number) {
+        return Err(Cause::OutOfRange);
+    }
+    Ok(number)
+}
+
+/// The number of such an unsigned type that a word spells.
+fn read_unsigned(bound: u128, text: &str) -> Result<u128, Cause>
+    requires { bound ≤ 2 ^ 127 }
+    ensures number { Gives (λ x. x) result (read_unsigned bound text.now) }
+    ensures within { IfOk result (λ n. n < bound) }
+{
+    let number = read_number(text)?;
+    if !is_unsigned(bound, number) {
+        return Err(Cause::OutOfRange);
+    }
+    Ok(number.unsigned_abs())
+}
+
 /// A word as a `byte`.
 fn read_i8(text: &str) -> Result<i8, Cause>
     ensures { Gives (λ x. x) result (read_signed (2 ^ 7) text.now) }
 {
-    match i8::try_from(read_number(text)?) {
-        Ok(number) => Ok(number),
-        Err(_) => Err(Cause::OutOfRange),
-    }
+    Ok(read_signed(0x80, text)? as i8)
 }
 
 /// A word as a `short`.
 fn read_i16(text: &str) -> Result<i16, Cause>
     ensures { Gives (λ x. x) result (read_signed (2 ^ 15) text.now) }
 {
-    match i16::try_from(read_number(text)?) {
-        Ok(number) => Ok(number),
-        Err(_) => Err(Cause::OutOfRange),
-    }
+    Ok(read_signed(0x8000, text)? as i16)
 }
 
 /// A word as an `int`.
 fn read_i32(text: &str) -> Result<i32, Cause>
     ensures { Gives (λ x. x) result (read_signed (2 ^ 31) text.now) }
 {
-    match i32::try_from(read_number(text)?) {
-        Ok(number) => Ok(number),
-        Err(_) => Err(Cause::OutOfRange),
-    }
+    Ok(read_signed(0x8000_0000, text)? as i32)
 }
 
 /// A word as a `long`.
 fn read_i64(text: &str) -> Result<i64, Cause>
     ensures { Gives (λ x. x) result (read_signed (2 ^ 63) text.now) }
 {
-    match i64::try_from(read_number(text)?) {
-        Ok(number) => Ok(number),
-        Err(_) => Err(Cause::OutOfRange),
-    }
+    Ok(read_signed(0x8000_0000_0000_0000, text)? as i64)
 }
 
 /// A word as a `ubyte`.
 fn read_u8(text: &str) -> Result<u8, Cause>
     ensures { Gives (λ x. x) result (read_unsigned (2 ^ 8) text.now) }
 {
-    match u8::try_from(read_number(text)?) {
-        Ok(number) => Ok(number),
-        Err(_) => Err(Cause::OutOfRange),
-    }
+    Ok(read_unsigned(0x100, text)? as u8)
 }
 
 /// A word as a `ushort`.
 fn read_u16(text: &str) -> Result<u16, Cause>
     ensures { Gives (λ x. x) result (read_unsigned (2 ^ 16) text.now) }
 {
-    match u16::try_from(read_number(text)?) {
-        Ok(number) => Ok(number),
-        Err(_) => Err(Cause::OutOfRange),
-    }
+    Ok(read_unsigned(0x1_0000, text)? as u16)
 }
 
 /// A word as a `uint`.
 fn read_u32(text: &str) -> Result<u32, Cause>
     ensures { Gives (λ x. x) result (read_unsigned (2 ^ 32) text.now) }
 {
-    match u32::try_from(read_number(text)?) {
-        Ok(number) => Ok(number),
-        Err(_) => Err(Cause::OutOfRange),
-    }
+    Ok(read_unsigned(0x1_0000_0000, text)? as u32)
 }
 
 /// A word as a `ulong`.
 fn read_u64(text: &str) -> Result<u64, Cause>
     ensures { Gives (λ x. x) result (read_unsigned (2 ^ 64) text.now) }
 {
-    match u64::try_from(read_number(text)?) {
-        Ok(number) => Ok(number),
-        Err(_) => Err(Cause::OutOfRange),
-    }
+    Ok(read_unsigned(0x1_0000_0000_0000_0000, text)? as u64)
 }
 
 /// A word as a boolean.

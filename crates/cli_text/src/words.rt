@@ -21,7 +21,7 @@ struct Target<'a> {
 }
 
 /// Where the words of a put go.
-#[derive(Clone, Copy, Debug, PartialEq, Eq)]
+#[derive(Clone, Copy)]
 pub enum Way {
     /// Each word `PATH=TEXT` to the leaf with its path.
     Paths,

@@ -19,5 +19,9 @@ pub use laws::{
     monitors_have_one_subscription, monitors_print_updates, the_text_is_that_of_the_marks,
 };
 pub use program::run;
+pub use rounds::{Limits, exchange};
 pub use stop::{End, Ending, Status, Stop, status_of, status_of_stop};
-pub use words::{MOST, TURNS, WordsStop, ask_in, count_of, given, macros_in, matches_of, stop_of};
+pub use words::{
+    Asked, MOST, TURNS, WordsStop, ask_in, count_of, given, macros_in, matches_of, read_words,
+    stop_of,
+};

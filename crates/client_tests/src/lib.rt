@@ -1,16 +1,8 @@
-//! Tests of a client: what it prints and reads of words, whole dialogues in bytes, and how servers are searched for and answer. They
-//! stand above their crates, so that each of these is proved once.
+//! Tests of how servers are searched for and answer. They stand above their crates, so that each of these is proved once; what a client
+//! does with the bytes of servers are cases of `client_cases`.
 #![tactic(auto)]
 
-#[cfg(test)]
-mod bytes;
-#[cfg(test)]
-mod clients;
-#[cfg(test)]
-mod printing;
 #[cfg(test)]
 mod rounds;
 #[cfg(test)]
 mod searches;
-#[cfg(test)]
-mod sessions;

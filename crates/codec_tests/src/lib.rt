@@ -1,5 +1,5 @@
-//! Tests of what stands on the wire across crates: descriptions that use a cached type, values of the greatest depth, and how
-//! much memory a read may take.
+//! Tests of what stands on the wire that no program shows: numbers by themselves, descriptions that use a cached type, values of the
+//! greatest depth, how much memory a read may take, and messages that are lent or made in place.
 #![tactic(auto)]
 
 #[cfg(test)]
@@ -7,4 +7,10 @@ mod depth;
 #[cfg(test)]
 mod descriptions;
 #[cfg(test)]
+mod frames;
+#[cfg(test)]
 mod memory;
+#[cfg(test)]
+mod messages;
+#[cfg(test)]
+mod numbers;

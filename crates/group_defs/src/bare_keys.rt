@@ -8,7 +8,7 @@ use pvd_type::NoMemory;
 use std::alloc::Global;
 
 /// Where a byte of JSON stands.
-#[derive(Clone, Copy, Debug, PartialEq, Eq)]
+#[derive(Clone, Copy)]
 pub(crate) enum Within {
     /// Neither in quotes nor in a bare word.
     Elsewhere,

@@ -55,11 +55,18 @@ fn has_lost(alloc: Global, names: &IndexSet<&[u8]>, members: &[Member]) -> Resul
     Ok(false)
 }
 
+/// Whether two runs of bytes are the same.
+fn is_same(bytes: &[u8], other: &[u8]) -> bool
+    ensures { result ≡ bytes_eq bytes.now other.now }
+{
+    bytes == other
+}
+
 /// Whether nothing, `.VAL` or `.DESC` stands behind a record's name.
 fn is_ending(rest: &[u8]) -> bool
     ensures { result ≡ is_ending rest.now }
 {
-    rest.is_empty() || rest == b".VAL".as_slice() || rest == b".DESC".as_slice()
+    rest.is_empty() || is_same(rest, b".VAL") || is_same(rest, b".DESC")
 }
 
 /// Whether a record, its `.VAL` or its `.DESC` has this name.

@@ -27,7 +27,7 @@ pub enum GroupFault {
 }
 
 /// Why the text of one record can't be read on.
-#[derive(Clone, Copy, Debug, PartialEq, Eq)]
+#[derive(Clone, Copy)]
 pub(crate) enum Stop {
     BadJson,
     UnknownKey,

@@ -21,6 +21,3 @@ mod triggers;
 pub use def::{GroupDef, MemberDef, MemberKind};
 pub use fault::GroupFault;
 pub use reading::read_groups;
-
-#[cfg(test)]
-mod tests;

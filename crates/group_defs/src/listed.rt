@@ -11,14 +11,14 @@ use rec_kinds::Items;
 use std::alloc::Global;
 
 /// A member of a group, by its name.
-#[derive(Debug, Drop)]
+#[derive(Drop)]
 pub(crate) struct Member {
     pub name: Name,
     pub text: MemberText,
 }
 
 /// A group.
-#[derive(Debug, Drop)]
+#[derive(Drop)]
 pub(crate) struct Group {
     pub name: Name,
     pub id: Name,

@@ -3,7 +3,7 @@ use crate::def::MemberKind;
 use pvd_type::Name;
 
 /// A member as the text of its record states it.
-#[derive(Debug, Drop)]
+#[derive(Drop)]
 pub(crate) struct MemberText {
     pub kind: MemberKind,
     pub rec: Option<u32>,
@@ -13,7 +13,7 @@ pub(crate) struct MemberText {
 }
 
 /// What a key of a group's object says.
-#[derive(Debug, Drop)]
+#[derive(Drop)]
 pub(crate) enum Said {
     Id(Name),
     Atomic(bool),

@@ -27,8 +27,3 @@ pub use laws::{
     valid_states_are_ready, value_reads_footprint, value_reads_records,
 };
 pub use rec_fields::FieldAnswer;
-
-#[cfg(test)]
-mod part_tests;
-#[cfg(test)]
-mod tests;

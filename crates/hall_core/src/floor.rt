@@ -1,5 +1,5 @@
 //! The floor: cells, a hub, and actors that take them and give them back.
-ghost use Rattle.std.specs.Prelude.{◌≡◌, ◌↔◌, ◌^◌, ◌<◌, [], Bool, Some, length, slice_get, IfOk, IsTrue};
+ghost use Rattle.std.specs.Prelude.{◌≡◌, ◌↔◌, ◌^◌, ◌<◌, [], Bool, None, Some, length, slice_get, IfOk, IsTrue};
 ghost use Rattle.histories.specs.History.{Every};
 ghost use Rattle.hall_core.specs.Floor.{opened_with, written, HoldsNoneFrom, HoldsOneFrom, Shows, IsSound, take_cell, take_hub, commit, look, give_cell, event_of, IsReady, Steps, FloorState};
 
@@ -104,9 +104,9 @@ impl<T: Law> Floor<T> {
         if self.hub_holder == Some(actor) || holds_from(self.holders.as_slice(), actor, cell) {
             return false;
         }
-        let Some(None) = self.holders.get(cell) else {
+        if !is_free(self.holders.as_slice(), cell) {
             return false;
-        };
+        }
         self.holders[cell] = Some(actor);
         true
     }
@@ -165,6 +165,16 @@ fn holds(holders: &[Option<u32>], actor: u32, cell: usize) -> bool
 {
     match holders.get(cell) {
         Some(holder) => *holder == Some(actor),
+        None => false,
+    }
+}
+
+/// Whether nobody holds the cell.
+fn is_free(holders: &[Option<u32>], cell: usize) -> bool
+    ensures { IsTrue result ↔ (slice_get holders.now cell ≡ Some None) }
+{
+    match holders.get(cell) {
+        Some(holder) => holder.is_none(),
         None => false,
     }
 }

@@ -9,7 +9,7 @@ ghost use Rattle.mon_queue.specs.Merged.{told_with, told_more};
 ghost use Rattle.mon_queue.specs.Told.{posted_by, told_by, are_leaves, IsPostOf, is_update_of, are_updates_of, IsUpdateOf};
 ghost use Rattle.mon_queue.specs.Unread.{type_of, size_of, unread, Holds, StandsFor, prepared_post, IsReadyFor};
 
-use crate::joining::{first_update, joined, sets_with};
+use crate::joining::{discard, first_update, joined, sets_with};
 use crate::queue::MonQueue;
 use crate::update::{Post, Prepared, Update};
 use circular_buffer::HeapCircularBuffer;
@@ -64,7 +64,7 @@ impl MonQueue {
                 overrun,
             }),
             Err(no_memory) => {
-                discard_post(post);
+                discard(post);
                 Err(no_memory)
             }
         }
@@ -127,6 +127,15 @@ fn take_oldest(ring: &mut HeapCircularBuffer<Update>) -> Option<Update>
     ring.pop_front()
 }
 
+/// The last update leaves the ring.
+fn take_newest(ring: &mut HeapCircularBuffer<Update>) -> Update
+    requires { 1 ≤ length ring.old.items }
+    ensures last { last_item ring.old.items ≡ Some result }
+    ensures rest { ring.new ≡ buffer (take (length ring.old.items - 1) ring.old.items) ring.old.capacity }
+{
+    ring.pop_back().unwrap()
+}
+
 /// One more update, for which there is room.
 #[inline(always)]
 fn append(ring: &mut HeapCircularBuffer<Update>, update: Update)
@@ -155,14 +164,6 @@ fn join_newest(
     ensures updates { are_updates_of ty.now ring.new.items ≡ true }
     ensures told { (newest : Update) → last_item ring.old.items ≡ Some newest → map (told_by ty.now) ring.new.items ≡ map (told_by ty.now) (take (length ring.old.items - 1) ring.old.items) ++ told_more (told_by ty.now newest) (posted_by ty.now post) ∷ [] }
 {
-    let Some(newest) = ring.pop_back() else {
-        return;
-    };
+    let newest = take_newest(ring);
     append(ring, joined(ty, newest, post, changed, overrun));
 }
-
-/// Lets a post go.
-fn discard_post(_post: Post) {}
-
-/// Lets an update go.
-fn discard(_update: Option<Update>) {}

@@ -5,7 +5,7 @@ ghost use Rattle.mon_queue.specs.Merged.{told_more};
 
 use crate::update::{Post, Update};
 use pvd_type::{BitSet, NoMemory, PvType};
-use pvd_value::{PvValue, take_leaves};
+use pvd_value::take_leaves;
 use std::alloc::Global;
 
 /// The update of one post.
@@ -21,6 +21,25 @@ pub(crate) fn first_update(alloc: Global, post: Post) -> Update
     }
 }
 
+/// The changed leaves of an update that takes a post with this mask.
+fn changed_with(alloc: Global, newest: &Update, mask: &BitSet) -> Result<BitSet, NoMemory>
+    ensures { IfOk result (λ s. s ≡ set.union newest.now.changed mask.now) }
+{
+    let mut changed = newest.changed.clone_in(alloc)?;
+    changed.union(mask)?;
+    Ok(changed)
+}
+
+/// The overrun leaves of an update that takes a post with this mask.
+fn overrun_with(alloc: Global, newest: &Update, mask: &BitSet) -> Result<BitSet, NoMemory>
+    ensures { IfOk result (λ s. s ≡ set.union (set.intersection mask.now newest.now.changed) newest.now.overrun) }
+{
+    let mut overrun = mask.clone_in(alloc)?;
+    overrun.meet(&newest.changed);
+    overrun.union(&newest.overrun)?;
+    Ok(overrun)
+}
+
 /// The changed and the overrun leaves of an update that takes a post with this mask.
 pub(crate) fn sets_with(
     alloc: Global,
@@ -30,11 +49,8 @@ pub(crate) fn sets_with(
     ensures changed { IfOk result (λ p. p.0 ≡ set.union newest.now.changed mask.now) }
     ensures overrun { IfOk result (λ p. p.1 ≡ set.union (set.intersection mask.now newest.now.changed) newest.now.overrun) }
 {
-    let mut changed = newest.changed.clone_in(alloc)?;
-    changed.union(mask)?;
-    let mut overrun = mask.clone_in(alloc)?;
-    overrun.meet(&newest.changed);
-    overrun.union(&newest.overrun)?;
+    let changed = changed_with(alloc, newest, mask)?;
+    let overrun = overrun_with(alloc, newest, mask)?;
     Ok((changed, overrun))
 }
 
@@ -64,5 +80,5 @@ pub(crate) fn joined(
     }
 }
 
-/// Lets a value go.
-fn discard(_value: PvValue) {}
+/// Lets a value go in a function of its own, since its parts would else be let go one by one in the caller's proof.
+pub(crate) fn discard<T: Drop>(_value: T) {}

@@ -118,8 +118,8 @@ impl<C: Copy> Watching<C> {
     }
 }
 
-/// Lets a value go.
-pub(crate) fn discard(_value: PvValue) {}
+/// Lets a value go in a function of its own, since its parts would else be let go one by one in the caller's proof.
+pub(crate) fn discard<T: Drop>(_value: T) {}
 
 /// Copies of a set and a value.
 fn copies(alloc: Global, mask: &BitSet, value: &PvValue) -> Result<(BitSet, PvValue), NoMemory>

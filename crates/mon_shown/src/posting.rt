@@ -6,6 +6,7 @@ ghost use Rattle.mon_shown.specs.Keeping.{channel_of, IsOf, anew_of};
 ghost use Rattle.mon_shown.specs.Readies.{found_for};
 ghost use Rattle.mon_shown.specs.Slots.{slot_of, slot_in, Stand, SlotMay, SlotReady, SlotTook, AreReady, MayTakeAll, TookAll};
 
+use crate::entering::discard;
 use crate::subscriptions::{Readied, Subscriptions};
 use crate::views::Views;
 use crate::watching::{Ready, Watching};
@@ -145,14 +146,13 @@ fn take_at<C: Copy>(slots: &mut Vec<Option<Watching<C>>>, at: usize, ready: Read
     take_slot(&mut slots[at], ready);
 }
 
-/// Lets what was made ready go.
-fn discard(_ready: Ready) {}
-
+/// Takes in what was made ready for the subscription of a slot, if there is one.
 fn take_slot<C: Copy>(slot: &mut Option<Watching<C>>, ready: Ready)
     requires { SlotMay slot.old (Some ready) }
     ensures { SlotTook slot.old (Some ready) slot.new }
 {
-    if let Some(watching) = slot {
-        watching.take(ready);
+    match slot {
+        Some(watching) => watching.take(ready),
+        None => discard(ready),
     }
 }

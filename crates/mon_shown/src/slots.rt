@@ -8,6 +8,7 @@ ghost use Rattle.mon_shown.specs.Noting.{names, wants, OthersStay};
 ghost use Rattle.mon_shown.specs.Slots.{slot_of, slot_in, is_filled, Stand, OtherSlotsStay, SlotsStay, SlotPopped, IsFirstFree};
 ghost use Rattle.mon_shown.specs.Answers.{IsCause};
 
+use crate::entering::discard;
 use crate::index::Index;
 use crate::subscriptions::{LIMIT, Subscriptions};
 use crate::views::Views;
@@ -94,7 +95,10 @@ impl<C: Copy> Subscriptions<C> {
         ensures err { OnErr result (SlotsStay self.old self.new) }
         ensures stand { Stand (V.has views.now) (V.shows views.now) self.new }
     {
-        make_room(&mut self.slots, slot as usize)?;
+        let Ok(()) = make_room(&mut self.slots, slot as usize) else {
+            discard(watching);
+            return Err(NoMemory);
+        };
         let channel = watching.channel;
         match note(
             &mut self.index,
@@ -142,9 +146,6 @@ impl<C: Copy> Subscriptions<C> {
     }
 }
 
-/// Lets a subscription go.
-fn discard<C: Copy>(_watching: Watching<C>) {}
-
 /// Makes a place for the slot.
 fn make_room<C: Copy>(slots: &mut Vec<Option<Watching<C>>>, slot: usize) -> Result<(), NoMemory>
     requires { (slot ≤ length slots.old.items) × (slot < 1024) }
@@ -172,7 +173,7 @@ fn put_at<C: Copy>(slots: &mut Vec<Option<Watching<C>>>, at: usize, watching: Wa
 fn put<C: Copy>(slot: &mut Option<Watching<C>>, watching: Watching<C>)
     ensures { slot.new ≡ Some watching }
 {
-    *slot = Some(watching);
+    discard(std::mem::replace(slot, Some(watching)));
 }
 
 /// Empties a place.

@@ -9,30 +9,18 @@ use std::alloc::Global;
 /// Lets a value go in a function of its own, since its many variants would else be let go one by one in the caller's proof.
 pub fn discard<T: Drop>(_value: T) {}
 
-/// A member of a structure.
-pub fn member(alloc: Global, name: &str, shape: Shape) -> Result<Member, NoMemory> {
-    match Name::of(alloc, name) {
-        Ok(name) => Ok(Member { name, shape }),
-        Err(stop) => {
-            discard(shape);
-            Err(stop)
-        }
-    }
-}
-
-/// A structure of these members, without an id.
-pub fn structure_of(alloc: Global, members: Vec<Member>) -> Result<Shape, NoMemory> {
-    let id = Name::of(alloc, "")?;
-    Ok(Shape::Struct(Node::of(alloc, id, members)?))
-}
-
 /// A structure of ints with these names.
 pub fn ints_named(alloc: Global, names: &[&str]) -> Result<Shape, NoMemory> {
     let mut members = Vec::new(alloc);
     for name in names {
-        members.push(member(alloc, name, Shape::Plain(Scalar::I32))?)?;
+        let name = Name::of(alloc, name)?;
+        members.push(Member {
+            name,
+            shape: Shape::Plain(Scalar::I32),
+        })?;
     }
-    structure_of(alloc, members)
+    let id = Name::of(alloc, "")?;
+    Ok(Shape::Struct(Node::of(alloc, id, members)?))
 }
 
 /// The set of these numbers.
@@ -51,16 +39,6 @@ pub fn leaves_of(alloc: Global, ty: &PvType, numbers: &[u16]) -> Result<BitSet, 
     let mut mask = ty.leaves(alloc)?;
     mask.meet(&bits(alloc, numbers)?);
     Ok(mask)
-}
-
-/// Whether a set has these numbers below 32.
-pub fn has(set: &BitSet, numbers: &[u16]) -> bool {
-    for number in 0..32u16 {
-        if set.contains(u32::from(number)) != numbers.contains(&number) {
-            return false;
-        }
-    }
-    true
 }
 
 /// The int under a number.

@@ -1,5 +1,5 @@
-//! Tests of monitors and of the tables of a connection: windows, queues, what subscriptions are shown, channels and requests. They
-//! stand above their crates, so that each of these is proved once.
+//! Tests of queues of updates and of the tables of a connection: what no dialogue of a client shows of them. They stand above their
+//! crates, so that each of these is proved once.
 #![tactic(auto)]
 
 #[cfg(test)]
@@ -7,8 +7,4 @@ mod leaves;
 #[cfg(test)]
 mod queues;
 #[cfg(test)]
-mod shown;
-#[cfg(test)]
 mod tables;
-#[cfg(test)]
-mod windows;

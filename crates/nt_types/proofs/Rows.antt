@@ -1,18 +1,14 @@
 -- Members made one by one, and structures with another number of members.
 use Rattle.std.proofs.Common.{◌≡◌, ℕ, ◌+◌, ◌<◌, false, List, [], ◌∷◌, ◌++◌, length, take, get_or, refl, ap, sym, ◌∙◌}
 use Rattle.std.proofs.lemmas.List.{take_more}
-use Rattle.pvd_type.specs.Tree.{Tree, node, struct, Fields, no_fields, field}
+use Rattle.pvd_type.specs.Tree.{Tree, node, struct, field}
 use Rattle.pvd_type.specs.View.{member_view, members_view}
 use Rattle.pvd_type.specs.declared.shape.Member.{Member}
 use Rattle.pvd_type.specs.declared.shape.Scalar.{Scalar}
 use Rattle.nt_types.specs.Kinds.{is_choice}
-use Rattle.nt_types.specs.Types.{fields_by}
+use Rattle.nt_types.specs.Types.{at_end, fields_by}
 
-abbrev at_end : Fields → List ℕ × Tree → Fields
-at_end no_fields m = field m.0 m.1 no_fields
-at_end (field name t fs) m = field name t (at_end fs m)
-
-members_more : (ms : List Member) (m : Member) → members_view (ms ++ m ∷ []) ≡ at_end (members_view ms) (member_view m)
+pub members_more : (ms : List Member) (m : Member) → members_view (ms ++ m ∷ []) ≡ at_end (members_view ms) (member_view m)
 members_more [] m = refl
 members_more (x ∷ ms) m = ap (field (member_view x).0 (member_view x).1) (members_more ms m)
 

@@ -46,6 +46,11 @@ scalar_array_tree s = with_meta (codes "epics:nt/NTScalarArray:1.0") (list_of s)
 abbrev pub enum_tree : Tree
 enum_tree = with_meta (codes "epics:nt/NTEnum:1.0") enum_value
 
+-- fields with a member more behind them
+abbrev pub at_end : Fields → List ℕ × Tree → Fields
+at_end no_fields m = field m.0 m.1 no_fields
+at_end (field name t fs) m = field name t (at_end fs m)
+
 -- a member for each name, of a shape for its scalar
 abbrev pub fields_by : (Scalar → Tree) → List (List ℕ × Scalar) → Fields
 fields_by shape [] = no_fields

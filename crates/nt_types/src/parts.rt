@@ -1,8 +1,8 @@
 // The shapes that Normative Types are made of.
 ghost use Rattle.std.specs.Prelude.{◌≡◌, IfOk};
-ghost use Rattle.pvd_type.specs.Tree.{node, struct, field, no_fields};
+ghost use Rattle.pvd_type.specs.Tree.{node, struct};
 ghost use Rattle.pvd_type.specs.View.{shape_view, member_view, members_view};
-ghost use Rattle.nt_types.specs.Types.{alarm_tree, time_tree, enum_value, with_meta, fields_by, list_of, scalar};
+ghost use Rattle.nt_types.specs.Types.{alarm_tree, time_tree, enum_value, with_meta, at_end, fields_by, list_of, scalar};
 
 use pvd_type::{Extent, Member, Name, NoMemory, Node, Scalar, Shape};
 use std::alloc::Global;
@@ -15,6 +15,20 @@ pub(crate) fn member(alloc: Global, name: &str, shape: Shape) -> Result<Member, 
         name: Name::of(alloc, name)?,
         shape,
     })
+}
+
+/// Members, and one more behind them.
+pub(crate) fn with_member(
+    alloc: Global,
+    members: Vec<Member>,
+    name: &str,
+    shape: Shape,
+) -> Result<Vec<Member>, NoMemory>
+    ensures { IfOk result (λ ms. members_view ms.items ≡ at_end (members_view members.items) (name.now, shape_view shape)) }
+{
+    let mut members = members;
+    members.push(member(alloc, name, shape)?)?;
+    Ok(members)
 }
 
 /// A structure.
@@ -36,60 +50,49 @@ pub(crate) fn list(scalar: Scalar) -> Shape
 pub fn alarm(alloc: Global) -> Result<Shape, NoMemory>
     ensures { IfOk result (λ s. shape_view s ≡ alarm_tree) }
 {
-    let severity = member(alloc, "severity", Shape::Plain(Scalar::I32))?;
-    let status = member(alloc, "status", Shape::Plain(Scalar::I32))?;
-    let message = member(alloc, "message", Shape::Plain(Scalar::Text))?;
-    structure(alloc, "alarm_t", three(alloc, severity, status, message)?)
+    let members = with_member(
+        alloc,
+        Vec::new(alloc),
+        "severity",
+        Shape::Plain(Scalar::I32),
+    )?;
+    let members = with_member(alloc, members, "status", Shape::Plain(Scalar::I32))?;
+    let members = with_member(alloc, members, "message", Shape::Plain(Scalar::Text))?;
+    structure(alloc, "alarm_t", members)
 }
 
 /// A time stamp, `time_t` (EPICS Normative Types 1.0, "time_t"): seconds past the epoch, nanoseconds and a tag.
 pub fn time(alloc: Global) -> Result<Shape, NoMemory>
     ensures { IfOk result (λ s. shape_view s ≡ time_tree) }
 {
-    let seconds = member(alloc, "secondsPastEpoch", Shape::Plain(Scalar::I64))?;
-    let nanoseconds = member(alloc, "nanoseconds", Shape::Plain(Scalar::I32))?;
-    let tag = member(alloc, "userTag", Shape::Plain(Scalar::I32))?;
-    structure(alloc, "time_t", three(alloc, seconds, nanoseconds, tag)?)
+    let members = with_member(
+        alloc,
+        Vec::new(alloc),
+        "secondsPastEpoch",
+        Shape::Plain(Scalar::I64),
+    )?;
+    let members = with_member(alloc, members, "nanoseconds", Shape::Plain(Scalar::I32))?;
+    let members = with_member(alloc, members, "userTag", Shape::Plain(Scalar::I32))?;
+    structure(alloc, "time_t", members)
 }
 
 /// An index and the choices that it is of.
 pub(crate) fn choice(alloc: Global) -> Result<Shape, NoMemory>
     ensures { IfOk result (λ s. shape_view s ≡ enum_value) }
 {
-    let index = member(alloc, "index", Shape::Plain(Scalar::I32))?;
-    let choices = member(alloc, "choices", list(Scalar::Text))?;
-    structure(alloc, "enum_t", two(alloc, index, choices)?)
+    let members = with_member(alloc, Vec::new(alloc), "index", Shape::Plain(Scalar::I32))?;
+    let members = with_member(alloc, members, "choices", list(Scalar::Text))?;
+    structure(alloc, "enum_t", members)
 }
 
 /// A structure of a value, its alarm and its time stamp.
 pub(crate) fn with_meta_of(alloc: Global, id: &str, value: Shape) -> Result<Shape, NoMemory>
     ensures { IfOk result (λ s. shape_view s ≡ with_meta id.now (shape_view value)) }
 {
-    let value = member(alloc, "value", value)?;
-    let alarm = member(alloc, "alarm", alarm(alloc)?)?;
-    let time = member(alloc, "timeStamp", time(alloc)?)?;
-    structure(alloc, id, three(alloc, value, alarm, time)?)
-}
-
-/// Two members in a row.
-pub(crate) fn two(alloc: Global, a: Member, b: Member) -> Result<Vec<Member>, NoMemory>
-    ensures { IfOk result (λ ms. members_view ms.items ≡ field (member_view a).0 (member_view a).1 (field (member_view b).0 (member_view b).1 no_fields)) }
-{
-    let mut members = Vec::with_capacity(alloc, 2)?;
-    members.push(a)?;
-    members.push(b)?;
-    Ok(members)
-}
-
-/// Three members in a row.
-pub(crate) fn three(alloc: Global, a: Member, b: Member, c: Member) -> Result<Vec<Member>, NoMemory>
-    ensures { IfOk result (λ ms. members_view ms.items ≡ field (member_view a).0 (member_view a).1 (field (member_view b).0 (member_view b).1 (field (member_view c).0 (member_view c).1 no_fields))) }
-{
-    let mut members = Vec::with_capacity(alloc, 3)?;
-    members.push(a)?;
-    members.push(b)?;
-    members.push(c)?;
-    Ok(members)
+    let members = with_member(alloc, Vec::new(alloc), "value", value)?;
+    let members = with_member(alloc, members, "alarm", alarm(alloc)?)?;
+    let members = with_member(alloc, members, "timeStamp", time(alloc)?)?;
+    structure(alloc, id, members)
 }
 
 /// A member for each name, a list of scalars.

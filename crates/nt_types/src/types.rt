@@ -1,13 +1,12 @@
 // The Normative Types.
-ghost use Rattle.std.specs.Prelude.{◌≡◌, IfOk, IfErr};
+ghost use Rattle.std.specs.Prelude.{◌≡◌, IfOk, IfErr, []};
 ghost use Rattle.pvd_type.specs.Check.{IsType};
 ghost use Rattle.nt_types.specs.Faults.{IsFirstFault};
+ghost use Rattle.pvd_type.specs.Tree.{node, struct};
 ghost use Rattle.pvd_type.specs.View.{shape_view};
-ghost use Rattle.nt_types.specs.Types.{scalar_tree, scalar_array_tree, enum_tree, table_tree, uri_tree};
+ghost use Rattle.nt_types.specs.Types.{scalar_tree, scalar_array_tree, enum_tree, table_tree, uri_tree, fields_by, list_of, scalar};
 
-use crate::parts::{
-    choice, columns_of, list, member, scalars_of, structure, three, two, with_meta_of,
-};
+use crate::parts::{choice, columns_of, list, scalars_of, structure, with_member, with_meta_of};
 use pvd_type::{Name, NoMemory, PvType, Scalar, Shape, TypeFault};
 use std::alloc::Global;
 
@@ -69,10 +68,17 @@ pub fn nt_table(alloc: Global, columns: &[(Name, Scalar)]) -> Result<PvType, Typ
 fn table_shape(alloc: Global, columns: &[(Name, Scalar)]) -> Result<Shape, NoMemory>
     ensures { IfOk result (λ s. shape_view s ≡ table_tree columns.now) }
 {
-    let labels = member(alloc, "labels", list(Scalar::Text))?;
-    let columns = structure(alloc, "", columns_of(alloc, columns)?)?;
-    let value = member(alloc, "value", columns)?;
-    structure(alloc, "epics:nt/NTTable:1.0", two(alloc, labels, value)?)
+    let members = with_member(alloc, Vec::new(alloc), "labels", list(Scalar::Text))?;
+    let members = with_member(alloc, members, "value", columns_shape(alloc, columns)?)?;
+    structure(alloc, "epics:nt/NTTable:1.0", members)
+}
+
+/// The columns of a table.
+fn columns_shape(alloc: Global, columns: &[(Name, Scalar)]) -> Result<Shape, NoMemory>
+    ensures { IfOk result (λ s. shape_view s ≡ node struct [] (fields_by list_of columns.now)) }
+{
+    let columns = columns_of(alloc, columns)?;
+    structure(alloc, "", columns)
 }
 
 /// NTURI: a scheme, a path, and a scalar of the query for each name (EPICS Normative Types 1.0, "NTURI"). A fault is that
@@ -90,15 +96,18 @@ pub fn nt_uri(alloc: Global, query: &[(Name, Scalar)]) -> Result<PvType, TypeFau
 fn uri_shape(alloc: Global, query: &[(Name, Scalar)]) -> Result<Shape, NoMemory>
     ensures { IfOk result (λ s. shape_view s ≡ uri_tree query.now) }
 {
-    let scheme = member(alloc, "scheme", Shape::Plain(Scalar::Text))?;
-    let path = member(alloc, "path", Shape::Plain(Scalar::Text))?;
-    let fields = structure(alloc, "", scalars_of(alloc, query)?)?;
-    let query = member(alloc, "query", fields)?;
-    structure(
-        alloc,
-        "epics:nt/NTURI:1.0",
-        three(alloc, scheme, path, query)?,
-    )
+    let members = with_member(alloc, Vec::new(alloc), "scheme", Shape::Plain(Scalar::Text))?;
+    let members = with_member(alloc, members, "path", Shape::Plain(Scalar::Text))?;
+    let members = with_member(alloc, members, "query", query_shape(alloc, query)?)?;
+    structure(alloc, "epics:nt/NTURI:1.0", members)
+}
+
+/// The scalars of a query.
+fn query_shape(alloc: Global, query: &[(Name, Scalar)]) -> Result<Shape, NoMemory>
+    ensures { IfOk result (λ s. shape_view s ≡ node struct [] (fields_by scalar query.now)) }
+{
+    let fields = scalars_of(alloc, query)?;
+    structure(alloc, "", fields)
 }
 
 /// The type of a shape that is one.

@@ -46,6 +46,7 @@ impl Payload {
 pub struct Whole {
     /// The order of its first header, in which its payload is read.
     pub order: Order,
+    /// The command of its frames.
     pub command: u8,
     /// The payloads of its frames, joined.
     pub payload: Payload,
@@ -58,7 +59,9 @@ pub struct Whole {
 pub struct Lent<'a> {
     /// The order of its header, in which its payload is read.
     pub order: Order,
+    /// The command of its frame.
     pub command: u8,
+    /// The bytes behind its header.
     pub payload: &'a [u8],
     /// The place of its header in the stream.
     pub place: u64,
@@ -76,6 +79,7 @@ pub enum Event {
 /// What an assembler has next.
 #[derive(Drop)]
 pub enum Next {
+    /// The next event.
     Event(Event),
     /// The first header that is refused. Nothing follows it.
     Fault(FrameFault),

@@ -18,7 +18,9 @@ pub(crate) const SIZE: usize = 8;
 pub struct Header {
     /// The order that the flags name.
     pub order: Order,
+    /// The flags, of which bits 0, 4, 5 and 7 are looked at.
     pub flags: u8,
+    /// The command.
     pub command: u8,
     /// The datum of a control message, else the length of the payload that follows.
     pub number: u32,
@@ -27,9 +29,13 @@ pub struct Header {
 /// Whether an application message comes whole, or which of its segments this is.
 #[derive(Clone, Copy, Debug, PartialEq, Eq)]
 pub enum Segment {
+    /// The whole message (bits 4 and 5 are clear).
     Single,
+    /// The first segment (bit 4 alone).
     First,
+    /// One that is neither the first nor the last (both bits).
     Middle,
+    /// The last segment (bit 5 alone).
     Last,
 }
 

@@ -37,7 +37,9 @@ impl Cause {
 /// faulty item on, or for want of memory.
 #[derive(Debug, Drop)]
 pub enum Stop {
+    /// Memory ran out.
     Memory,
+    /// What is wrong, and how many bytes are left from the faulty item on.
     Fault(Cause, usize),
 }
 

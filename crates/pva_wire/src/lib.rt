@@ -10,8 +10,6 @@ mod number;
 mod order;
 mod reading;
 mod status;
-#[cfg(test)]
-mod tests;
 mod writing;
 
 pub use bits::{bits_at, write_bits};

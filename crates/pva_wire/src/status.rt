@@ -1,10 +1,10 @@
-ghost use Rattle.std.specs.Prelude.{◌≡◌, ◌++◌, IfOk, OnOk, OnErr};
+ghost use Rattle.std.specs.Prelude.{◌≡◌, ◌++◌, Some, IfOk, OnOk, OnErr};
 ghost use Rattle.pva_wire.specs.Reading.{Gives};
-ghost use Rattle.pva_wire.specs.Status.{good, kind_of, kind_code, is_plain, spelled_out, canonical_status, CanStatus, status_at};
+ghost use Rattle.pva_wire.specs.Status.{good, kind_of, kind_code, is_plain, spelled_out, canonical_status, CanStatus, parts_at, status_at};
 
 use crate::fault::{Cause, Stop};
 use crate::order::Order;
-use crate::reading::text_at;
+use crate::reading::str_at;
 use crate::writing::write_text;
 use pvd_type::{Name, NoMemory};
 use std::alloc::Global;
@@ -38,11 +38,7 @@ impl Status {
     pub fn good(alloc: Global) -> Result<Status, NoMemory>
         ensures { IfOk result (λ status. status ≡ good) }
     {
-        Ok(Status {
-            kind: StatusKind::Good,
-            message: Name::of(alloc, "")?,
-            tree: Name::of(alloc, "")?,
-        })
+        status_of(alloc, StatusKind::Good, "", "")
     }
 }
 
@@ -72,6 +68,31 @@ fn kind_code(kind: StatusKind) -> u8
     }
 }
 
+/// A status of this kind with copies of these texts.
+fn status_of(alloc: Global, kind: StatusKind, message: &str, tree: &str) -> Result<Status, NoMemory>
+    ensures { IfOk result (λ status. status ≡ record { kind = kind; message = message.now; tree = tree.now }) }
+{
+    Ok(Status {
+        kind,
+        message: Name::of(alloc, message)?,
+        tree: Name::of(alloc, tree)?,
+    })
+}
+
+/// A status of this kind, whose texts are read, and what follows them.
+fn told_at(
+    alloc: Global,
+    order: Order,
+    kind: StatusKind,
+    bytes: &[u8],
+) -> Result<(Status, &[u8]), Stop>
+    ensures { Gives (λ x. (x.0, x.1.now)) result (parts_at order 0 (Some kind) bytes.now) }
+{
+    let (message, rest) = str_at(order, bytes)?;
+    let (tree, rest) = str_at(order, rest)?;
+    Ok((status_of(alloc, kind, message, tree)?, rest))
+}
+
 /// A status and what follows it. Range, at its first byte, where that is none of 0, 1, 2, 3 and 255;
 /// else the first fault of its texts.
 #[tactic(auto, unfolding(crate::specs::Status::status_at))]
@@ -84,19 +105,10 @@ pub fn status_at(alloc: Global, order: Order, bytes: &[u8]) -> Result<(Status, &
     if *code == 255 {
         return Ok((Status::good(alloc)?, rest));
     }
-    let Some(kind) = kind_of(*code) else {
-        return Err(Stop::Fault(Cause::Range, bytes.len()));
-    };
-    let (message, rest) = text_at(alloc, order, rest)?;
-    let (tree, rest) = text_at(alloc, order, rest)?;
-    Ok((
-        Status {
-            kind,
-            message,
-            tree,
-        },
-        rest,
-    ))
+    match kind_of(*code) {
+        Some(kind) => told_at(alloc, order, kind, rest),
+        None => Err(Stop::Fault(Cause::Range, bytes.len())),
+    }
 }
 
 /// Appends the first byte of a kind and the two texts, or a part of them.

@@ -1,22 +1,8 @@
 //! A pvAccess client (get, put, put-get, monitor, info, call), which can be run against a server inside it.
 #![tactic(auto)]
 
-mod client;
-#[cfg(test)]
-mod client_tests;
-mod dialing;
-mod network_laws;
-#[cfg(test)]
-mod network_tests;
-mod networking;
-mod outcome;
-mod over_words;
-mod routes;
-#[cfg(test)]
-mod tests;
-
-use crate::client::{Network, run};
 use cli_within::Status;
+use prog_client::{Network, run};
 use pva_net::{TcpDialer, UdpDatagrams};
 use pva_outside::{FilePorts, Kinds, PlainLink, StreamSink, SystemClock, SystemFiles, World};
 use std::alloc::{AllocError, Global};

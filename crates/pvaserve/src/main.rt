@@ -2,18 +2,8 @@
 //! it checks the text, or drills itself.
 #![tactic(auto)]
 
-mod program;
-mod server;
-#[cfg(test)]
-mod server_tests;
-mod telling;
-#[cfg(test)]
-mod tests;
-mod words;
-
-use crate::program::Status;
-use crate::server::run;
 use prog_listen::Network;
+use prog_server::{Status, run};
 use pva_net::{TcpListener, UdpDatagrams};
 use pva_outside::{
     FilePorts, Kinds, Link, StreamLink, StreamSink, SystemClock, SystemFiles, World,
@@ -56,7 +46,7 @@ SOURCE           the file of a database text, or NAME=VALUE: one longout and the
                  take, from 1 to 4611686018427387904, which is the default; with
                  --listen, how many accepts are made, from 1 to 2147483647,
                  which is the default: each takes up to 50 ms, and ends when a
-                 client or a search comes
+                 client or a search comes, of searches alone 1000 times a second
 --udp PORT       with --listen, the port at the same address that searches come
                  to (5076)
 --beacon ADDR    with --listen, where a beacon goes behind the first accept and
@@ -103,6 +93,9 @@ the port, or it isn't this machine's), or accepting failed; 7 no memory; 8 the
 turns were spent (--inetd). A fault shows by its status alone.
 ";
 
+/// Behind how many seconds of silence a client is given up: none is.
+const SILENCE: u32 = 0;
+
 /// What `--version` shows.
 const VERSION: &str = "pvaserve 0.1.0\n";
 
@@ -142,7 +135,7 @@ fn network(
     rt: HostRuntime,
     alloc: Global,
 ) -> io::Result<Network<TcpListener<HostRuntime>, UdpDatagrams<HostRuntime>>> {
-    let listener = TcpListener::new(rt, alloc)?;
+    let listener = TcpListener::new(rt, alloc, SILENCE)?;
     let datagrams = UdpDatagrams::ringing(rt, listener.bell()?);
     Ok(Network {
         listener,

@@ -49,7 +49,9 @@ impl ValueCause {
 /// faulty item on, or for want of memory.
 #[derive(Debug, Drop)]
 pub enum ValueStop {
+    /// Memory ran out.
     Memory,
+    /// What is wrong, and how many bytes are left from the faulty item on.
     Fault(ValueCause, usize),
 }
 

@@ -13,11 +13,7 @@ mod reading;
 mod scalars;
 mod scalars_writing;
 mod staged;
-#[cfg(test)]
-mod tests;
 mod writing;
-#[cfg(test)]
-mod writing_tests;
 
 pub use cursor::{read_full, read_part};
 pub use fault::{ValueCause, ValueFault, ValueStop};

@@ -6,7 +6,7 @@ use Rattle.pva_wire.specs.Reading.{◌>>=◌, number_of, number_at, counted_at, 
 use Rattle.pva_wire.specs.declared.fault.Cause.{Cause}
 use Rattle.pva_wire.specs.declared.fault.Cause.TheVariants.{Short}
 use Rattle.pva_wire.proofs.Takes.{chosen, ok_is}
-use Rattle.pvd_type.specs.Tree.{Tree, Fields, no_fields, field, count_fields}
+use Rattle.pvd_type.specs.Tree.{Tree, node, Kind, Fields, no_fields, field, count_fields}
 use Rattle.pvd_type.specs.View.{shape_step, member_step, node_step, node_view, member_view, members_view, names_of}
 use Rattle.pvd_type.specs.declared.shape.Member.{Member}
 use Rattle.std.proofs.lemmas.Bool.{eqb-true, eq-eqb, le-ltb, true≢false}
@@ -17,7 +17,7 @@ use Rattle.pvd_type.specs.declared.shape.Node.{Node, out-Node, fold_out-Node}
 use Rattle.pvd_desc.specs.declared.fault.DescStop.{DescStop}
 use Rattle.pvd_desc.specs.declared.fault.DescStop.TheVariants as stops
 use Rattle.pvd_desc.specs.Types.{Types}
-use Rattle.pvd_desc.specs.Reading.{Part, Read, Nodes, Fails, id_at, definition, chain_at, member_with, fields_with, fields_below, node_at, lifted, inside_at}
+use Rattle.pvd_desc.specs.Reading.{Part, Read, Nodes, Fails, id_at, definition, chain_at, member_with, fields_with, fields_below, node_at, lifted, inside_at, members_at}
 
 -- ids, and those of a reading
 abbrev pub after : List ℕ → Part (List ℕ) → Part (List ℕ)
@@ -158,15 +158,26 @@ below_zero order (suc room) h = let e : suc room - 1 ≡ room = omega arith in r
 
 module _ (order : Order) (level room seen : ℕ) (types : Types) (bytes : List ℕ) (id : List ℕ) (n : ℕ) (r1 r2 : List ℕ) (some : 0 < room)
     (id_is : lifted (text_at order bytes) ≡ Ok (id, r1)) (count_is : lifted (counted_at order 2 r1) ≡ Ok (n, r2)) where
-  pub inside_fails : (stop : DescStop) → Fails stop (fields_with order (node_at order (room - 1)) [] n (seen + 1) types r2) → Fails stop (inside_at order level (fields_below order room) seen types bytes)
+  inside_fails : (stop : DescStop) → Fails stop (fields_with order (node_at order (room - 1)) [] n (seen + 1) types r2) → Fails stop (inside_at order level (fields_below order room) seen types bytes)
   unfolding inside_at
   inside_fails stops.Memory h = tt
   inside_fails (stops.Fault cause left) h = rw (id_is, count_is, below_zero order room some, h) refl
 
-  pub inside_is : (fs : Fields) (k : ℕ) (rest : List ℕ) (known : Types) → fields_with order (node_at order (room - 1)) [] n (seen + 1) types r2 ≡ Ok (fs, k, rest, known)
+  inside_is : (fs : Fields) (k : ℕ) (rest : List ℕ) (known : Types) → fields_with order (node_at order (room - 1)) [] n (seen + 1) types r2 ≡ Ok (fs, k, rest, known)
       → inside_at order level (fields_below order room) seen types bytes ≡ Ok ((id, fs), k, rest, known)
   unfolding inside_at
   inside_is fs k rest known h = rw (id_is, count_is, below_zero order room some, h) refl
+
+-- a structure or a union of what stands in it
+module _ (kind : Kind) (order : Order) (level room seen : ℕ) (types : Types) (bytes : List ℕ) (id : List ℕ) (n : ℕ) (r1 r2 : List ℕ) (some : 0 < room)
+    (id_is : lifted (text_at order bytes) ≡ Ok (id, r1)) (count_is : lifted (counted_at order 2 r1) ≡ Ok (n, r2)) where
+  pub branch_fails : (stop : DescStop) → Fails stop (fields_with order (node_at order (room - 1)) [] n (seen + 1) types r2) → Fails stop (members_at order level (fields_below order room) kind seen types bytes)
+  branch_fails stops.Memory h = tt
+  branch_fails (stops.Fault cause left) h = rw (inside_fails order level room seen types bytes id n r1 r2 some id_is count_is (stops.Fault cause left) h) refl
+
+  pub branch_is : (fs : Fields) (k : ℕ) (rest : List ℕ) (known : Types) → fields_with order (node_at order (room - 1)) [] n (seen + 1) types r2 ≡ Ok (fs, k, rest, known)
+      → members_at order level (fields_below order room) kind seen types bytes ≡ Ok (node kind id fs, k, rest, known)
+  branch_is fs k rest known h = rw (inside_is order level room seen types bytes id n r1 r2 some id_is count_is fs k rest known h) refl
 
 pub node_is : (n : Node) → node_view n ≡ ((out-Node n).id, members_view (out-Node n).members.items)
 node_is n = fold_out-Node Tree (List ℕ × Tree) (List ℕ × Fields) shape_step member_step node_step n

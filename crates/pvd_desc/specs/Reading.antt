@@ -121,6 +121,11 @@ module _ (order : Order) (level : ℕ) (fields : Members) where
   element_of e other left seen types code.Cached rest = cached_at order (Some e) other level seen left types rest
   element_of e other left seen types c rest = if takes e c then members_at (element e) seen types rest else Err other
 
+  -- an element from its code on, as `other` where it is of another kind, under these ids
+  abbrev pub coded_element_at : List ℕ → Element → DescCause × ℕ → ℕ → Types → List ℕ → Read Tree
+  coded_element_at ids e other seen types bytes =
+      code_at bytes >>= λ c. element_of e other (length bytes) seen types c.0 c.1 >>= λ t. Ok (list_tree t.0, t.1, t.2, define_all ids t.0 t.3)
+
   -- The element of a list of nodes. That it is of another kind is a fault at its first byte.
   unfoldable pub element_at : Element → ℕ → Types → List ℕ → Read Tree
   element_at e seen types bytes =
@@ -143,6 +148,12 @@ module _ (order : Order) (level : ℕ) (fields : Members) where
   parts_at code.UnionList left seen types rest = element_at elements.Union seen types rest
   parts_at code.Cached left seen types rest = cached_at order None (UnknownCode 254, left) level seen left types rest
   parts_at code.Unknown left seen types rest = Err (UnknownCode 0, left)
+
+  -- a node from its code on, under these ids
+  abbrev pub coded_at : List ℕ → ℕ → Option TypeFault → Types → List ℕ → Read Tree
+  coded_at ids seen named types bytes =
+      code_at bytes >>= λ c. here_at level seen named (length bytes) >>= λ u. parts_at c.0 (length bytes) seen types c.1 >>= λ t.
+      Ok (t.0, t.1, t.2, define_all ids t.0 t.3)
 
   -- a node that has so many nodes before it, and whose name has the fault given
   unfoldable pub node_on : ℕ → Option TypeFault → Types → List ℕ → Read Tree

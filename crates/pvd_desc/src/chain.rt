@@ -1,4 +1,4 @@
-ghost use Rattle.std.specs.Prelude.{◌≡◌, OnOk, option_map};
+ghost use Rattle.std.specs.Prelude.{◌≡◌, IfOk, OnOk, option_map};
 ghost use Rattle.std.specs.FinMap as map;
 ghost use Rattle.std.specs.Arc.{arc_value};
 ghost use Rattle.pvd_type.specs.View.{shape_view};
@@ -50,8 +50,25 @@ const SET: u64 = 8192;
 /// Of so many ids at most one that stands twice is put twice, since a set of them costs more.
 const FEW: usize = 8;
 
+/// A shape of so many nodes, which is put under each of the ids.
+pub fn defined(
+    alloc: Global,
+    changed: &mut Definitions,
+    budget: &mut Budget,
+    ids: &[u16],
+    shape: Shape,
+    nodes: u32,
+) -> Result<Shape, NoMemory>
+    requires { IsType (shape_view shape) }
+    ensures shape { IfOk result (λ s. shape_view s ≡ shape_view shape) }
+    ensures defined { OnOk result ((base : Types) → laid base changed.new ≡ define_all ids.now (shape_view shape) (laid base changed.old)) }
+{
+    define_all(alloc, changed, budget, ids, &shape, nodes)?;
+    Ok(shape)
+}
+
 /// Puts a type of so many nodes under each of the ids, which share it in memory.
-pub fn define_all(
+fn define_all(
     alloc: Global,
     changed: &mut Definitions,
     budget: &mut Budget,

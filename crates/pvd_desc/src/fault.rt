@@ -39,7 +39,9 @@ impl DescCause {
 /// faulty item on, or for want of memory.
 #[derive(Debug, Drop)]
 pub enum DescStop {
+    /// Memory ran out.
     Memory,
+    /// What is wrong, and how many bytes are left from the faulty item on.
     Fault(DescCause, usize),
 }
 

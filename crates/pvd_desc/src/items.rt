@@ -4,9 +4,7 @@ ghost use Rattle.pvd_desc.specs.Reading.{Gives, lifted, id_at, definition, code_
 
 use crate::code::{Code, code_of};
 use crate::fault::{DescCause, DescStop};
-use pva_wire::{Cause, Order, count_at, counted_at, text_at, u16_at};
-use pvd_type::Name;
-use std::alloc::Global;
+use pva_wire::{Cause, Order, count_at, counted_at, u16_at};
 
 /// A 16-bit id.
 pub fn id_at(order: Order, bytes: &[u8]) -> Result<(u16, &[u8]), DescStop>
@@ -32,19 +30,11 @@ pub fn member_count_at(order: Order, bytes: &[u8]) -> Result<(u32, &[u8]), DescS
     Ok((count, rest))
 }
 
-/// A member's name, where it stands.
+/// A node's id or a member's name, where it stands.
 pub fn str_at(order: Order, bytes: &[u8]) -> Result<(&str, &[u8]), DescStop>
     ensures { Gives (λ x. (x.0.now, x.1.now)) result (lifted (text_at order bytes.now)) }
 {
     let (text, rest) = pva_wire::str_at(order, bytes)?;
-    Ok((text, rest))
-}
-
-/// A node's id.
-pub fn name_at(alloc: Global, order: Order, bytes: &[u8]) -> Result<(Name, &[u8]), DescStop>
-    ensures { Gives (λ x. (x.0, x.1.now)) result (lifted (text_at order bytes.now)) }
-{
-    let (text, rest) = text_at(alloc, order, bytes)?;
     Ok((text, rest))
 }
 

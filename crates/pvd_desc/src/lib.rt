@@ -10,8 +10,6 @@ mod laws;
 mod reading;
 mod registry;
 mod standing;
-#[cfg(test)]
-mod tests;
 mod writing;
 
 pub use cursor::read_desc;

@@ -1,25 +1,23 @@
 ghost use Rattle.std.specs.Prelude.{◌≡◌, ◌∷◌, ◌≤◌, ◌<◌, ◌+◌, ◌-◌, ◌++◌, [], IfOk, OnOk, Some};
-ghost use Rattle.std.specs.Arc.{arc_value};
-ghost use Rattle.pvd_type.specs.View.{shape_view, member_view, node_view, members_view, names_of};
+ghost use Rattle.pvd_type.specs.Tree.{node};
+ghost use Rattle.pvd_type.specs.View.{shape_view, member_view, members_view, names_of};
 ghost use Rattle.pvd_type.specs.Check.{below, first_fault, label_fault, IsType};
 ghost use Rattle.pvd_type.specs.Numbers.{nodes};
 ghost use Rattle.pvd_type.specs.Siblings.{knows};
 ghost use Rattle.pvd_desc.specs.declared.fault.DescCause.TheVariants.{UnknownCode};
 ghost use Rattle.pvd_desc.specs.Types.{laid};
-ghost use Rattle.pvd_desc.specs.Reading.{Gives, here_at, unless, wants, cached_at, inside_at, element_of, element_at, parts_at, member_with, fields_with, fields_below, node_at, desc_at};
+ghost use Rattle.pvd_desc.specs.Code.{element};
+ghost use Rattle.pvd_desc.specs.Reading.{Gives, here_at, unless, wants, cached_at, members_at, coded_element_at, element_of, element_at, coded_at, parts_at, member_with, fields_with, fields_below, node_at, desc_at};
 
-use crate::chain::{chain_at, define_all, known};
+use crate::chain::{chain_at, defined, known};
 use crate::code::{Code, Element, is_element, list_tree, takes};
 use crate::fault::{DescCause, DescStop};
-use crate::items::{
-    bound_at, cached, code_at, first_byte, id_at, member_count_at, name_at, null, str_at,
-};
+use crate::items::{bound_at, cached, code_at, first_byte, id_at, member_count_at, null, str_at};
 use crate::registry::{Definitions, Registry};
 use crate::standing::stand_below;
 use pva_wire::Order;
 use pvd_type::{Budget, Extent, Member, Name, NoMemory, Node, PvType, Shape, Siblings, TypeFault};
 use std::alloc::Global;
-use std::sync::Arc;
 
 /// How many bytes of memory any read may take, whatever few bytes it has.
 pub const READ_ROOM: u64 = 16_777_216;
@@ -138,30 +136,48 @@ fn list_for(alloc: Global, count: u32, seen: u32) -> Result<Vec<Member>, NoMemor
     Ok(Vec::with_capacity(alloc, count.min(4096 - seen) as usize)?)
 }
 
+/// A structure or a union of this id and these members.
+fn branch_of(
+    alloc: Global,
+    kind: Element,
+    id: &str,
+    members: Vec<Member>,
+) -> Result<Shape, NoMemory>
+    ensures { IfOk result (λ s. shape_view s ≡ node (element kind) id.now (members_view members.items)) }
+{
+    let id = Name::of(alloc, id)?;
+    let node = Node::of(alloc, id, members)?;
+    match kind {
+        Element::Struct => Ok(Shape::Struct(node)),
+        Element::Union => Ok(Shape::Union(node)),
+    }
+}
+
 // The functions of the cycle below pass `room`, the 33 levels less that of the node, in place of the
 // level: each step down takes one from it, so the recursion ends, and the last one finds no room.
 // `seen` counts the nodes before this one; a node's own fault stands at its code byte.
 
-/// What stands in a node after its code: the id, and as many members as the count says.
+/// What stands in a structure or a union after its code: the id, and as many members as the count says.
 #[cycle(node)]
 #[tactic(auto, unfolding(crate::specs::Reading::inside_at))]
-fn inside_at<'a>(
+fn branch_at<'a>(
     alloc: Global,
     order: Order,
     base: &Registry,
     changed: &mut Definitions,
     budget: &mut Budget,
     room: u32,
+    kind: Element,
     seen: u32,
     bytes: &'a [u8],
-) -> Result<(Arc<Node>, u32, &'a [u8]), DescStop>
+) -> Result<(Shape, u32, &'a [u8]), DescStop>
     requires room { (0 < room) × (room ≤ 33) }
     requires seen { seen ≤ 4095 }
-    ensures value { Gives (λ x. (node_view (arc_value x.0), x.1, x.2.now, laid base.now changed.new)) result (inside_at order (33 - room) (fields_below order room) seen (laid base.now changed.old) bytes.now) }
+    ensures value { Gives (λ x. (shape_view x.0, x.1, x.2.now, laid base.now changed.new)) result (members_at order (33 - room) (fields_below order room) (element kind) seen (laid base.now changed.old) bytes.now) }
     ensures few { IfOk result (λ x. x.1 ≤ 4096) }
 {
     budget.spend(BRANCH)?;
-    let (id, rest) = name_at(alloc, order, bytes)?;
+    let (id, rest) = str_at(order, bytes)?;
     let (count, rest) = member_count_at(order, rest)?;
     let (members, seen, rest) = fields_at(
         alloc,
@@ -174,7 +190,7 @@ fn inside_at<'a>(
         seen + 1,
         rest,
     )?;
-    Ok((Node::of(alloc, id, members)?, seen, rest))
+    Ok((branch_of(alloc, kind, id, members)?, seen, rest))
 }
 
 /// So many members, where `room` levels are left for what stands below them.
@@ -271,21 +287,42 @@ fn node_at<'a>(
     ensures few { IfOk result (λ x. x.1 ≤ 4096) }
 {
     let (ids, rest) = chain_at(alloc, order, bytes)?;
-    let left = rest.len();
-    let (code, rest) = code_at(rest)?;
+    coded_at(
+        alloc, order, base, changed, budget, room, &ids, seen, named, rest,
+    )
+}
+
+/// A node from its code on, which is defined under the ids.
+#[cycle(node)]
+fn coded_at<'a>(
+    alloc: Global,
+    order: Order,
+    base: &Registry,
+    changed: &mut Definitions,
+    budget: &mut Budget,
+    room: u32,
+    ids: &[u16],
+    seen: u32,
+    named: Option<TypeFault>,
+    bytes: &'a [u8],
+) -> Result<(Shape, u32, &'a [u8]), DescStop>
+    requires room { room < 33 }
+    requires seen { seen ≤ 4096 }
+    ensures value { Gives (λ x. (shape_view x.0, x.1, x.2.now, laid base.now changed.new)) result (coded_at order (33 - room) (fields_below order room) ids.now seen named (laid base.now changed.old) bytes.now) }
+    ensures few { IfOk result (λ x. x.1 ≤ 4096) }
+{
+    let left = bytes.len();
+    let (code, rest) = code_at(bytes)?;
     check_here(33 - room, seen, named, left)?;
     let (shape, total, rest) = parts_at(
         alloc, order, base, changed, budget, room, code, left, seen, rest,
     )?;
-    define_all(
-        alloc,
-        changed,
-        budget,
-        &ids,
-        &shape,
-        total.saturating_sub(seen),
-    )?;
-    Ok((shape, total, rest))
+    let nodes = total.saturating_sub(seen);
+    Ok((
+        defined(alloc, changed, budget, ids, shape, nodes)?,
+        total,
+        rest,
+    ))
 }
 
 /// What follows a node's code, which had `left` bytes from it on.
@@ -325,18 +362,28 @@ fn parts_at<'a>(
         }
         Code::Variant => Ok((Shape::Variant, seen + 1, bytes)),
         Code::VariantList => Ok((Shape::VariantList, seen + 1, bytes)),
-        Code::Struct => {
-            let (node, seen, rest) = inside_at(
-                alloc, order, base, changed, budget, room, seen, bytes,
-            )?;
-            Ok((Shape::Struct(node), seen, rest))
-        }
-        Code::Union => {
-            let (node, seen, rest) = inside_at(
-                alloc, order, base, changed, budget, room, seen, bytes,
-            )?;
-            Ok((Shape::Union(node), seen, rest))
-        }
+        Code::Struct => branch_at(
+            alloc,
+            order,
+            base,
+            changed,
+            budget,
+            room,
+            Element::Struct,
+            seen,
+            bytes,
+        ),
+        Code::Union => branch_at(
+            alloc,
+            order,
+            base,
+            changed,
+            budget,
+            room,
+            Element::Union,
+            seen,
+            bytes,
+        ),
         Code::StructList => element_at(
             alloc,
             order,
@@ -396,10 +443,8 @@ fn element_at<'a>(
     ensures few { IfOk result (λ x. x.1 ≤ 4096) }
 {
     let (ids, rest) = chain_at(alloc, order, bytes)?;
-    let left = rest.len();
-    let (code, rest) = code_at(rest)?;
     let first = first_byte(bytes);
-    let (shape, total, rest) = element_of(
+    coded_element_at(
         alloc,
         order,
         base,
@@ -407,22 +452,45 @@ fn element_at<'a>(
         budget,
         room,
         element,
+        &ids,
         first,
         bytes.len(),
-        left,
         seen,
-        code,
+        rest,
+    )
+}
+
+/// The element of a list from its code on, which is defined under the ids. A code of another kind is
+/// UnknownCode of the byte `first`, which had `first_left` bytes from it on.
+#[cycle(node)]
+fn coded_element_at<'a>(
+    alloc: Global,
+    order: Order,
+    base: &Registry,
+    changed: &mut Definitions,
+    budget: &mut Budget,
+    room: u32,
+    element: Element,
+    ids: &[u16],
+    first: u8,
+    first_left: usize,
+    seen: u32,
+    bytes: &'a [u8],
+) -> Result<(Shape, u32, &'a [u8]), DescStop>
+    requires room { (0 < room) × (room < 33) }
+    requires seen { seen ≤ 4095 }
+    ensures value { Gives (λ x. (shape_view x.0, x.1, x.2.now, laid base.now changed.new)) result (coded_element_at order (33 - room) (fields_below order room) ids.now element (UnknownCode first, first_left) seen (laid base.now changed.old) bytes.now) }
+    ensures few { IfOk result (λ x. x.1 ≤ 4096) }
+{
+    let left = bytes.len();
+    let (code, rest) = code_at(bytes)?;
+    let (shape, total, rest) = element_of(
+        alloc, order, base, changed, budget, room, element, first, first_left, left, seen, code,
         rest,
     )?;
-    define_all(
-        alloc,
-        changed,
-        budget,
-        &ids,
-        &shape,
-        total.saturating_sub(seen),
-    )?;
-    Ok((list_tree(shape), total, rest))
+    let nodes = total.saturating_sub(seen);
+    let listed = defined(alloc, changed, budget, ids, shape, nodes)?;
+    Ok((list_tree(listed), total, rest))
 }
 
 /// The element of a list, after its code, which had `left` bytes from it on. A code of another kind is
@@ -467,11 +535,9 @@ fn element_of<'a>(
     if !takes(element, code) {
         return Err(DescStop::Fault(DescCause::UnknownCode(first), first_left));
     }
-    let (node, seen, rest) = inside_at(alloc, order, base, changed, budget, room, seen, bytes)?;
-    match element {
-        Element::Struct => Ok((Shape::Struct(node), seen, rest)),
-        Element::Union => Ok((Shape::Union(node), seen, rest)),
-    }
+    branch_at(
+        alloc, order, base, changed, budget, room, element, seen, bytes,
+    )
 }
 
 /// The type under the id that stands here, where a cached type is the whole description. It was tested

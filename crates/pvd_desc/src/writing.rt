@@ -4,11 +4,11 @@ ghost use Rattle.pva_wire.specs.Spelling.{IsSize, canonical_size, canonical_text
 ghost use Rattle.pvd_type.specs.Tree.{count_fields};
 ghost use Rattle.pvd_type.specs.Tree as tree;
 ghost use Rattle.pvd_type.specs.View.{shape_view, node_view, members_view};
-ghost use Rattle.pvd_desc.specs.Grammar.{CanSpell, CanSpellFields, CanDesc, canonical_desc, written, written_fields};
+ghost use Rattle.pvd_desc.specs.Grammar.{CanSpell, CanSpellFields, CanDesc, CanLeaf, canonical_desc, written, written_fields, written_leaf};
 
 use crate::code::scalar_code;
 use pva_wire::{Order, write_size, write_text};
-use pvd_type::{Extent, Member, NoMemory, Node, PvType, Shape};
+use pvd_type::{Extent, Member, NoMemory, Node, PvType, Scalar, Shape};
 
 /// Appends a code and the bound of a list or a text, which takes at most 2^31-2.
 fn put_sized(out: &mut Vec<u8>, order: Order, code: u8, size: u32) -> Result<(), NoMemory>
@@ -18,6 +18,27 @@ fn put_sized(out: &mut Vec<u8>, order: Order, code: u8, size: u32) -> Result<(),
     out.push(code)?;
     write_size(out, order, size)?;
     Ok(())
+}
+
+/// Appends a code alone.
+fn put_code(out: &mut Vec<u8>, code: u8) -> Result<(), NoMemory>
+    ensures { OnOk result (out.new.items ≡ out.old.items ++ code ∷ []) }
+{
+    out.push(code)?;
+    Ok(())
+}
+
+/// Appends the description of a list of scalars.
+fn put_list(out: &mut Vec<u8>, order: Order, scalar: Scalar, extent: Extent) -> Result<(), NoMemory>
+    ensures written { OnOk result (out.new.items ≡ out.old.items ++ written_leaf order (tree.list scalar extent)) }
+    ensures spelled { OnOk result (CanLeaf (tree.list scalar extent)) }
+{
+    let code = scalar_code(scalar);
+    match extent {
+        Extent::Variable => put_code(out, code + 0x08),
+        Extent::Bounded(size) => put_sized(out, order, code + 0x10, size),
+        Extent::Fixed(size) => put_sized(out, order, code + 0x18, size),
+    }
 }
 
 /// Appends how many members a node has.
@@ -38,49 +59,25 @@ fn put(out: &mut Vec<u8>, order: Order, shape: &Shape) -> Result<(), NoMemory>
     ensures spelled { OnOk result (CanSpell (shape_view shape.now)) }
 {
     match shape {
-        Shape::Plain(scalar) => out.push(scalar_code(*scalar))?,
-        Shape::BoundText(bound) => put_sized(out, order, 0x83, *bound)?,
-        Shape::List(scalar, Extent::Variable) => out.push(scalar_code(*scalar) + 0x08)?,
-        Shape::List(scalar, Extent::Bounded(size)) => put_sized(
-            out,
-            order,
-            scalar_code(*scalar) + 0x10,
-            *size,
-        )?,
-        Shape::List(scalar, Extent::Fixed(size)) => put_sized(
-            out,
-            order,
-            scalar_code(*scalar) + 0x18,
-            *size,
-        )?,
-        Shape::Struct(node) => {
-            out.push(0x80)?;
-            put_node(out, order, node)?;
-        }
-        Shape::Union(node) => {
-            out.push(0x81)?;
-            put_node(out, order, node)?;
-        }
-        Shape::StructList(node) => {
-            out.extend_from_slice(&[0x88, 0x80])?;
-            put_node(out, order, node)?;
-        }
-        Shape::UnionList(node) => {
-            out.extend_from_slice(&[0x89, 0x81])?;
-            put_node(out, order, node)?;
-        }
-        Shape::Variant => out.push(0x82)?,
-        Shape::VariantList => out.push(0x8A)?,
+        Shape::Plain(scalar) => put_code(out, scalar_code(*scalar)),
+        Shape::BoundText(bound) => put_sized(out, order, 0x83, *bound),
+        Shape::List(scalar, extent) => put_list(out, order, *scalar, *extent),
+        Shape::Struct(node) => put_node(out, order, &[0x80], node),
+        Shape::Union(node) => put_node(out, order, &[0x81], node),
+        Shape::StructList(node) => put_node(out, order, &[0x88, 0x80], node),
+        Shape::UnionList(node) => put_node(out, order, &[0x89, 0x81], node),
+        Shape::Variant => put_code(out, 0x82),
+        Shape::VariantList => put_code(out, 0x8A),
     }
-    Ok(())
 }
 
-/// Appends what stands in a node after its code: the id, the count of the members and each of them.
+/// Appends the codes of a node and what stands in it: the id, the count of the members and each of them.
 #[cycle(put)]
-fn put_node(out: &mut Vec<u8>, order: Order, node: &Node) -> Result<(), NoMemory>
-    ensures written { OnOk result (out.new.items ≡ out.old.items ++ (canonical_text order (node_view node.now).0 ++ (canonical_size order (count_fields (node_view node.now).1) ++ written_fields order (node_view node.now).1))) }
+fn put_node(out: &mut Vec<u8>, order: Order, codes: &[u8], node: &Node) -> Result<(), NoMemory>
+    ensures written { OnOk result (out.new.items ≡ out.old.items ++ (codes.now ++ (canonical_text order (node_view node.now).0 ++ (canonical_size order (count_fields (node_view node.now).1) ++ written_fields order (node_view node.now).1)))) }
     ensures spelled { OnOk result (CanSpell (tree.node tree.struct (node_view node.now).0 (node_view node.now).1)) }
 {
+    out.extend_from_slice(codes)?;
     write_text(out, order, &node.id)?;
     put_count(out, order, node.members.len())?;
     put_members(out, order, &node.members)?;

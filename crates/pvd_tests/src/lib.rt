@@ -1,20 +1,12 @@
-//! Tests of types and values, the Normative Types, request structures, and what the channel `server` answers. They stand above
-//! their crates, so that each of these is proved once.
+//! Tests of types and values that no program shows: sets of bits, which values are of which type, leaves that change places, the types that
+//! are made of kinds, and a table of many rows. They stand above their crates, so that each of these is proved once.
 #![tactic(auto)]
 
 #[cfg(test)]
-mod meeting;
+mod fitting;
 #[cfg(test)]
-mod merging;
+mod made;
 #[cfg(test)]
-mod normative;
+mod moving;
 #[cfg(test)]
-mod requests;
-#[cfg(test)]
-mod services;
-#[cfg(test)]
-mod shapes;
-#[cfg(test)]
-mod types;
-#[cfg(test)]
-mod values;
+mod sets;

@@ -9,7 +9,7 @@ ghost use Rattle.rec_fields.specs.Shown.{shown, value_shown, number_shown, numbe
 ghost use Rattle.rec_fields.specs.Types.{record_tree};
 
 use crate::numbers::narrowed;
-use crate::parts::{alarm_view, three_of, time_view};
+use crate::parts::{alarm_view, time_view};
 use pvd_type::{Name, NoMemory};
 use pvd_value::{Items, PvValue};
 use rec_kinds::{Datum, Element, Kind, RecConfig, RecState};
@@ -22,11 +22,20 @@ pub fn view(alloc: Global, config: &RecConfig, state: &RecState) -> Result<PvVal
     ensures shown { IfOk result (λ v. view v ≡ shown config.now state.now) }
     ensures fits { IfOk result (λ v. fits_of 16 (view v) (record_tree config.now) ≡ true) }
 {
-    let value = value_of(alloc, config, &state.datum)?;
-    let alarm = alarm_view(alloc, state)?;
-    let time = time_view(alloc, state)?;
-    let whole = three_of(alloc, value, alarm, time)?;
+    let whole = whole_of(alloc, config, state)?;
     Ok(whole)
+}
+
+/// The value, the alarm and the time stamp, side by side.
+fn whole_of(alloc: Global, config: &RecConfig, state: &RecState) -> Result<PvValue, NoMemory>
+    requires { IsValid config.now state.now }
+    ensures { IfOk result (λ v. view v ≡ shown config.now state.now) }
+{
+    let mut parts = Vec::with_capacity(alloc, 3)?;
+    parts.push(value_of(alloc, config, &state.datum)?)?;
+    parts.push(alarm_view(alloc, state)?)?;
+    parts.push(time_view(alloc, state)?)?;
+    Ok(PvValue::Struct(parts))
 }
 
 /// What a record holds.

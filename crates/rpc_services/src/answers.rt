@@ -108,12 +108,13 @@ pub fn table(
 fn columns(alloc: Global) -> Result<Vec<(Name, Scalar)>, NoMemory>
     ensures { IfOk result (λ cs. cs.items ≡ columns) }
 {
-    let name = (Name::of(alloc, "name")?, Scalar::Text);
-    let value = (Name::of(alloc, "value")?, Scalar::Text);
-    let severity = (Name::of(alloc, "severity")?, Scalar::I32);
-    let seconds = (Name::of(alloc, "secondsPastEpoch")?, Scalar::I64);
-    let nanoseconds = (Name::of(alloc, "nanoseconds")?, Scalar::I32);
-    Ok(vec![in alloc; name, value, severity, seconds, nanoseconds]?)
+    let mut columns = Vec::with_capacity(alloc, 5)?;
+    columns.push((Name::of(alloc, "name")?, Scalar::Text))?;
+    columns.push((Name::of(alloc, "value")?, Scalar::Text))?;
+    columns.push((Name::of(alloc, "severity")?, Scalar::I32))?;
+    columns.push((Name::of(alloc, "secondsPastEpoch")?, Scalar::I64))?;
+    columns.push((Name::of(alloc, "nanoseconds")?, Scalar::I32))?;
+    Ok(columns)
 }
 
 fn table_type(alloc: Global, columns: &[(Name, Scalar)]) -> Result<PvType, NoMemory>
@@ -147,12 +148,12 @@ fn rows_of(
 ) -> Result<PvValue, NoMemory>
     ensures { IfOk result (λ v. view v ≡ rows_data names.now texts.now severities.now seconds.now nanoseconds.now) }
 {
-    let names = texts_of(alloc, names)?;
-    let texts = texts_of(alloc, texts)?;
-    let severities = ints_of(alloc, severities)?;
-    let seconds = longs_of(alloc, seconds)?;
-    let nanoseconds = ints_of(alloc, nanoseconds)?;
-    let columns = vec![in alloc; names, texts, severities, seconds, nanoseconds]?;
+    let mut columns = Vec::with_capacity(alloc, 5)?;
+    columns.push(texts_of(alloc, names)?)?;
+    columns.push(texts_of(alloc, texts)?)?;
+    columns.push(ints_of(alloc, severities)?)?;
+    columns.push(longs_of(alloc, seconds)?)?;
+    columns.push(ints_of(alloc, nanoseconds)?)?;
     Ok(PvValue::Struct(columns))
 }
 

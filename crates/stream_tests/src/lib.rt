@@ -1,16 +1,8 @@
-//! Tests of connections from bytes to bytes: sessions over many channels and requests, puts and put-gets, monitors, calls, and how
-//! streams end. They stand above their crate, so that it is proved once.
+//! Tests of what no program does: a session that is called by itself, and two connections to one desk, one after the other. All else that a
+//! connection does is shown by the cases of `server_cases`.
 #![tactic(auto)]
 
 #[cfg(test)]
-mod bytes;
-#[cfg(test)]
-mod calls;
-#[cfg(test)]
 mod connections;
-#[cfg(test)]
-mod monitors;
-#[cfg(test)]
-mod put_gets;
 #[cfg(test)]
 mod sessions;

@@ -1,17 +1,18 @@
-use Rattle.std.proofs.Common.{◌≡◌, ◌∙◌, ◌<◌, ◌-◌, ◌+◌, ap, sym, rules, arith, List, ℕ, Ok}
-use Rattle.pvd_type.specs.Tree.{Fields}
+use Rattle.std.proofs.Common.{◌≡◌, ◌∙◌, ◌<◌, ◌-◌, ◌+◌, ap, sym, rules, arith, Ok}
+use Rattle.pvd_type.specs.Tree.{Tree}
 use Rattle.std.proofs.lemmas.Result.{err_from_is_err_and}
 use Rattle.std.proofs.lemmas.List.{map_push}
 use Rattle.pvd_type.specs.declared.shape.Member.{Member}
 use Rattle.pvd_type.specs.View.{shape_view}
 use Rattle.pvd_desc.specs.Types.{laid}
+use Rattle.pvd_desc.specs.Code.{element}
 use Rattle.pvd_desc.specs.Reading.{fields_below, node_at}
-use Rattle.pvd_desc.proofs.Chains.{fields_fails, fields_goes, fields_done, inside_fails, inside_is}
+use Rattle.pvd_desc.proofs.Chains.{fields_fails, fields_goes, fields_done, branch_fails, branch_is}
 use Rattle.pvd_desc.proofs.Sound.{element_ok, parts_ok, below_ok, type_alone}
 use Rattle.pvd_desc.proofs.reading.+node.Goals as goal
 
-pub element_at-define_all-requires : goal.element_at-define_all-requires
-element_at-define_all-requires t c =
+pub coded_element_at-defined-requires : goal.coded_element_at-defined-requires
+coded_element_at-defined-requires t c =
     let level = 33 - c.args.room in
     let ok = element_ok c.args.order level (fields_below c.args.order c.args.room) (below_ok c.args.order c.args.room (omega (arith, c.requires.room)))
     c.args.element _ _ c.args.seen (laid c.args.base.now c.args.changed.now) c.in_ok-code.code _ _ c.in_ok-shape.ensures.value in
@@ -43,20 +44,20 @@ fields_at-returns-clause-value t c =
     let none : c.args.count - c.loop.counter ≡ 0 = omega (arith, c.loop-test.false) in
     fields_done c.args.order (node_at c.args.order c.args.room) c.loop.members.items c.loop.seen (laid c.args.base.now c.loop.changed) c.loop.rest.now (c.args.count - c.loop.counter) _ none c.loop.invariant.same
 
-pub inside_at-returns-in_err-members-clause-value : goal.inside_at-returns-in_err-members-clause-value
-inside_at-returns-in_err-members-clause-value t c =
+pub branch_at-returns-in_err-members-clause-value : goal.branch_at-returns-in_err-members-clause-value
+branch_at-returns-in_err-members-clause-value t c =
     let p = err_from_is_err_and c.from_residual-in_err-members.result c.from_residual-in_err-members.ensures.1 in
-    rw (p.1, p.2) (inside_fails c.args.order (33 - c.args.room) c.args.room c.args.seen (laid c.args.base.now c.args.changed.now) c.args.bytes.now _ c.in_ok-count.count _ c.in_ok-count.rest.now c.requires.room.0 c.in_ok-id.ensures c.in_ok-count.ensures
+    rw (p.1, p.2) (branch_fails (element c.args.kind) c.args.order (33 - c.args.room) c.args.room c.args.seen (laid c.args.base.now c.args.changed.now) c.args.bytes.now _ c.in_ok-count.count _ c.in_ok-count.rest.now c.requires.room.0 c.in_ok-id.ensures c.in_ok-count.ensures
     c.in_err-members.field-0.0 c.in_err-members.ensures.value)
 
-pub inside_at-returns-clause-value : goal.inside_at-returns-clause-value
-inside_at-returns-clause-value t c =
-    inside_is c.args.order (33 - c.args.room) c.args.room c.args.seen (laid c.args.base.now c.args.changed.now) c.args.bytes.now _ c.in_ok-count.count _ c.in_ok-count.rest.now c.requires.room.0 c.in_ok-id.ensures c.in_ok-count.ensures
+pub branch_at-returns-clause-value : goal.branch_at-returns-clause-value
+branch_at-returns-clause-value t c =
+    branch_is (element c.args.kind) c.args.order (33 - c.args.room) c.args.room c.args.seen (laid c.args.base.now c.args.changed.now) c.args.bytes.now _ c.in_ok-count.count _ c.in_ok-count.rest.now c.requires.room.0 c.in_ok-id.ensures c.in_ok-count.ensures
     _ _ _ _ c.in_ok-members.ensures.value
-    ∙ ap (λ (p : List ℕ × Fields). Ok (p, c.in_ok-members.seen, c.in_ok-members.rest.now, laid c.args.base.now c.fields_at.new.changed)) (sym c.in_ok-of.ensures)
+    ∙ ap (λ (t : Tree). Ok (t, c.in_ok-members.seen, c.in_ok-members.rest.now, laid c.args.base.now c.fields_at.new.changed)) (sym c.in_ok-branch_of.ensures)
 
-pub node_at-define_all-requires : goal.node_at-define_all-requires
-node_at-define_all-requires t c =
+pub coded_at-defined-requires : goal.coded_at-defined-requires
+coded_at-defined-requires t c =
     let level = 33 - c.args.room in
     let ok = parts_ok c.args.order level (fields_below c.args.order c.args.room) (below_ok c.args.order c.args.room (omega (arith, c.requires.room)))
     c.in_ok-code.code _ c.args.seen (laid c.args.base.now c.args.changed.now) _ _ c.in_ok-shape.ensures.value in

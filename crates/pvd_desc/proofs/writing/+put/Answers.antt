@@ -11,7 +11,7 @@ put_node-returns-clause-written t c =
     let ms = (out-Node c.args.node.now).members.items in
     let same : c.deref.result.now ≡ ms = search rules in
     let count : c.len.result ≡ length ms = search rules in
-    rw (node_is c.args.node.now, count_is, c.in_ok-put_members.ensures.written, c.in_ok-put_count.ensures.written, c.in_ok-write_text.ensures.ok, same, count) (simp append_assoc)
+    rw (node_is c.args.node.now, count_is, c.in_ok-put_members.ensures.written, c.in_ok-put_count.ensures.written, c.in_ok-write_text.ensures.ok, c.in_ok-extend_from_slice.ensures.items, same, count) (simp append_assoc)
 
 pub put_node-returns-clause-spelled : goal.put_node-returns-clause-spelled
 put_node-returns-clause-spelled t c =

@@ -1,10 +1,7 @@
-use Rattle.std.proofs.Common.{◌≡◌, rules}
-use Rattle.pvd_value.specs.View.{view}
 use Rattle.rec_fields.proofs.Shows.{shown_fits}
-use Rattle.rec_fields.specs.Shown.{shown}
+use Rattle.pvd_value.specs.View.{view}
 use Rattle.rec_fields.proofs.shown.view.Goals as goal
 
 pub returns-clause-fits : goal.returns-clause-fits
 returns-clause-fits c =
-    let is : view c.in_ok-whole.whole ≡ shown c.args.config.now c.args.state.now = search rules in
-    shown_fits c.args.config.now c.args.state.now (view c.in_ok-whole.whole) c.requires.sort is
+    shown_fits c.args.config.now c.args.state.now (view c.in_ok-whole.whole) c.requires.sort c.in_ok-whole.ensures

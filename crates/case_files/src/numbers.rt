@@ -1,0 +1,20 @@
+// Numbers in words.
+use crate::CaseFault;
+use std::alloc::Global;
+
+/// The number that a text names in decimal digits.
+pub(crate) fn number_in(text: &str, line: u32) -> Result<u64, CaseFault> {
+    match text.trim().parse::<u64>() {
+        Ok(number) => Ok(number),
+        Err(_) => Err(CaseFault::At(line, "this isn't a number")),
+    }
+}
+
+/// The numbers that a text names, between blanks.
+pub(crate) fn numbers_in(alloc: Global, text: &str, line: u32) -> Result<Vec<u64>, CaseFault> {
+    let mut numbers = Vec::new(alloc);
+    for word in text.split_ascii_whitespace() {
+        numbers.push(number_in(word, line)?)?;
+    }
+    Ok(numbers)
+}
