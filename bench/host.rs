@@ -8,6 +8,11 @@
 //                                     gets of a record by each of CLIENTS connections, with FLIGHT on the way, beside the same of the
 //                                     echo server (the second port and process), in turns of SECONDS
 //   host delay PORT COUNT             how long after a put the monitor of another connection has the update
+//   host latency PORT RATE SECONDS    the same while so many puts a second are made, at times that don't depend on what is heard
+//   host rest PORT PID CLIENTS SECONDS
+//                                     the processor's share of CLIENTS connections with a monitor each, of which none does anything
+//   host storm PORT PID COUNT AT_ONCE
+//                                     COUNT connections that go at once, so many at a time, and what the server keeps of them
 //   host hold PORT PID CLIENTS RECORDS SECONDS
 //                                     CLIENTS connections with a monitor each, while all records are put to ten times a second
 //   host puts PORT FLIGHT             puts 1, 2, 3 and so on to R0 as fast as they are answered, with FLIGHT on the way, until it is killed
@@ -17,6 +22,9 @@
 //   host times COUNT TEXT COMMAND ..  prints the median and the greatest time of so many runs of a command that prints TEXT, in ms
 //
 // It ends with a message where a reply is wrong or an update was lost.
+mod conn;
+
+use conn::*;
 use std::fs::{read_to_string, File};
 use std::io::{ErrorKind, Read, Write};
 use std::net::{TcpListener, TcpStream, UdpSocket};
@@ -26,314 +34,9 @@ use std::sync::{Barrier, Mutex};
 use std::thread;
 use std::time::{Duration, Instant};
 
-type Outcome<T> = Result<T, String>;
-
 /// The bytes of a get, and of its reply for a longout with all its fields.
 const REQUEST: usize = 17;
 const REPLY: usize = 46;
-
-/// How long a reply may take.
-const PATIENCE: Duration = Duration::from_secs(20);
-
-const VALIDATION: u8 = 0x01;
-const CREATE: u8 = 0x07;
-const VALIDATED: u8 = 0x09;
-const GET: u8 = 0x0A;
-const PUT: u8 = 0x0B;
-const MONITOR: u8 = 0x0D;
-
-/// A request for all fields: a structure without members.
-const ALL: &[u8] = b"\x80\0\0";
-
-fn told<T>(result: std::io::Result<T>, what: &str) -> Outcome<T> {
-    result.map_err(|error| format!("{what}: {error}"))
-}
-
-fn u32_at(bytes: &[u8], at: usize) -> Outcome<u32> {
-    match bytes.get(at..at + 4) {
-        Some(four) => Ok(u32::from_le_bytes(four.try_into().unwrap())),
-        None => Err("a message is too short".into()),
-    }
-}
-
-fn frame(command: u8, payload: &[u8]) -> Vec<u8> {
-    let mut bytes = vec![0xCA, 2, 0, command];
-    bytes.extend((payload.len() as u32).to_le_bytes());
-    bytes.extend(payload);
-    bytes
-}
-
-/// A connection to a server. Of `buffer` the bytes of `from` up to `to` were read, and not yet taken.
-struct Conn {
-    stream: TcpStream,
-    buffer: Vec<u8>,
-    from: usize,
-    to: usize,
-    sid: u32,
-}
-
-impl Conn {
-    /// A connection that is validated, with the channel of this record.
-    fn open(port: u16, record: usize) -> Outcome<Conn> {
-        let stream = told(TcpStream::connect(("127.0.0.1", port)), "connect")?;
-        told(stream.set_nodelay(true), "no delay")?;
-        told(stream.set_read_timeout(Some(PATIENCE)), "read timeout")?;
-        let mut conn = Conn {
-            stream,
-            buffer: vec![0; 16_384],
-            from: 0,
-            to: 0,
-            sid: 0,
-        };
-        conn.say(VALIDATION, b"\0\0\x01\0\0\0\0\0\x09anonymous\xFF")?;
-        let validated = conn.expect(VALIDATED)?;
-        if validated != [0xFF] {
-            return Err("the server doesn't validate".into());
-        }
-        let name = format!("R{record}");
-        let mut create = vec![1, 0, 1, 0, 0, 0, name.len() as u8];
-        create.extend(name.bytes());
-        conn.say(CREATE, &create)?;
-        let created = conn.expect(CREATE)?;
-        if u32_at(&created, 0)? != 1 || created.get(8..) != Some(&[0xFF]) {
-            return Err(format!("the channel {name} isn't created"));
-        }
-        conn.sid = u32_at(&created, 4)?;
-        Ok(conn)
-    }
-
-    fn write(&mut self, bytes: &[u8]) -> Outcome<()> {
-        told(self.stream.write_all(bytes), "write")
-    }
-
-    fn say(&mut self, command: u8, payload: &[u8]) -> Outcome<()> {
-        self.write(&frame(command, payload))
-    }
-
-    /// A message to request 1 of this connection's channel.
-    fn request(&self, command: u8, subcommand: u8, more: &[u8]) -> Vec<u8> {
-        let mut payload = self.sid.to_le_bytes().to_vec();
-        payload.extend(1u32.to_le_bytes());
-        payload.push(subcommand);
-        payload.extend(more);
-        frame(command, &payload)
-    }
-
-    fn ask(&mut self, command: u8, subcommand: u8, more: &[u8]) -> Outcome<()> {
-        self.write(&self.request(command, subcommand, more))
-    }
-
-    /// Begins request 1 by this command.
-    fn begin(&mut self, command: u8, subcommand: u8, more: &[u8]) -> Outcome<()> {
-        self.ask(command, subcommand, more)?;
-        let begun = self.expect(command)?;
-        if begun.len() < 6 || u32_at(&begun, 0)? != 1 || begun[4] & 8 == 0 || begun[5] != 0xFF {
-            return Err("a request didn't begin".into());
-        }
-        Ok(())
-    }
-
-    /// The next message, if it was read: its command and its payload. Control messages are passed over.
-    fn held_message(&mut self) -> Outcome<Option<(u8, &[u8])>> {
-        loop {
-            let held = &self.buffer[self.from..self.to];
-            if held.len() < 8 {
-                return Ok(None);
-            }
-            let is_control = held[2] & 1 == 1;
-            if held[0] != 0xCA || held[2] & 0xF0 != 0x40 {
-                return Err(format!("a header is wrong: {:02X?}", &held[..8]));
-            }
-            let size = if is_control { 0 } else { u32_at(held, 4)? as usize };
-            if held.len() < 8 + size {
-                return Ok(None);
-            }
-            let begin = self.from;
-            self.from += 8 + size;
-            if !is_control {
-                return Ok(Some((self.buffer[begin + 3], &self.buffer[begin + 8..self.from])));
-            }
-        }
-    }
-
-    /// Reads once. False where nothing came in time.
-    fn fill(&mut self) -> Outcome<bool> {
-        self.buffer.copy_within(self.from..self.to, 0);
-        (self.from, self.to) = (0, self.to - self.from);
-        match self.stream.read(&mut self.buffer[self.to..]) {
-            Ok(0) => Err("the server ended the connection, or a message is too long".into()),
-            Ok(count) => {
-                self.to += count;
-                Ok(true)
-            }
-            Err(error) if matches!(error.kind(), ErrorKind::WouldBlock | ErrorKind::Interrupted) => Ok(false),
-            Err(error) => Err(format!("read: {error}")),
-        }
-    }
-
-    /// The payload of the next message, which has this command; others before a validation are passed over.
-    fn expect(&mut self, command: u8) -> Outcome<Vec<u8>> {
-        loop {
-            while let Some((came, payload)) = self.held_message()? {
-                match came {
-                    _ if came == command => return Ok(payload.to_vec()),
-                    VALIDATION => {}
-                    _ => return Err(format!("message {came:02X} in place of {command:02X}")),
-                }
-            }
-            if !self.fill()? {
-                return Err(format!("no message {command:02X} in {PATIENCE:?}"));
-            }
-        }
-    }
-
-    fn put(&mut self, value: i32) -> Outcome<()> {
-        let mut part = b"\x01\x02".to_vec();
-        part.extend(value.to_le_bytes());
-        self.ask(PUT, 0, &part)
-    }
-
-    fn put_is_done(&mut self) -> Outcome<()> {
-        let done = self.expect(PUT)?;
-        match done.get(5) {
-            Some(0xFF) => Ok(()),
-            _ => Err(format!("a put was refused: {:?}", String::from_utf8_lossy(&done))),
-        }
-    }
-}
-
-/// What a part tells of a longout.
-struct Part {
-    value: Option<i32>,
-    /// How many bytes it has.
-    size: usize,
-}
-
-/// The set of numbers at the front of these bytes, and how many bytes it has.
-fn bits_of(bytes: &[u8]) -> Outcome<(u64, usize)> {
-    let size = *bytes.first().ok_or("a set is missing")? as usize;
-    let set = bytes
-        .get(1..1 + size)
-        .filter(|set| set.len() <= 8)
-        .ok_or("a set is wrong")?;
-    let bits = set.iter().rev().fold(0, |bits, byte| bits << 8 | u64::from(*byte));
-    Ok((bits, 1 + size))
-}
-
-/// The part at the front of these bytes: the set of its leaves and these, of the value, the alarm and the time stamp of an NTScalar.
-fn part_of(bytes: &[u8]) -> Outcome<Part> {
-    let (bits, mut at) = bits_of(bytes)?;
-    if bits & !0x03BA != 0 {
-        return Err(format!("a part has the fields {bits:X}"));
-    }
-    let value = if bits & 2 != 0 {
-        Some(u32_at(bytes, at)? as i32)
-    } else {
-        None
-    };
-    for leaf in 1..10 {
-        if bits >> leaf & 1 == 1 {
-            at += match leaf {
-                5 => 1 + *bytes.get(at).ok_or("a text is missing")? as usize,
-                7 => 8,
-                _ => 4,
-            };
-        }
-    }
-    if bytes.len() < at {
-        return Err("a part is too short".into());
-    }
-    Ok(Part { value, size: at })
-}
-
-/// What the updates of one record showed, whose values count its puts: a record that opened with `base` is put `base + step`, then
-/// `base + 2 * step`, and so on.
-struct Shown {
-    base: i32,
-    step: i32,
-    puts: Option<i32>,
-    updates: u64,
-    squashed: u64,
-}
-
-impl Shown {
-    fn new(base: usize, step: usize) -> Shown {
-        Shown {
-            base: base as i32,
-            step: step as i32,
-            puts: None,
-            updates: 0,
-            squashed: 0,
-        }
-    }
-
-    /// Takes in a value, of which it is told whether it changed more than once since the update before. One that passes a put over and
-    /// isn't marked so has lost an update.
-    fn show(&mut self, value: i32, is_overrun: bool) -> Outcome<()> {
-        let put = (value - self.base) / self.step;
-        if self.base + put * self.step != value {
-            return Err(format!("the value {value} is none that was put to R{}", self.base));
-        }
-        if let Some(before) = self.puts {
-            let is_told = if is_overrun {
-                put > before + 1
-            } else {
-                put == before + 1
-            };
-            if !is_told {
-                let kind = if is_overrun {
-                    "marked as overrun"
-                } else {
-                    "not marked as overrun"
-                };
-                return Err(format!("R{}: put {put} behind put {before}, {kind}", self.base));
-            }
-        }
-        self.puts = Some(put);
-        self.updates += 1;
-        self.squashed += u64::from(is_overrun);
-        Ok(())
-    }
-
-    /// Takes in an update.
-    fn update(&mut self, payload: &[u8]) -> Outcome<()> {
-        if u32_at(payload, 0)? != 1 || payload.get(4) != Some(&0) {
-            return Err("a message of a monitor is no update".into());
-        }
-        let part = part_of(&payload[5..])?;
-        let (overrun, size) = bits_of(&payload[5 + part.size..])?;
-        if payload.len() != 5 + part.size + size {
-            return Err("an update has bytes behind it".into());
-        }
-        match part.value {
-            Some(value) => self.show(value, overrun & 2 != 0),
-            None => Err("an update has no value".into()),
-        }
-    }
-}
-
-/// The first of these, in order, below which this part of a hundred stands.
-fn at<T: Copy>(sorted: &[T], part: usize) -> T {
-    sorted[(sorted.len() - 1) * part / 100]
-}
-
-/// The processor time of a process so far, in seconds: the ticks that /proc tells, of which Linux has 100 in a second.
-fn processor_time(pid: u32) -> Outcome<f64> {
-    let text = told(read_to_string(format!("/proc/{pid}/stat")), "the server is gone")?;
-    let words: Vec<&str> = text.rsplit(')').next().unwrap().split_whitespace().collect();
-    let ticks = |at: usize| words[at].parse::<f64>().unwrap();
-    Ok((ticks(11) + ticks(12)) / 100.0)
-}
-
-/// A number of /proc/PID/status, such as the KiB of memory.
-fn status_of(pid: u32, name: &str) -> Outcome<u64> {
-    let text = told(read_to_string(format!("/proc/{pid}/status")), "the server is gone")?;
-    let line = text
-        .lines()
-        .find_map(|line| line.strip_prefix(name))
-        .ok_or("no such line")?;
-    Ok(line.split_whitespace().nth(1).unwrap_or("").parse().unwrap_or(0))
-}
 
 fn echo_to(mut stream: TcpStream) -> std::io::Result<()> {
     stream.set_nodelay(true)?;
@@ -534,23 +237,6 @@ fn gets(
     Ok(())
 }
 
-/// A monitor of all fields of this record that has begun and was started, and what its first update shows.
-fn watch_record(port: u16, record: usize, step: usize) -> Outcome<(Conn, Shown)> {
-    let mut conn = Conn::open(port, record)?;
-    conn.begin(MONITOR, 8, ALL)?;
-    conn.ask(MONITOR, 0x44, &[])?;
-    let mut shown = Shown::new(record, step);
-    shown.update(&conn.expect(MONITOR)?)?;
-    Ok((conn, shown))
-}
-
-/// A connection that may put to this record.
-fn putter(port: u16, record: usize) -> Outcome<Conn> {
-    let mut conn = Conn::open(port, record)?;
-    conn.begin(PUT, 8, ALL)?;
-    Ok(conn)
-}
-
 fn delay(port: u16, count: i32) -> Outcome<()> {
     let (mut conn, mut shown) = watch_record(port, 0, 1)?;
     let mut writer = putter(port, 0)?;
@@ -573,6 +259,97 @@ fn delay(port: u16, count: i32) -> Outcome<()> {
         at(&times, 50),
         at(&times, 99)
     );
+    Ok(())
+}
+
+/// Puts 1, 2, 3 and so on, so many a second, each at its own time whatever was heard by then. Each gives the time at which it was sent.
+fn put_in_time(writer: &mut Conn, rate: f64, sent: &[Mutex<Option<Instant>>]) -> Outcome<()> {
+    let begun = Instant::now();
+    for (place, time) in sent.iter().enumerate() {
+        let due = begun + Duration::from_secs_f64(place as f64 / rate);
+        thread::sleep(due.saturating_duration_since(Instant::now()));
+        *time.lock().unwrap() = Some(Instant::now());
+        writer.put(place as i32 + 1)?;
+        writer.put_is_done()?;
+    }
+    Ok(())
+}
+
+fn latency(port: u16, rate: u32, seconds: u32) -> Outcome<()> {
+    let (mut conn, mut shown) = watch_record(port, 0, 1)?;
+    let mut writer = putter(port, 0)?;
+    let count = rate * seconds;
+    let sent: Vec<Mutex<Option<Instant>>> = (0..count).map(|_| Mutex::new(None)).collect();
+    let mut times = Vec::new();
+    let put = thread::scope(|scope| {
+        let putting = scope.spawn(|| put_in_time(&mut writer, rate.into(), &sent));
+        while shown.puts != Some(count as i32) {
+            shown.update(&conn.expect(MONITOR)?)?;
+            let heard = Instant::now();
+            let put = shown.puts.unwrap_or(0) as usize;
+            if let Some(at) = put.checked_sub(1).and_then(|place| *sent[place].lock().unwrap()) {
+                times.push((heard - at).as_nanos() as f64 / 1e6);
+            }
+        }
+        putting.join().unwrap()
+    });
+    put?;
+    times.sort_by(f64::total_cmp);
+    println!(
+        "{rate} puts a second: shown to another connection's monitor within {:.2} ms (median), {:.2} ms (99%) and {:.2} ms (all); {} of {count} updates stand for several puts",
+        at(&times, 50),
+        at(&times, 99),
+        at(&times, 100),
+        shown.squashed
+    );
+    Ok(())
+}
+
+fn rest(port: u16, pid: u32, clients: usize, seconds: u64) -> Outcome<()> {
+    let watched = (0..clients)
+        .map(|client| watch_record(port, client % 64, 64))
+        .collect::<Outcome<Vec<_>>>()?;
+    // the first seconds are those in which they aren't yet at rest
+    thread::sleep(Duration::from_secs(2));
+    let (spent, begun) = (processor_time(pid)?, Instant::now());
+    thread::sleep(Duration::from_secs(seconds));
+    let share = (processor_time(pid)? - spent) / begun.elapsed().as_secs_f64();
+    println!("{} connections at rest take {:.1}% of a processor", watched.len(), share * 100.0);
+    Ok(())
+}
+
+/// How many threads, descriptors and mappings a process has.
+fn counted(pid: u32) -> Outcome<[usize; 3]> {
+    let maps = told(read_to_string(format!("/proc/{pid}/maps")), "the server is gone")?;
+    let descriptors = told(std::fs::read_dir(format!("/proc/{pid}/fd")), "the server is gone")?.count();
+    Ok([status_of(pid, "Threads")? as usize, descriptors, maps.lines().count()])
+}
+
+/// Opens so many connections, as many at a time, each of which is greeted and goes.
+fn storm(port: u16, pid: u32, count: usize, at_once: usize) -> Outcome<()> {
+    let (before, memory, begun) = (counted(pid)?, status_of(pid, "VmRSS")?, Instant::now());
+    let mut came = 0;
+    while came < count {
+        let mut streams = Vec::new();
+        for _ in 0..at_once.min(count - came) {
+            streams.push(told(TcpStream::connect(("127.0.0.1", port)), "connect")?);
+        }
+        for stream in &mut streams {
+            told(stream.set_read_timeout(Some(PATIENCE)), "read timeout")?;
+            told(stream.read_exact(&mut [0; 8]), "no greeting")?;
+        }
+        came += streams.len();
+    }
+    let elapsed = begun.elapsed().as_secs_f64();
+    thread::sleep(Duration::from_secs(2));
+    let (after, grew) = (counted(pid)?, status_of(pid, "VmRSS")?.saturating_sub(memory));
+    println!(
+        "{count} connections, {at_once} at a time, in {elapsed:.1} s: threads, descriptors and mappings {before:?} before and {after:?} behind; {:.0} bytes of memory for each",
+        grew as f64 * 1024.0 / count as f64
+    );
+    if after[0] != before[0] || after[1] != before[1] {
+        return Err("threads or descriptors are left over".into());
+    }
     Ok(())
 }
 
@@ -862,6 +639,9 @@ fn do_as(words: &[String]) -> Outcome<()> {
             )?;
         }
         Some("delay") => delay(port(1)?, number(2)? as i32)?,
+        Some("latency") => latency(port(1)?, number(2)?, number(3)?)?,
+        Some("rest") => rest(port(1)?, number(2)?, number(3)? as usize, number(4)?.into())?,
+        Some("storm") => storm(port(1)?, number(2)?, number(3)? as usize, number(4)? as usize)?,
         Some("hold") => hold(
             port(1)?,
             number(2)?,

@@ -40,12 +40,13 @@ await() {
     exit 1
 }
 
-# Starts a server of the records at a free port ($port, and $udp for searches), as the process $pid. Its history may grow as long as a
-# bench lasts.
+# Starts a server of the records at a free port ($port, and $udp for searches), as the process $pid, with the words of `more` behind its own.
+# Its history may grow as long as a bench lasts.
+more=()
 start_server() {
     port=$("$load" port) udp=$("$load" udp)
     : >"$work/said"
-    "$server" --listen "127.0.0.1:$port" --udp "$udp" --journal 17179869184 "$work/records.db" >"$work/said" &
+    "$server" --listen "127.0.0.1:$port" --udp "$udp" --journal 17179869184 "$work/records.db" "${more[@]}" >"$work/said" &
     pid=$!
     pids+=("$pid")
     await "$work/said" listening "$pid"

@@ -40,7 +40,7 @@ fn accepted(step: AcceptStep<TcpLink>) -> Option<TcpLink> {
 
 #[test]
 fn a_listener_accepts_who_connects_to_its_port(rt: HostRuntime) -> Result<(), Fail> {
-    let mut listener = TcpListener::new(rt, rt.alloc())?;
+    let mut listener = TcpListener::new(rt, rt.alloc(), 0)?;
     assert!(rt; matches!(listener.accept(), AcceptStep::Failed));
     let port = port_of(listener.bind(here(0))).expect(&rt, "a port");
     assert_eq!(rt; listener.bind(here(port)), BindStep::Failed);
@@ -54,7 +54,7 @@ fn a_listener_accepts_who_connects_to_its_port(rt: HostRuntime) -> Result<(), Fa
 
 #[test]
 fn a_link_moves_bytes_both_ways_until_it_is_closed(rt: HostRuntime) -> Result<(), Fail> {
-    let mut listener = TcpListener::new(rt, rt.alloc())?;
+    let mut listener = TcpListener::new(rt, rt.alloc(), 0)?;
     let port = port_of(listener.bind(here(0))).expect(&rt, "a port");
     let mut client = dialed(TcpDialer::new(rt).dial(here(port))).expect(&rt, "a server");
     let mut server = accepted(listener.accept()).expect(&rt, "a client");
@@ -75,7 +75,7 @@ fn a_link_moves_bytes_both_ways_until_it_is_closed(rt: HostRuntime) -> Result<()
 
 #[test]
 fn a_dial_fails_where_nobody_listens(rt: HostRuntime) -> Result<(), Fail> {
-    let mut listener = TcpListener::new(rt, rt.alloc())?;
+    let mut listener = TcpListener::new(rt, rt.alloc(), 0)?;
     let port = port_of(listener.bind(here(0))).expect(&rt, "a port");
     let mut dialer = TcpDialer::new(rt);
     let link = dialed(dialer.dial(here(port))).expect(&rt, "a server");
@@ -87,7 +87,7 @@ fn a_dial_fails_where_nobody_listens(rt: HostRuntime) -> Result<(), Fail> {
 
 #[test]
 fn datagrams_come_with_the_address_of_their_sender(rt: HostRuntime) -> Result<(), Fail> {
-    let listener = TcpListener::new(rt, rt.alloc())?;
+    let listener = TcpListener::new(rt, rt.alloc(), 0)?;
     let mut one = UdpDatagrams::new(rt);
     let mut other = UdpDatagrams::ringing(rt, listener.bell()?);
     let mut buffer = [0u8; 8];
@@ -104,7 +104,7 @@ fn datagrams_come_with_the_address_of_their_sender(rt: HostRuntime) -> Result<()
 
 #[test]
 fn a_datagram_ends_the_wait_of_an_accept(rt: HostRuntime) -> Result<(), Fail> {
-    let mut listener = TcpListener::new(rt, rt.alloc())?;
+    let mut listener = TcpListener::new(rt, rt.alloc(), 0)?;
     let mut datagrams = UdpDatagrams::ringing(rt, listener.bell()?);
     let mut sender = UdpDatagrams::new(rt);
     let mut buffer = [0u8; 8];

@@ -1,4 +1,5 @@
 pub mod Addresses
+pub mod Refusals
 pub mod TcpDialer
 pub mod TcpLink
 pub mod TcpListener

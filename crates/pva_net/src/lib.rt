@@ -6,7 +6,9 @@
 
 mod addresses;
 mod bell;
+mod pace;
 mod patience;
+mod refusal_at_accept;
 mod tcp_dialer;
 mod tcp_link;
 mod tcp_listener;

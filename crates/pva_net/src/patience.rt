@@ -1,9 +1,17 @@
 // How long a call waits.
 use std::time::Duration;
 
-/// How long a call waits for a peer before it is idle.
+/// How many milliseconds a call waits for a peer, at the most, before it is idle.
+pub(crate) const PATIENCE: u16 = 50;
+
+/// How long a call waits for a peer, at the most, before it is idle.
 pub(crate) fn patience() -> Duration {
-    Duration::from_millis(50)
+    Duration::from_millis(PATIENCE as u64)
+}
+
+/// How long at least passes between two accepts that found nobody although something woke them.
+pub(crate) fn pause() -> Duration {
+    Duration::from_millis(1)
 }
 
 /// How long a server has to answer a dial.

@@ -4,6 +4,7 @@ ghost use Rattle.pva_outside.specs.Dials.{Dials, TakesBack};
 ghost use Rattle.pva_net.specs.TcpLink.{tcp_wire, new_wire};
 
 use crate::addresses::address_of;
+use crate::pace::Pace;
 use crate::patience::dial_patience;
 use crate::tcp_link::TcpLink;
 use pva_outside::{DialStep, Dialer, NoMemory, Peer, Refusal, raise, raise_by, refusal_of};
@@ -44,7 +45,7 @@ impl<R: Net<Stream = TcpStream> + Drop> TcpDialer<R> {
         ensures { IfOk result (λ link. tcp_wire link ≡ new_wire) }
     {
         let stream = TcpStream::connect_timeout(&self.rt, &address_of(to), dial_patience())?;
-        TcpLink::over(stream)
+        TcpLink::over(stream, Pace::of_client())
     }
 }
 
