@@ -7,7 +7,7 @@ use Rattle.clap.specs.Words.{HasKind, Row, Text, kind_of}
 use Rattle.clap.specs.declared.error.Error.{Error}
 use Rattle.clap.specs.declared.error.kind.ErrorKind.TheVariants.{OutOfMemory}
 use Rattle.db_text.specs.Macros.{Macros}
-use Rattle.prog_server.specs.Words.{Asked, Asks, AreTaken, AreRead, RowsAreRead, IsSourceIn, IsSourceNeeded, IsSourceOr, IsTask, IsTaskIn, AreMacrosIn, IsDrill, IsIfGiven, IsListen, asked_of, given, is_set, most_turns, needs_source, task_by, word_faults, word_rows}
+use Rattle.prog_server.specs.Words.{Asked, Asks, AreTaken, AreRead, RowsAreRead, IsSourceIn, IsSourceNeeded, IsSourceOr, IsTask, IsTaskIn, AreMacrosIn, AskForSilence, IsDrill, IsIfGiven, IsListen, asked_of, given, is_set, most_turns, needs_source, task_by, word_faults, word_rows}
 use Rattle.pva_outside.specs.declared.peer.Peer.{Peer}
 use Rattle.prog_network.specs.Addresses.{IsAddress}
 use Rattle.prog_network.specs.Guids.{IsGuid}
@@ -82,6 +82,9 @@ no_beacon rows none asked is = none asked.beacon is.beacon_is
 
 pub no_guid : (rows : List Row) → ((g : Option (List ℕ)) → ¬ (IsIfGiven IsGuid (given rows (codes "guid")) g)) → (asked : Asked) → ¬ (Asks rows asked)
 no_guid rows none asked is = none asked.guid is.guid_is
+
+pub no_silence : (rows : List Row) → ((n : ℕ) → ¬ (IsCountOr (given rows (codes "silence")) 0 (2 ^ 32 - 1) 0 n)) → (asked : Asked) → ¬ (Asks rows asked)
+no_silence rows none asked is = none asked.silence is.silence_is
 
 -- an option that may be left out, and is given in another form
 
@@ -162,10 +165,22 @@ one_asked_in rows a b p q =
     let udp : a.udp ≡ b.udp = one_count (given rows (codes "udp")) 0 65535 5076 a.udp b.udp (omega arith) p.udp_is q.udp_is in
     let beacon : a.beacon ≡ b.beacon = one_beacon (given rows (codes "beacon")) a.beacon b.beacon p.beacon_is q.beacon_is in
     let guid : a.guid ≡ b.guid = one_guid_of (given rows (codes "guid")) a.guid b.guid p.guid_is q.guid_is in
-    λ i. record { task = task i; source = source i; macros = macros i; order = order i; journal = journal i; turns = turns i; udp = udp i; beacon = beacon i; guid = guid i }
+    let silence : a.silence ≡ b.silence = one_count (given rows (codes "silence")) 0 (2 ^ 32 - 1) 0 a.silence b.silence (omega arith) p.silence_is q.silence_is in
+    λ i. record { task = task i; source = source i; macros = macros i; order = order i; journal = journal i; turns = turns i; udp = udp i; beacon = beacon i; guid = guid i; silence = silence i }
 
 pub one_asked : (words : List Text) (a b : Asked) → AreTaken words a → AreTaken words b → a ≡ b
 one_asked words a b p q = one_asked_in (word_rows words) a b p.asks q.asks
+
+-- the silence that words ask for
+
+pub silence_asked : (words : List Text) (asked : Asked) → AreTaken words asked → AskForSilence words asked.silence
+silence_asked words asked taken = record {
+  taken = λ other is. ap (λ (a : Asked). a.silence) (one_asked words asked other taken is);
+  untaken = λ none. absurd (none asked taken);
+}
+
+pub no_silence_asked : (words : List Text) → ((asked : Asked) → ¬ (AreTaken words asked)) → AskForSilence words 0
+no_silence_asked words none = record { taken = λ other is. absurd (none other is); untaken = λ _. refl }
 
 -- what the option for the drill names, or that for a server of many clients
 

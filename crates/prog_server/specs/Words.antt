@@ -17,7 +17,7 @@ use Rattle.prog_server.specs.declared.words.Task.TheVariants.{Inetd, Check, List
 use Rattle.prog_server.specs.declared.words.WordsStop.{WordsStop}
 use Rattle.prog_server.specs.declared.words.WordsStop.TheVariants.{Refused, NoMemory}
 
--- The command, as `clap` takes it: three flags, eight options, and one argument.
+-- The command, as `clap` takes it: three flags, nine options, and one argument.
 
 abbrev pub option_rule : Text → Rule
 option_rule name = record (new_rule name) { long = Some name }
@@ -45,7 +45,8 @@ server_app =
     let i = with_rule h (option_rule (codes "udp")) in
     let j = with_rule i (option_rule (codes "beacon")) in
     let k = with_rule j (option_rule (codes "guid")) in
-    with_rule k (new_rule (codes "source"))
+    let l = with_rule k (option_rule (codes "silence")) in
+    with_rule l (new_rule (codes "source"))
 
 -- what the command finds wrong with the words
 unfoldable pub word_faults : List Text → Kinds
@@ -131,6 +132,7 @@ pub record Asked : Type 0 where
   pub udp : ℕ
   pub beacon : Option Peer
   pub guid : Option (List ℕ)
+  pub silence : ℕ
 
 -- the macros of those asked, as they are seen
 abbrev pub asked_of : AskedRead → Asked
@@ -144,6 +146,7 @@ asked_of a = record {
   udp = a.udp;
   beacon = a.beacon;
   guid = a.guid;
+  silence = a.silence;
 }
 
 -- the source that the argument names, if it is given
@@ -175,11 +178,17 @@ pub record Asks (rows : List Row) (asked : Asked) : Type 0 where
   pub udp_is : IsCountOr (given rows (codes "udp")) 0 65535 5076 asked.udp
   pub beacon_is : IsIfGiven IsAddress (given rows (codes "beacon")) asked.beacon
   pub guid_is : IsIfGiven IsGuid (given rows (codes "guid")) asked.guid
+  pub silence_is : IsCountOr (given rows (codes "silence")) 0 (2 ^ 32 - 1) 0 asked.silence
 
 -- The command takes the words, and they ask for this.
 pub record AreTaken (words : List Text) (asked : Asked) : Type 0 where
   pub faultless : word_faults words ≡ []
   pub asks : Asks (word_rows words) asked
+
+-- The words ask for so many seconds of silence: for 0 where they aren't taken.
+pub record AskForSilence (words : List Text) (seconds : ℕ) : Type 0 where
+  pub taken : (asked : Asked) → AreTaken words asked → seconds ≡ asked.silence
+  pub untaken : ((asked : Asked) → ¬ (AreTaken words asked)) → seconds ≡ 0
 
 -- what the words come to; want of memory is free
 abbrev pub AreRead : List Text → Result AskedRead WordsStop → Type 0

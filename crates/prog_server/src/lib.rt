@@ -11,4 +11,4 @@ mod words;
 
 pub use program::{Status, faultless_runs_are_done, run_alone};
 pub use server::run;
-pub use words::{Asked, Task, WordsStop, read_words, words_ask_for_one_thing};
+pub use words::{Asked, Task, WordsStop, read_words, silence_of, words_ask_for_one_thing};

@@ -1,7 +1,7 @@
 // The words of the command line.
-ghost use Rattle.std.specs.Prelude.{◌≡◌, ◌≢◌, ◌<◌, ◌^◌, ℕ, List, Option, None, false, IfOk, MatchOption, codes, is_some, map, option_map, ◌||◌};
+ghost use Rattle.std.specs.Prelude.{◌≡◌, ◌≢◌, ◌<◌, ◌-◌, ◌^◌, ℕ, List, Option, None, false, IfOk, MatchOption, codes, is_some, map, option_map, ◌||◌};
 ghost use Rattle.clap.specs.Words.{FailsBy, app_of, found_of, is_broken, kind_of, rows_of, with_rule};
-ghost use Rattle.prog_server.specs.Words.{AreRead, AreMacrosIn, IsDrill, IsIfGiven, IsListen, IsSourceIn, IsSourceNeeded, IsTask, IsTaskIn, most_turns, needs_source, RowsAreRead, bare_app, flag_rule, given, is_set, option_rule, order_by, server_app, task_by, word_faults, word_rows};
+ghost use Rattle.prog_server.specs.Words.{AreRead, AreMacrosIn, AskForSilence, IsDrill, IsIfGiven, IsListen, IsSourceIn, IsSourceNeeded, IsTask, IsTaskIn, most_turns, needs_source, RowsAreRead, bare_app, flag_rule, given, is_set, option_rule, order_by, server_app, task_by, word_faults, word_rows};
 ghost use Rattle.prog_network.specs.Addresses.{IsAddress};
 ghost use Rattle.prog_network.specs.Guids.{IsGuid};
 ghost use Rattle.pva_outside.specs.declared.peer.Peer.{Peer as PeerSaid};
@@ -27,6 +27,9 @@ const TURNS: u64 = 1 << 62;
 
 /// How many accepts a server of many clients may make, at the most.
 const ACCEPTS: u64 = 0x7FFF_FFFF;
+
+/// Behind how many seconds of silence a client is given up, unless the words say otherwise: never.
+const SILENCE: u64 = 0;
 
 /// The port of searches, unless the words say otherwise (pvAccess Protocol Specification, "Channel Discovery").
 const SEARCHES: u64 = 5_076;
@@ -61,6 +64,8 @@ pub struct Asked<'a> {
     pub beacon: Option<Peer>,
     /// What tells the server from all others.
     pub guid: Option<[u8; 12]>,
+    /// Behind how many seconds without a byte a server of many clients gives one of them up. 0: never.
+    pub silence: u32,
 }
 
 /// Why words ask for nothing.
@@ -129,6 +134,7 @@ fn server_command<'a>(alloc: Global) -> Result<Command<'a>, AllocError>
     let command = with_option(command, alloc, "udp")?;
     let command = with_option(command, alloc, "beacon")?;
     let command = with_option(command, alloc, "guid")?;
+    let command = with_option(command, alloc, "silence")?;
     command.arg(Arg::new(alloc, "source"))
 }
 
@@ -373,8 +379,18 @@ fn guid_in(matches: &ArgMatches<'_>) -> Option<Option<[u8; 12]>>
     guid_by(given(matches, "guid"))
 }
 
+/// Behind how many seconds of silence a client is given up. None where the option for it isn't of its form.
+fn silence_in(matches: &ArgMatches<'_>) -> Option<u32>
+    ensures { MatchOption result ((n : ℕ) → ¬ (IsCountOr (given (rows_of (found_of matches.now)) (codes "silence")) 0 (2 ^ 32 - 1) 0 n)) (IsCountOr (given (rows_of (found_of matches.now)) (codes "silence")) 0 (2 ^ 32 - 1) 0) }
+{
+    let Some(count) = count_of(matches, "silence", 0, u32::MAX as u64, SILENCE) else {
+        return None;
+    };
+    Some(count as u32)
+}
+
 /// What the options ask for.
-#[tactic(auto, using(crate::proofs::Rows::no_task, crate::proofs::Rows::no_source, crate::proofs::Rows::no_journal, crate::proofs::Rows::no_turns, crate::proofs::Rows::no_udp, crate::proofs::Rows::no_beacon, crate::proofs::Rows::no_guid, crate::proofs::Rows::no_macros))]
+#[tactic(auto, using(crate::proofs::Rows::no_task, crate::proofs::Rows::no_source, crate::proofs::Rows::no_journal, crate::proofs::Rows::no_turns, crate::proofs::Rows::no_udp, crate::proofs::Rows::no_beacon, crate::proofs::Rows::no_guid, crate::proofs::Rows::no_silence, crate::proofs::Rows::no_macros))]
 fn asked_of<'a>(alloc: Global, matches: &ArgMatches<'a>) -> Result<Asked<'a>, WordsStop>
     ensures { RowsAreRead (rows_of (found_of matches.now)) result }
 {
@@ -400,6 +416,9 @@ fn asked_of<'a>(alloc: Global, matches: &ArgMatches<'a>) -> Result<Asked<'a>, Wo
     let Some(guid) = guid_in(matches) else {
         return Err(WordsStop::Refused);
     };
+    let Some(silence) = silence_in(matches) else {
+        return Err(WordsStop::Refused);
+    };
     let Some(macros) = macros_in(alloc, matches)? else {
         return Err(WordsStop::Refused);
     };
@@ -413,6 +432,7 @@ fn asked_of<'a>(alloc: Global, matches: &ArgMatches<'a>) -> Result<Asked<'a>, Wo
         udp,
         beacon,
         guid,
+        silence,
     })
 }
 
@@ -435,6 +455,19 @@ pub fn read_words<'a>(alloc: Global, words: &'a [&'a str]) -> Result<Asked<'a>, 
     match matches_of(alloc, words) {
         Ok(matches) => asked_of(alloc, &matches),
         Err(error) => Err(stop_of(&error)),
+    }
+}
+
+/// Behind how many seconds without a byte a server of many clients, that these words ask for, gives one of them up. 0: never, as where
+/// the words aren't taken.
+#[tactic(auto, using(crate::proofs::Rows::silence_asked, crate::proofs::Rows::no_silence_asked))]
+pub fn silence_of(alloc: Global, words: &[&str]) -> Result<u32, AllocError>
+    ensures { IfOk result (AskForSilence (map (λ s. s.now) words.now)) }
+{
+    match read_words(alloc, words) {
+        Ok(asked) => Ok(asked.silence),
+        Err(WordsStop::Refused) => Ok(0),
+        Err(WordsStop::NoMemory) => Err(AllocError),
     }
 }
 

@@ -3,7 +3,7 @@
 #![tactic(auto)]
 
 use prog_listen::Network;
-use prog_server::{Status, run};
+use prog_server::{Status, run, silence_of};
 use pva_net::{TcpListener, UdpDatagrams};
 use pva_outside::{
     FilePorts, Kinds, Link, StreamLink, StreamSink, SystemClock, SystemFiles, World,
@@ -53,6 +53,9 @@ SOURCE           the file of a database text, or NAME=VALUE: one longout and the
                  each hundredth; none goes unless it is given
 --guid DIGITS    with --listen, the 24 hexadecimal digits that tell this server
                  from all others (made of the time unless they are given)
+--silence N      with --listen, behind how many seconds in which nothing comes
+                 from a client, or it takes nothing, its connection is closed,
+                 from 0 to 4294967295; at 0, which is the default, none is
 -h, --help       shows this text
 -V, --version    shows the version
 
@@ -93,9 +96,6 @@ the port, or it isn't this machine's), or accepting failed; 7 no memory; 8 the
 turns were spent (--inetd). A fault shows by its status alone.
 ";
 
-/// Behind how many seconds of silence a client is given up: none is.
-const SILENCE: u32 = 0;
-
 /// What `--version` shows.
 const VERSION: &str = "pvaserve 0.1.0\n";
 
@@ -130,12 +130,14 @@ fn arguments(rt: &HostRuntime) -> io::Result<Vec<String>> {
     Ok(arguments.collect(rt.alloc())?)
 }
 
-/// What reaches the network, not bound. A datagram ends the wait for clients, so that searches are answered at once.
+/// What reaches the network, not bound. A client is given up behind so many seconds of silence, and none is at 0. A datagram ends the wait
+/// for clients, so that searches are answered at once.
 fn network(
     rt: HostRuntime,
     alloc: Global,
+    silence: u32,
 ) -> io::Result<Network<TcpListener<HostRuntime>, UdpDatagrams<HostRuntime>>> {
-    let listener = TcpListener::new(rt, alloc, SILENCE)?;
+    let listener = TcpListener::new(rt, alloc, silence)?;
     let datagrams = UdpDatagrams::ringing(rt, listener.bell()?);
     Ok(Network {
         listener,
@@ -157,6 +159,7 @@ fn run_with<R: Threads + Wait + Sync>(
             Err(_) => Status::Outside as u8,
         });
     }
+    let silence = silence_of(alloc, &words)?;
     let mut world: World<System> = World {
         link: StreamLink::new(rt.stdin(), rt.stdout()),
         files: SystemFiles::new(rt),
@@ -164,7 +167,7 @@ fn run_with<R: Threads + Wait + Sync>(
         sink: StreamSink::new(rt.stdout()),
         clock: SystemClock::new(rt),
     };
-    let mut network = match network(rt, alloc) {
+    let mut network = match network(rt, alloc, silence) {
         Ok(network) => network,
         Err(error) if error.kind() == ErrorKind::OutOfMemory => return Err(AllocError),
         Err(_) => return Ok(Status::Outside as u8),

@@ -17,7 +17,8 @@ returns-clause-app c =
     let a9 = c.in_ok-command-9.ensures.app ∙ ap (λ (a : App). with_rule a (option_rule (codes "udp"))) a8 in
     let a10 = c.in_ok-command-10.ensures.app ∙ ap (λ (a : App). with_rule a (option_rule (codes "beacon"))) a9 in
     let a11 = c.in_ok-command-11.ensures.app ∙ ap (λ (a : App). with_rule a (option_rule (codes "guid"))) a10 in
-    IfOk-weaker c.arg.result _ _ (λ r h. h.shape c.new.ensures.optional.1 ∙ ap₂ with_rule a11 c.new.ensures.rule) c.arg.ensures
+    let a12 = c.in_ok-command-12.ensures.app ∙ ap (λ (a : App). with_rule a (option_rule (codes "silence"))) a11 in
+    IfOk-weaker c.arg.result _ _ (λ r h. h.shape c.new.ensures.optional.1 ∙ ap₂ with_rule a12 c.new.ensures.rule) c.arg.ensures
 
 pub returns-clause-whole : goal.returns-clause-whole
 returns-clause-whole c =
@@ -32,4 +33,5 @@ returns-clause-whole c =
     let w9 = c.in_ok-command-9.ensures.whole ∙ w8 in
     let w10 = c.in_ok-command-10.ensures.whole ∙ w9 in
     let w11 = c.in_ok-command-11.ensures.whole ∙ w10 in
-    IfOk-weaker c.arg.result _ _ (λ r h. h.broken ∙ w11) c.arg.ensures
+    let w12 = c.in_ok-command-12.ensures.whole ∙ w11 in
+    IfOk-weaker c.arg.result _ _ (λ r h. h.broken ∙ w12) c.arg.ensures
