@@ -3,10 +3,10 @@ use Rattle.std.proofs.Common.{◌≡◌, ℕ, ℤ, List, Option, None, Some, Res
 use Rattle.std.proofs.lemmas.Bool.{false≢true}
 use Rattle.pva_outside.specs.Count.{Rose}
 use Rattle.desk_api.specs.declared.history.SiteData.{SiteData}
-use Rattle.prog_drill.specs.Drilling.{TellsDrill, drill_lines}
-use Rattle.prog_source.specs.Opening.{Opens}
+use Rattle.prog_drill.specs.Drilling.{TellsDrill}
 use Rattle.pva_outside.specs.declared.peer.Peer.{Peer}
-use Rattle.prog_server.specs.Running.{Checking, Does, Drilling, IsLeft, Outside, Runs, Serving, Tells, status_by}
+use Rattle.prog_server.specs.Running.{Checking, Does, Drilling, IsLeft, Outside, Runs, Tells, status_by}
+use Rattle.prog_server.specs.Sources.{IsChecked, IsServedFrom}
 use Rattle.prog_source.specs.Printing.{IsPrinted}
 use Rattle.clap.specs.Words.{Text}
 use Rattle.prog_server.specs.Words.{Asked, AreTaken, IsSourceOr, given, needs_source, word_rows}
@@ -44,36 +44,40 @@ pub named_by : (words : List Text) (asked : Asked) (source : Source) → AreTake
 named_by words asked source taken same =
     may_be_named _ source (subst (λ (o : Option Source). IsSourceOr (given (word_rows words) (codes "source")) o) same taken.asks.source_is.source_is)
 
-pub runs_check : (words : List Text) (asked : Asked) (source : Source) (found : Result SiteData SourceStop) (told : Option (ℤ × ℕ)) (old new : Outside) (status : ℕ) → asked.task ≡ Check → AreTaken words asked
-    → asked.source ≡ Some source → Opens asked.macros source old.files new.files found → Checking found old.printed new.printed old.print_faults new.print_faults status → new.ports ≡ old.ports → new.wire ≡ old.wire
-    → Runs words told old new status
-runs_check words asked source found told old new status task taken same opens checking ports wire = inl (record {
+-- words that were taken name a source by its name
+pub named_asked : (asked : Asked) (source : Source) → (words : List Text) × AreTaken words asked → asked.source ≡ Some source → IsNamed source
+named_asked asked source taken same = named_by taken.0 asked source taken.1 same
+
+pub runs_check : (asked : Asked) (source : Source) (told : Option (ℤ × ℕ)) (old new : Outside) (status : ℕ) → asked.task ≡ Check → asked.source ≡ Some source
+    → IsChecked asked.macros source old.files new.files old.printed new.printed old.print_faults new.print_faults status → new.ports ≡ old.ports → new.wire ≡ old.wire
+    → (words : List Text) → AreTaken words asked → Runs words told old new status
+runs_check asked source told old new status task same checked ports wire words taken = inl (record {
   asked = asked;
   taken = taken;
   source = source;
   source_is = same;
-  found = found;
-  opens = opens;
-  does = subst (λ (t : Task). Does t asked found told old new status) (sym task) (checking, record { ports_are = ports; wire = wire; status_is = refl });
+  found = checked.found;
+  opens = checked.opens;
+  does = subst (λ (t : Task). Does t asked checked.found told old new status) (sym task) (checked.checking, record { ports_are = ports; wire = wire; status_is = refl });
 })
 
-pub runs_inetd : (words : List Text) (asked : Asked) (source : Source) (found : Result SiteData SourceStop) (told : Option (ℤ × ℕ)) (old new : Outside) (status : ℕ) → asked.task ≡ Inetd → AreTaken words asked
-    → asked.source ≡ Some source → Opens asked.macros source old.files new.files found → Serving asked found told old.ports new.ports old.wire new.wire status → new.printed ≡ old.printed → new.print_faults ≡ old.print_faults
-    → Runs words told old new status
-runs_inetd words asked source found told old new status task taken same opens serving printed faults = inl (record {
+pub runs_inetd : (asked : Asked) (source : Source) (told : Option (ℤ × ℕ)) (old new : Outside) (status : ℕ) → asked.task ≡ Inetd → asked.source ≡ Some source
+    → IsServedFrom asked source old.files new.files told old.ports new.ports old.wire new.wire status → new.printed ≡ old.printed → new.print_faults ≡ old.print_faults
+    → (words : List Text) → AreTaken words asked → Runs words told old new status
+runs_inetd asked source told old new status task same served printed faults words taken = inl (record {
   asked = asked;
   taken = taken;
   source = source;
   source_is = same;
-  found = found;
-  opens = opens;
-  does = subst (λ (t : Task). Does t asked found told old new status) (sym task) (serving, record { printed = printed; print_faults = faults; status_is = refl });
+  found = served.found;
+  opens = served.opens;
+  does = subst (λ (t : Task). Does t asked served.found told old new status) (sym task) (served.serving, record { printed = printed; print_faults = faults; status_is = refl });
 })
 
-pub runs_drill : (words : List Text) (asked : Asked) (n : ℕ) (told : Option (ℤ × ℕ)) (old new : Outside) (status : ℕ) → asked.task ≡ Drill n → AreTaken words asked
+pub runs_drill : (asked : Asked) (n : ℕ) (told : Option (ℤ × ℕ)) (old new : Outside) (status : ℕ) → asked.task ≡ Drill n
     → Drilling n old.printed new.printed old.print_faults new.print_faults status → new.files ≡ old.files → new.ports ≡ old.ports → new.wire ≡ old.wire
-    → Runs words told old new status
-runs_drill words asked n told old new status task taken drills files ports wire = inr (inl (record {
+    → (words : List Text) → AreTaken words asked → Runs words told old new status
+runs_drill asked n told old new status task drills files ports wire words taken = inr (inl (record {
   asked = asked;
   taken = taken;
   number = n;
@@ -106,14 +110,14 @@ pub sourceless : (words : List Text) (asked : Asked) (task : Task) → AreTaken 
 sourceless words asked task taken none same needed =
     false≢true (sym (ap is_some none) ∙ taken.asks.source_is.there (ap needs_source same ∙ needed))
 
-pub no_source_to_check : (words : List Text) (asked : Asked) (told : Option (ℤ × ℕ)) (old new : Outside) (status : ℕ) → AreTaken words asked → asked.source ≡ None → asked.task ≡ Check
-    → Runs words told old new status
-no_source_to_check words asked told old new status taken none task = absurd (sourceless words asked Check taken none task refl)
+pub no_source_to_check : (asked : Asked) (told : Option (ℤ × ℕ)) (old new : Outside) (status : ℕ) → asked.source ≡ None → asked.task ≡ Check
+    → (words : List Text) → AreTaken words asked → Runs words told old new status
+no_source_to_check asked told old new status none task words taken = absurd (sourceless words asked Check taken none task refl)
 
-pub no_source_to_serve : (words : List Text) (asked : Asked) (told : Option (ℤ × ℕ)) (old new : Outside) (status : ℕ) → AreTaken words asked → asked.source ≡ None → asked.task ≡ Inetd
-    → Runs words told old new status
-no_source_to_serve words asked told old new status taken none task = absurd (sourceless words asked Inetd taken none task refl)
+pub no_source_to_serve : (asked : Asked) (told : Option (ℤ × ℕ)) (old new : Outside) (status : ℕ) → asked.source ≡ None → asked.task ≡ Inetd
+    → (words : List Text) → AreTaken words asked → Runs words told old new status
+no_source_to_serve asked told old new status none task words taken = absurd (sourceless words asked Inetd taken none task refl)
 
 -- a server of many clients is left to be run
-pub is_left : (words : List Text) (asked : Asked) (at : Peer) (old : Outside) → asked.task ≡ Listen at → AreTaken words asked → IsLeft words old old
-is_left words asked at old task taken = record { asks = record { asked = asked; taken = taken; at = at; task_is = task }; untouched = refl }
+pub is_left : (asked : Asked) (at : Peer) (old : Outside) → asked.task ≡ Listen at → (words : List Text) → AreTaken words asked → IsLeft words old old
+is_left asked at old task words taken = record { asks = record { asked = asked; taken = taken; at = at; task_is = task }; untouched = refl }

@@ -1,5 +1,6 @@
 pub mod Words
 pub mod Telling
 pub mod Running
+pub mod Sources
 pub mod Completeness
 pub mod Serving

@@ -1,21 +1,24 @@
 // The program, over the world that it is given.
-ghost use Rattle.std.specs.Prelude.{◌≡◌, ◌⊎◌, IfSome, length, map};
+ghost use Rattle.std.specs.Prelude.{◌≡◌, ◌⊎◌, ℕ, List, IfSome, length, map};
 ghost use Rattle.pva_outside.specs.Count.{Rose};
 ghost use Rattle.desk_core.specs.Ports.{ports_there, ports_wanted};
 ghost use Rattle.prog_server.specs.Running.{Checking, Drilling, RunsAlone, Serves, Serving, SiteServes, Tells};
 ghost use Rattle.prog_server.specs.Completeness.{Completes};
 ghost use Rattle.prog_server.specs.Running as running;
 ghost use Rattle.prog_server.specs.Telling.{counts_line, fault_line};
+ghost use Rattle.prog_server.specs.Sources.{IsChecked, IsServedFrom};
+ghost use Rattle.prog_server.specs.Words.{AreTaken};
 ghost use Rattle.prog_server.specs.Words as words;
+ghost use Rattle.prog_source.specs.Words.{IsNamed, source_of};
 ghost use Rattle.srv_stream.specs.Faults.{EndsAtFirstFault, FirstFault};
 
 use crate::telling::{line_of_fault, line_of_site};
 use crate::words::{Asked, Task, WordsStop, read_words};
 use desk_api::{Moment, Site, SiteFault};
-use desk_core::SoloDesk;
+use desk_core::{SoloDesk, discard};
 use prog_drill::drill;
-use prog_source::{PortsStop, Printed, SourceStop, make_ports, print, read_site};
-use pva_outside::{Clock, Kinds, Link, Port, PortMaker, Sink, World};
+use prog_source::{PortsStop, Printed, Source, SourceStop, make_ports, print, read_site};
+use pva_outside::{Clock, Files, Kinds, Link, Port, PortMaker, Sink, World};
 use srv_stream::{Ended, serve_connection};
 use std::alloc::Global;
 
@@ -189,6 +192,80 @@ fn status_of_stop(stop: &SourceStop) -> u8
     }
 }
 
+/// Opens a source, and prints what it has, or where it is wrong.
+#[tactic(auto, using(crate::proofs::Outcomes::checking_rose))]
+fn check_source<F: Files, S: Sink>(
+    alloc: Global,
+    asked: &Asked<'_>,
+    source: Source<'_>,
+    files: &mut F,
+    sink: &mut S,
+) -> u8
+    requires { IsNamed (source_of source) }
+    ensures checked { IsChecked asked.now.macros.items (source_of source.entry) (F.files files.old) (F.files files.new) (S.written sink.old) (S.written sink.new) (S.faults sink.old) (S.faults sink.new) result }
+    ensures fault { result ≡ 6 → Rose (S.faults sink.old) (S.faults sink.new) }
+{
+    let found = read_site(alloc, source, &asked.macros, files);
+    let status = check(alloc, &found, sink);
+    discard(found);
+    status
+}
+
+/// Opens the source that one connection is served from, and serves it.
+fn serve_source<W: Kinds>(
+    alloc: Global,
+    asked: &Asked<'_>,
+    source: Source<'_>,
+    world: &mut World<W>,
+) -> u8
+    requires { IsNamed (source_of source) }
+    ensures served { IsServedFrom (words.asked_of asked.now) (source_of source.entry) (W.Files.files world.old.files) (W.Files.files world.new.files) (W.Clock.moment world.old.clock) (W.Ports.maker world.old.ports) (W.Ports.maker world.new.ports) (W.Link.wire world.old.link) (W.Link.wire world.new.link) result }
+    ensures fault { result ≡ 6 → FirstFault W.Link.wire world.old.link world.new.link }
+    ensures printed { W.Sink.written world.new.sink ≡ W.Sink.written world.old.sink }
+    ensures print_faults { W.Sink.faults world.new.sink ≡ W.Sink.faults world.old.sink }
+    ensures clock { W.Clock.moment world.new.clock ≡ W.Clock.moment world.old.clock }
+{
+    let found = read_site(alloc, source, &asked.macros, &mut world.files);
+    serve(
+        alloc,
+        asked,
+        found,
+        &mut world.ports,
+        &mut world.link,
+        &world.clock,
+    )
+}
+
+/// Runs what words ask for that are taken, as `run_alone` says.
+#[tactic(auto, using(crate::proofs::Outcomes::named_asked, crate::proofs::Outcomes::runs_check, crate::proofs::Outcomes::runs_inetd, crate::proofs::Outcomes::runs_drill, crate::proofs::Outcomes::no_source_to_check, crate::proofs::Outcomes::no_source_to_serve, crate::proofs::Outcomes::drilling_rose, crate::proofs::Outcomes::is_left))]
+fn run_asked<W: Kinds>(alloc: Global, asked: &Asked<'_>, world: &mut World<W>) -> Option<u8>
+    requires { (given : List (List ℕ)) × AreTaken given (words.asked_of asked.now) }
+    ensures runs { (given : List (List ℕ)) → AreTaken given (words.asked_of asked.now) → RunsAlone given (W.Clock.moment world.old.clock)
+        (record { wire = W.Link.wire world.old.link; files = W.Files.files world.old.files; ports = W.Ports.maker world.old.ports; printed = W.Sink.written world.old.sink; print_faults = W.Sink.faults world.old.sink })
+        (record { wire = W.Link.wire world.new.link; files = W.Files.files world.new.files; ports = W.Ports.maker world.new.ports; printed = W.Sink.written world.new.sink; print_faults = W.Sink.faults world.new.sink })
+        result }
+    ensures fault { IfSome result (λ status. status ≡ 6 → FirstFault W.Link.wire world.old.link world.new.link ⊎ Rose (W.Sink.faults world.old.sink) (W.Sink.faults world.new.sink)) }
+    ensures clock { W.Clock.moment world.new.clock ≡ W.Clock.moment world.old.clock }
+{
+    match asked.task {
+        Task::Drill(number) => Some(run_drill(alloc, number, &world.clock, &mut world.sink)),
+        Task::Check => {
+            let Some(source) = asked.source else {
+                return Some(Status::Words as u8);
+            };
+            let status = check_source(alloc, asked, source, &mut world.files, &mut world.sink);
+            Some(status)
+        }
+        Task::Inetd => {
+            let Some(source) = asked.source else {
+                return Some(Status::Words as u8);
+            };
+            Some(serve_source(alloc, asked, source, world))
+        }
+        Task::Listen(_) => None,
+    }
+}
+
 /// Runs what the words ask for, where that isn't a server of many clients, and answers the exit status; the words come without the program's
 /// own name. None where they ask for such a server: then nothing was done.
 ///
@@ -197,7 +274,6 @@ fn status_of_stop(stop: &SourceStop) -> u8
 /// one longout, or the name of a file with a database text. `--drill N` runs a session of ten thousand puts in memory, which
 /// depends on N alone, and prints what it comes to in five lines. The first fault is told by the status alone: of the words, of
 /// SOURCE's file, of its text, of the ports in the order of the records, of the serving.
-#[tactic(auto, using(crate::proofs::Outcomes::named_by, crate::proofs::Outcomes::runs_check, crate::proofs::Outcomes::runs_inetd, crate::proofs::Outcomes::checking_rose, crate::proofs::Outcomes::runs_drill, crate::proofs::Outcomes::no_source_to_check, crate::proofs::Outcomes::no_source_to_serve, crate::proofs::Outcomes::drilling_rose, crate::proofs::Outcomes::is_left))]
 pub fn run_alone<W: Kinds>(alloc: Global, words: &[&str], world: &mut World<W>) -> Option<u8>
     ensures runs { RunsAlone (map (λ w. w.now) words.now) (W.Clock.moment world.old.clock)
         (record { wire = W.Link.wire world.old.link; files = W.Files.files world.old.files; ports = W.Ports.maker world.old.ports; printed = W.Sink.written world.old.sink; print_faults = W.Sink.faults world.old.sink })
@@ -206,35 +282,14 @@ pub fn run_alone<W: Kinds>(alloc: Global, words: &[&str], world: &mut World<W>) 
     ensures fault { IfSome result (λ status. status ≡ 6 → FirstFault W.Link.wire world.old.link world.new.link ⊎ Rose (W.Sink.faults world.old.sink) (W.Sink.faults world.new.sink)) }
     ensures clock { W.Clock.moment world.new.clock ≡ W.Clock.moment world.old.clock }
 {
-    let asked = match read_words(alloc, words) {
-        Ok(asked) => asked,
-        Err(WordsStop::Refused) => return Some(Status::Words as u8),
-        Err(WordsStop::NoMemory) => return Some(Status::NoMemory as u8),
-    };
-    match asked.task {
-        Task::Drill(number) => Some(run_drill(alloc, number, &world.clock, &mut world.sink)),
-        Task::Check => {
-            let Some(source) = asked.source else {
-                return Some(Status::Words as u8);
-            };
-            let found = read_site(alloc, source, &asked.macros, &mut world.files);
-            Some(check(alloc, &found, &mut world.sink))
+    match read_words(alloc, words) {
+        Ok(asked) => {
+            let answer = run_asked(alloc, &asked, world);
+            discard(asked);
+            answer
         }
-        Task::Inetd => {
-            let Some(source) = asked.source else {
-                return Some(Status::Words as u8);
-            };
-            let found = read_site(alloc, source, &asked.macros, &mut world.files);
-            Some(serve(
-                alloc,
-                &asked,
-                found,
-                &mut world.ports,
-                &mut world.link,
-                &world.clock,
-            ))
-        }
-        Task::Listen(_) => None,
+        Err(WordsStop::Refused) => Some(Status::Words as u8),
+        Err(WordsStop::NoMemory) => Some(Status::NoMemory as u8),
     }
 }
 

@@ -20,30 +20,22 @@ pub struct Place {
     pub name: &'static str,
 }
 
+/// The place on this line of a fault of this name.
+fn at(line: u32, name: &'static str) -> Place
+    ensures { place_told result ≡ (line, name.now) }
+{
+    Place { line, name }
+}
+
 fn place_in_text(fault: &TextFault) -> Place
     ensures { place_told result ≡ place_in_text fault.now }
 {
     match fault {
-        TextFault::BadToken(line) => Place {
-            line: *line,
-            name: "BadToken",
-        },
-        TextFault::OpenString(line) => Place {
-            line: *line,
-            name: "OpenString",
-        },
-        TextFault::UnknownMacro(_, line) => Place {
-            line: *line,
-            name: "UnknownMacro",
-        },
-        TextFault::MacroDepth(line) => Place {
-            line: *line,
-            name: "MacroDepth",
-        },
-        TextFault::NoMemory => Place {
-            line: 0,
-            name: "NoMemory",
-        },
+        TextFault::BadToken(line) => at(*line, "BadToken"),
+        TextFault::OpenString(line) => at(*line, "OpenString"),
+        TextFault::UnknownMacro(_, line) => at(*line, "UnknownMacro"),
+        TextFault::MacroDepth(line) => at(*line, "MacroDepth"),
+        TextFault::NoMemory => at(0, "NoMemory"),
     }
 }
 
@@ -52,30 +44,12 @@ fn place_in_load(fault: &LoadFault) -> Place
 {
     match fault {
         LoadFault::Text(fault) => place_in_text(fault),
-        LoadFault::SameRecord(_, line) => Place {
-            line: *line,
-            name: "SameRecord",
-        },
-        LoadFault::UnknownKind(_, line) => Place {
-            line: *line,
-            name: "UnknownKind",
-        },
-        LoadFault::UnknownField(_, line) => Place {
-            line: *line,
-            name: "UnknownField",
-        },
-        LoadFault::BadForm(line) => Place {
-            line: *line,
-            name: "BadForm",
-        },
-        LoadFault::Count(_) => Place {
-            line: 0,
-            name: "Count",
-        },
-        LoadFault::NoMemory => Place {
-            line: 0,
-            name: "NoMemory",
-        },
+        LoadFault::SameRecord(_, line) => at(*line, "SameRecord"),
+        LoadFault::UnknownKind(_, line) => at(*line, "UnknownKind"),
+        LoadFault::UnknownField(_, line) => at(*line, "UnknownField"),
+        LoadFault::BadForm(line) => at(*line, "BadForm"),
+        LoadFault::Count(_) => at(0, "Count"),
+        LoadFault::NoMemory => at(0, "NoMemory"),
     }
 }
 
@@ -83,26 +57,11 @@ fn place_in_build(fault: &BuildFault) -> Place
     ensures { place_told result ≡ place_in_build fault.now }
 {
     match fault {
-        BuildFault::BadNumber(field) => Place {
-            line: field.line,
-            name: "BadNumber",
-        },
-        BuildFault::BadChoice(field) => Place {
-            line: field.line,
-            name: "BadChoice",
-        },
-        BuildFault::BadLength(field) => Place {
-            line: field.line,
-            name: "BadLength",
-        },
-        BuildFault::BadPort(field) => Place {
-            line: field.line,
-            name: "BadPort",
-        },
-        BuildFault::NoMemory => Place {
-            line: 0,
-            name: "NoMemory",
-        },
+        BuildFault::BadNumber(field) => at(field.line, "BadNumber"),
+        BuildFault::BadChoice(field) => at(field.line, "BadChoice"),
+        BuildFault::BadLength(field) => at(field.line, "BadLength"),
+        BuildFault::BadPort(field) => at(field.line, "BadPort"),
+        BuildFault::NoMemory => at(0, "NoMemory"),
     }
 }
 
@@ -146,10 +105,7 @@ fn place_of(fault: &SiteFault) -> Place
         SiteFault::Load(fault) => place_in_load(fault),
         SiteFault::Build(_, fault) => place_in_build(fault),
         SiteFault::Group(fault) => place_in_group(fault),
-        SiteFault::NoMemory => Place {
-            line: 0,
-            name: "NoMemory",
-        },
+        SiteFault::NoMemory => at(0, "NoMemory"),
     }
 }
 
