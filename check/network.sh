@@ -21,12 +21,16 @@ port_of() {
 }
 
 # Starts a server at this address and port of searches, which ends by itself after two minutes at rest. What it prints is the file
-# "$room/said"; its ports, of which the system picks those that are 0, are tcp and udp.
+# "$room/said"; its ports, of which the system picks those that are 0, are tcp and udp. It has so many descriptors as `descriptors` says,
+# if it says any, and so many turns as `turns` says.
 begin() {
     local at=$1 searches=$2
     shift 2
     : >"$room/said"
-    "$program" --listen "$at" --udp "$searches" --turns 2400 "$@" </dev/null >"$room/said" &
+    {
+        [ -z "${descriptors-}" ] || ulimit -n "$descriptors"
+        exec "$program" --listen "$at" --udp "$searches" --turns "${turns-2400}" "$@"
+    } </dev/null >"$room/said" &
     server=$!
     await "$room/said" 1 || return 1
     tcp=$(port_of "$server" tcp 0A) udp=$(port_of "$server" udp 07)
