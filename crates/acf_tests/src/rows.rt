@@ -4,10 +4,11 @@ use pvd_type::{Name, NoMemory};
 use std::alloc::Global;
 use std::test::Fail;
 
-/// A file, a group of rules, a channel's level, a user, a host, and what they may do, or the file's fault. `$(P)` is `ops`.
-static ROWS: [(&str, &str, u8, &str, &str, &str); 78] = [
+/// A file, a group of rules, a channel's level, a user, a host, and what they may do. `$(P)` is `ops`.
+static GRANTS: [(&str, &str, u8, &str, &str, &str); 37] = [
     // The file of the guide: everybody reads, and one user on one host writes.
     (GUIDE, "DEFAULT", 0, "", "", "read"),
+    (GUIDE, "DEFAULT", 0, "alice", "cons1", "write"),
     (GUIDE, "DEFAULT", 1, "alice", "cons1", "write"),
     (GUIDE, "none of this name", 0, "alice", "cons1", "write"),
     (GUIDE, "DEFAULT", 0, "alice", "cons2", "read"),
@@ -44,6 +45,7 @@ static ROWS: [(&str, &str, u8, &str, &str, &str); 78] = [
     (QUOTED, "a group", 0, "UAG", "h", "write"),
     (QUOTED, "RULE", 0, "x", "", "read"),
     (QUOTED, "RULE", 0, "y", "", "nothing"),
+    ("ASG(CALC){RULE(1,READ)}", "CALC", 0, "", "", "read"),
     // A group of users and one of hosts and one of rules may have one name.
     (
         "UAG(a){u} HAG(a){h} ASG(a){RULE(0, READ){UAG(a) HAG(a)}}",
@@ -56,139 +58,129 @@ static ROWS: [(&str, &str, u8, &str, &str, &str); 78] = [
     // A third word has no effect.
     ("ASG(a){RULE(1,WRITE,TRAPWRITE)}", "a", 1, "", "", "write"),
     ("ASG(a){RULE(1,READ,NOTRAPWRITE){}}", "a", 1, "", "", "read"),
+];
+
+/// A file, and its first fault. `$(LOOP)` stands in itself.
+static FAULTS: [(&str, &str); 40] = [
     // Forms.
-    ("ASG(a){RULE(1,WRITE,TRAP)}", "a", 1, "", "", "BadForm 1"),
-    ("ASG(a){RULE(1,WRITE,)}", "a", 1, "", "", "BadForm 1"),
-    ("ASG(a){\nRULE(2,\nWRITE)}", "a", 1, "", "", "BadForm 2"),
-    ("ASG(a){\nRULE(01,\nWRITE)}", "a", 1, "", "", "BadForm 2"),
-    ("ASG(a){\nRULE(\"1\",\nWRITE)}", "a", 1, "", "", "BadForm 2"),
-    ("ASG(a){\nRULE(1,\nwrite)}", "a", 1, "", "", "BadForm 3"),
-    ("ASG(a){\nRULE(1,\n\"WRITE\")}", "a", 1, "", "", "BadForm 3"),
-    ("ASG(a){\nRULE(1)}", "a", 1, "", "", "BadForm 2"),
-    ("ASG(a){\n\nREAD}", "a", 1, "", "", "BadForm 3"),
-    ("ASG(a){}\nasg(b){}", "a", 1, "", "", "BadForm 2"),
-    ("\"ASG\"(a){}", "a", 1, "", "", "BadForm 1"),
-    ("UAG(a) {}", "a", 0, "", "", "BadForm 1"),
-    ("UAG(a) {b,}", "a", 0, "", "", "BadForm 1"),
-    ("UAG(a) {b\nc}", "a", 0, "", "", "BadForm 2"),
-    ("UAG(a)\nHAG(b) {c}", "a", 0, "", "", "BadForm 2"),
-    ("RULE(1, READ)", "a", 0, "", "", "BadForm 1"),
-    ("ASG(a){}\n}", "a", 0, "", "", "BadForm 2"),
+    ("ASG(a){RULE(1,WRITE,TRAP)}", "BadForm 1"),
+    ("ASG(a){RULE(1,WRITE,)}", "BadForm 1"),
+    ("ASG(a){\nRULE(2,\nWRITE)}", "BadForm 2"),
+    ("ASG(a){\nRULE(01,\nWRITE)}", "BadForm 2"),
+    ("ASG(a){\nRULE(\"1\",\nWRITE)}", "BadForm 2"),
+    ("ASG(a){\nRULE(1,\nwrite)}", "BadForm 3"),
+    ("ASG(a){\nRULE(1,\n\"WRITE\")}", "BadForm 3"),
+    ("ASG(a){\nRULE(1)}", "BadForm 2"),
+    ("ASG(a){\n\nREAD}", "BadForm 3"),
+    ("ASG(a){}\nasg(b){}", "BadForm 2"),
+    ("\"ASG\"(a){}", "BadForm 1"),
+    ("UAG(a) {}", "BadForm 1"),
+    ("UAG(a) {b,}", "BadForm 1"),
+    ("UAG(a) {b\nc}", "BadForm 2"),
+    ("UAG(a)\nHAG(b) {c}", "BadForm 2"),
+    ("RULE(1, READ)", "BadForm 1"),
+    ("ASG(a){}\n}", "BadForm 2"),
     (
         "UAG(u){x}ASG(a){RULE(1,READ){\nUAG(u)\nUAG(v)}}",
-        "a",
-        0,
-        "",
-        "",
         "BadForm 3",
     ),
     (
         "HAG(u){x}ASG(a){RULE(1,READ){\nHAG(u)\nHAG(v)}}",
-        "a",
-        0,
-        "",
-        "",
         "BadForm 3",
     ),
-    ("ASG(a){RULE(1,READ){\nUAG()}}", "a", 0, "", "", "BadForm 2"),
+    ("ASG(a){RULE(1,READ){\nUAG()}}", "BadForm 2"),
     // A text that ends inside a form.
-    ("ASG(a) {\n\n# end\n", "a", 0, "", "", "BadForm 3"),
-    ("UAG(a", "a", 0, "", "", "BadForm 1"),
-    ("ASG(a){RULE(1, READ)\n{", "a", 0, "", "", "BadForm 2"),
+    ("ASG(a) {\n\n# end\n", "BadForm 3"),
+    ("UAG(a", "BadForm 1"),
+    ("ASG(a){RULE(1, READ)\n{", "BadForm 2"),
     // The name of a group that stands before, of the same sort.
-    ("UAG(a){u}\nUAG(\"a\"){v}", "a", 0, "", "", "SameName a 2"),
-    ("HAG(a){u}\nHAG(a\n]", "a", 0, "", "", "SameName a 2"),
-    (
-        "ASG(a){}\nUAG(a){u}\nASG(a){}",
-        "a",
-        0,
-        "",
-        "",
-        "SameName a 3",
-    ),
+    ("UAG(a){u}\nUAG(\"a\"){v}", "SameName a 2"),
+    ("HAG(a){u}\nHAG(a\n]", "SameName a 2"),
+    ("ASG(a){}\nUAG(a){u}\nASG(a){}", "SameName a 3"),
     // The name of a group that doesn't stand before, of the same sort.
-    (
-        "ASG(a){RULE(1,READ){UAG(u)}} UAG(u){x}",
-        "a",
-        0,
-        "",
-        "",
-        "UnknownName u 1",
-    ),
-    (
-        "HAG(u){x}ASG(a){RULE(1,READ){UAG(\nu)}}",
-        "a",
-        0,
-        "",
-        "",
-        "UnknownName u 2",
-    ),
-    (
-        "UAG(u){x}ASG(a){RULE(1,READ){HAG(\nu)}}",
-        "a",
-        0,
-        "",
-        "",
-        "UnknownName u 2",
-    ),
+    ("ASG(a){RULE(1,READ){UAG(u)}} UAG(u){x}", "UnknownName u 1"),
+    ("HAG(u){x}ASG(a){RULE(1,READ){UAG(\nu)}}", "UnknownName u 2"),
+    ("UAG(u){x}ASG(a){RULE(1,READ){HAG(\nu)}}", "UnknownName u 2"),
     (
         "UAG(u){x}ASG(a){RULE(1,READ){UAG(u,\nU\n]}}",
-        "a",
-        0,
-        "",
-        "",
         "UnknownName U 2",
     ),
     // Rules that go by the values of records.
-    ("ASG(a){\nINPA(x)}", "a", 0, "", "", "Unsupported INPA 2"),
-    ("ASG(a){\nINPL(x)}", "a", 0, "", "", "Unsupported INPL 2"),
-    ("ASG(a){\nINPM(x)}", "a", 0, "", "", "BadForm 2"),
-    (
-        "ASG(a){RULE(1,READ){\nCALC(\"A\")}}",
-        "a",
-        0,
-        "",
-        "",
-        "Unsupported CALC 2",
-    ),
-    ("INPA(x)", "a", 0, "", "", "BadForm 1"),
-    ("ASG(CALC){RULE(1,READ)}", "CALC", 0, "", "", "read"),
-    // Of two faults the first; those of texts first of all.
-    (
-        "UAG(u){x}\nUAG(u){y}\nASG(a){CALC",
-        "a",
-        0,
-        "",
-        "",
-        "SameName u 2",
-    ),
-    (
-        "ASG(a){CALC}\nUAG(u){x}\nUAG(u){y}",
-        "a",
-        0,
-        "",
-        "",
-        "Unsupported CALC 1",
-    ),
-    (
-        "ASG(a){RULE(1,READ){UAG(v)}}\n{",
-        "a",
-        0,
-        "",
-        "",
-        "UnknownName v 1",
-    ),
-    (
-        "{\nASG(a){RULE(1,READ){UAG(v)}}",
-        "a",
-        0,
-        "",
-        "",
-        "BadForm 1",
-    ),
-    ("{\n=", "a", 0, "", "", "BadToken 2"),
-    ("UAG(u){x}UAG(u){y}\n\"", "a", 0, "", "", "OpenString 2"),
-    ("=\n\"\n$(X)", "a", 0, "", "", "UnknownMacro X 3"),
+    ("ASG(a){\nINPA(x)}", "Unsupported INPA 2"),
+    ("ASG(a){\nINPL(x)}", "Unsupported INPL 2"),
+    ("ASG(a){\nINPM(x)}", "BadForm 2"),
+    ("ASG(a){RULE(1,READ){\nCALC(\"A\")}}", "Unsupported CALC 2"),
+    ("INPA(x)", "BadForm 1"),
+    // Macros and tokens that are at fault.
+    ("ASG(a){}\n=", "BadToken 2"),
+    ("=\nASG($(P", "BadToken 2"),
+    ("UAG(a){\n\"u}\n", "OpenString 2"),
+    ("UAG(a){\n$(X)}", "UnknownMacro X 2"),
+    ("UAG(a){u}\n# $(LOOP)\nASG($(LOOP)){}", "MacroDepth 3"),
+];
+
+/// Two lines at fault, the second and the third of a file, and which fault is told.
+static PAIRS: [(&str, &str, &str); 56] = [
+    // Of two forms at fault the first is told.
+    (BAD_FORM, SAME_NAME, "BadForm 2"),
+    (BAD_FORM, UNKNOWN_NAME, "BadForm 2"),
+    (BAD_FORM, UNSUPPORTED, "BadForm 2"),
+    (SAME_NAME, BAD_FORM, "SameName u 2"),
+    (SAME_NAME, UNKNOWN_NAME, "SameName u 2"),
+    (SAME_NAME, UNSUPPORTED, "SameName u 2"),
+    (UNKNOWN_NAME, BAD_FORM, "UnknownName v 2"),
+    (UNKNOWN_NAME, SAME_NAME, "UnknownName v 2"),
+    (UNKNOWN_NAME, UNSUPPORTED, "UnknownName v 2"),
+    (UNSUPPORTED, BAD_FORM, "Unsupported CALC 2"),
+    (UNSUPPORTED, SAME_NAME, "Unsupported CALC 2"),
+    (UNSUPPORTED, UNKNOWN_NAME, "Unsupported CALC 2"),
+    // A token at fault is told before forms, wherever it stands.
+    (BAD_TOKEN, BAD_FORM, "BadToken 2"),
+    (BAD_TOKEN, SAME_NAME, "BadToken 2"),
+    (BAD_TOKEN, UNKNOWN_NAME, "BadToken 2"),
+    (BAD_TOKEN, UNSUPPORTED, "BadToken 2"),
+    (OPEN_STRING, BAD_FORM, "OpenString 2"),
+    (OPEN_STRING, SAME_NAME, "OpenString 2"),
+    (OPEN_STRING, UNKNOWN_NAME, "OpenString 2"),
+    (OPEN_STRING, UNSUPPORTED, "OpenString 2"),
+    (BAD_FORM, BAD_TOKEN, "BadToken 3"),
+    (BAD_FORM, OPEN_STRING, "OpenString 3"),
+    (SAME_NAME, BAD_TOKEN, "BadToken 3"),
+    (SAME_NAME, OPEN_STRING, "OpenString 3"),
+    (UNKNOWN_NAME, BAD_TOKEN, "BadToken 3"),
+    (UNKNOWN_NAME, OPEN_STRING, "OpenString 3"),
+    (UNSUPPORTED, BAD_TOKEN, "BadToken 3"),
+    (UNSUPPORTED, OPEN_STRING, "OpenString 3"),
+    // A macro at fault is told before forms and tokens, wherever it stands.
+    (UNKNOWN_MACRO, BAD_FORM, "UnknownMacro X 2"),
+    (UNKNOWN_MACRO, SAME_NAME, "UnknownMacro X 2"),
+    (UNKNOWN_MACRO, UNKNOWN_NAME, "UnknownMacro X 2"),
+    (UNKNOWN_MACRO, UNSUPPORTED, "UnknownMacro X 2"),
+    (UNKNOWN_MACRO, BAD_TOKEN, "UnknownMacro X 2"),
+    (UNKNOWN_MACRO, OPEN_STRING, "UnknownMacro X 2"),
+    (MACRO_DEPTH, BAD_FORM, "MacroDepth 2"),
+    (MACRO_DEPTH, SAME_NAME, "MacroDepth 2"),
+    (MACRO_DEPTH, UNKNOWN_NAME, "MacroDepth 2"),
+    (MACRO_DEPTH, UNSUPPORTED, "MacroDepth 2"),
+    (MACRO_DEPTH, BAD_TOKEN, "MacroDepth 2"),
+    (MACRO_DEPTH, OPEN_STRING, "MacroDepth 2"),
+    (BAD_FORM, UNKNOWN_MACRO, "UnknownMacro X 3"),
+    (BAD_FORM, MACRO_DEPTH, "MacroDepth 3"),
+    (SAME_NAME, UNKNOWN_MACRO, "UnknownMacro X 3"),
+    (SAME_NAME, MACRO_DEPTH, "MacroDepth 3"),
+    (UNKNOWN_NAME, UNKNOWN_MACRO, "UnknownMacro X 3"),
+    (UNKNOWN_NAME, MACRO_DEPTH, "MacroDepth 3"),
+    (UNSUPPORTED, UNKNOWN_MACRO, "UnknownMacro X 3"),
+    (UNSUPPORTED, MACRO_DEPTH, "MacroDepth 3"),
+    (BAD_TOKEN, UNKNOWN_MACRO, "UnknownMacro X 3"),
+    (BAD_TOKEN, MACRO_DEPTH, "MacroDepth 3"),
+    (OPEN_STRING, UNKNOWN_MACRO, "UnknownMacro X 3"),
+    (OPEN_STRING, MACRO_DEPTH, "MacroDepth 3"),
+    // Of two macros the first, and of two tokens.
+    (UNKNOWN_MACRO, MACRO_DEPTH, "UnknownMacro X 2"),
+    (MACRO_DEPTH, UNKNOWN_MACRO, "MacroDepth 2"),
+    (BAD_TOKEN, OPEN_STRING, "BadToken 2"),
+    (OPEN_STRING, BAD_TOKEN, "OpenString 2"),
 ];
 
 const GUIDE: &str =
@@ -210,6 +202,23 @@ ASG(empty) { RULE(1, WRITE) { } }";
 const QUOTED: &str = "UAG(\"$(P) )\") {\"a user\", UAG, \"a user\"} HAG(\"h\") {h} UAG(x) {x}
 ASG(\"a group\") { RULE(1, WRITE) { UAG(\"ops )\") HAG(h) } } # ASG(RULE) {}
 ASG(RULE) { RULE(0, READ) { UAG(x) } }";
+
+/// Lines at fault, behind a line that makes the group of users `u`.
+const BAD_FORM: &str = "{";
+
+const SAME_NAME: &str = "UAG(u){y}";
+
+const UNKNOWN_NAME: &str = "ASG(a){RULE(1,READ){UAG(v)}}";
+
+const UNSUPPORTED: &str = "ASG(c){CALC}";
+
+const BAD_TOKEN: &str = "=";
+
+const OPEN_STRING: &str = "\"";
+
+const UNKNOWN_MACRO: &str = "$(X)";
+
+const MACRO_DEPTH: &str = "$(LOOP)";
 
 /// A fault by its name and line.
 fn fault_text(alloc: Global, fault: &AcfFault) -> Result<String, NoMemory> {
@@ -242,10 +251,18 @@ fn access_name(access: Access) -> &'static str {
     }
 }
 
+/// A macro with this text.
+fn macro_of(alloc: Global, name: &str, text: &str) -> Result<(Name, Name), NoMemory> {
+    Ok((Name::of(alloc, name)?, Name::of(alloc, text)?))
+}
+
 /// What a user on a host may do by a file, or the file's fault.
 fn answer(alloc: Global, row: &(&str, &str, u8, &str, &str, &str)) -> Result<String, NoMemory> {
     let (text, group, level, user, host, _) = *row;
-    let macros = [(Name::of(alloc, "P")?, Name::of(alloc, "ops")?)];
+    let macros = [
+        macro_of(alloc, "P", "ops")?,
+        macro_of(alloc, "LOOP", "$(LOOP)")?,
+    ];
     match Rules::read(alloc, text, &macros) {
         Ok(rules) => {
             let name = access_name(rules.allowed(group, level, user, host));
@@ -255,13 +272,35 @@ fn answer(alloc: Global, row: &(&str, &str, u8, &str, &str, &str)) -> Result<Str
     }
 }
 
+/// The first fault of a file.
+fn first_fault(alloc: Global, text: &str) -> Result<String, NoMemory> {
+    answer(alloc, &(text, "", 0, "", "", ""))
+}
+
 #[test]
-fn rules_grant_the_greatest_permission_and_the_first_fault_is_told(
-    rt: HostRuntime,
-) -> Result<(), Fail> {
+fn rules_grant_the_greatest_permission(rt: HostRuntime) -> Result<(), Fail> {
     let alloc = rt.alloc();
-    for row in &ROWS {
+    for row in &GRANTS {
         assert_eq!(rt; answer(alloc, row)?.as_str(), row.5);
+    }
+    Ok(())
+}
+
+#[test]
+fn the_first_fault_is_told(rt: HostRuntime) -> Result<(), Fail> {
+    let alloc = rt.alloc();
+    for (text, fault) in &FAULTS {
+        assert_eq!(rt; first_fault(alloc, text)?.as_str(), *fault);
+    }
+    Ok(())
+}
+
+#[test]
+fn of_two_faults_macros_come_first_then_tokens_then_forms(rt: HostRuntime) -> Result<(), Fail> {
+    let alloc = rt.alloc();
+    for (first, second, fault) in &PAIRS {
+        let text = format!(in alloc; "UAG(u){{x}}\n{first}\n{second}")?;
+        assert_eq!(rt; first_fault(alloc, text.as_str())?.as_str(), *fault);
     }
     Ok(())
 }
