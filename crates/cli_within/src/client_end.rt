@@ -27,7 +27,7 @@ pub struct ClientEnd {
 }
 
 /// Lets a value go in a function of its own, since its variants would else be let go one by one in the caller's proof.
-fn discard<T: Drop>(_value: T) {}
+pub fn discard<T: Drop>(_value: T) {}
 
 /// The text of a report: the lines of a value or of a type. The end of an operation has none.
 fn text_of(alloc: Global, report: &Report) -> Result<Vec<u8>, NoMemory>

@@ -6,6 +6,7 @@ ghost use Rattle.cli_within.specs.Running.{HasDone, HasRun, Runs, RunsTo, SiteRu
 ghost use Rattle.cli_within.specs.Running as running;
 ghost use Rattle.cli_within.specs.Words as words;
 
+use crate::client_end::discard;
 use crate::rounds::{Limits, exchange};
 use crate::stop::{End, Status, Stop, status_of};
 use crate::words::{Asked, WordsStop, read_words};
@@ -34,9 +35,12 @@ fn exchange_with<P: Port + Drop, C: Clock, S: Sink>(
     ensures { HasRun ask limits (record { site = site; limit = journal }) (C.moment clock.now) (S.written sink.old) (S.written sink.new) (S.faults sink.old) (S.faults sink.new) result }
 {
     let Ok(mut desk) = SoloDesk::new(alloc, site, ports, JOURNAL) else {
+        discard(ask);
         return End::Stopped(Stop::NoMemory);
     };
-    exchange(alloc, ask, &mut desk, clock, sink, limits)
+    let end = exchange(alloc, ask, &mut desk, clock, sink, limits);
+    discard(desk);
+    end
 }
 
 /// The status that tells why a site's ports can't be had.
@@ -64,7 +68,11 @@ fn run_on<M: PortMaker, C: Clock, S: Sink>(
 {
     match make_ports(alloc, &site, maker) {
         Ok(ports) => status_of(exchange_with(alloc, ask, limits, site, ports, clock, sink)),
-        Err(stop) => status_of_unmade(stop),
+        Err(stop) => {
+            discard(ask);
+            discard(site);
+            status_of_unmade(stop)
+        }
     }
 }
 

@@ -1,5 +1,6 @@
 // Bytes that pass between the two ends, in rounds.
 ghost use Rattle.std.specs.Prelude.{◌≡◌, ◌<◌, ◌≤◌, length, ◌∷◌, ◌++◌, [], ℕ, List, Option, None, false, Ok, OnOk};
+ghost use Rattle.desk_api.specs.declared.mark.Seat.{Seat};
 ghost use Rattle.srv_session.specs.Calls.{Finished};
 ghost use Rattle.srv_stream.specs.Streams.{moment_told, shown_in};
 ghost use Rattle.srv_stream.specs.Views.{first_view};
@@ -9,7 +10,7 @@ ghost use Rattle.cli_within.specs.Exchanging.{Exchanged, end_at_rest};
 ghost use Rattle.cli_within.specs.Rounding.{Answers, Frame, Gives, HasMade, HasPassed, Passes, sides};
 ghost use Rattle.cli_within.specs.Serving.{IsLiving, IsReady, over_of, served_view};
 
-use crate::client_end::{ClientEnd, print_name};
+use crate::client_end::{ClientEnd, discard, print_name};
 use crate::server_end::ServerEnd;
 use crate::stop::{End, Stop};
 use cli_session::Ask;
@@ -149,65 +150,47 @@ fn end_at_rest(over: bool, left: u64, idle: u64) -> End
     if idle <= left { End::Idle } else { End::Spent }
 }
 
-/// Ends the server's session and its subscriptions, and the exchange so.
-fn end<D: Desk>(server: ServerEnd, desk: &mut D, end: End) -> End
-    requires { IsLiving (D.seat desk.old) (served_view server) }
-    ensures finished { Finished (shown_in (D.seat desk.old) (served_view server)) (D.seat desk.new) }
-    ensures end { result ≡ end }
-{
-    server.finish(desk);
-    end
-}
-
-/// Passes bytes between the two ends until the operation has ended, an end can't go on, or the rounds are spent.
+/// Passes bytes between the two ends until the operation has ended, an end can't go on, or the rounds are spent, and says how the
+/// exchange ends once the server's session has ended too.
 fn pass<D: Desk, C: Clock, S: Sink>(
     alloc: Global,
-    client: ClientEnd,
-    server: ServerEnd,
+    client: &mut ClientEnd,
+    server: &mut ServerEnd,
     desk: &mut D,
     clock: &C,
     sink: &mut S,
     limits: Limits,
 ) -> End
     requires some { 0 < limits.piece }
-    requires view { served_view server ≡ first_view Little }
-    requires over { over_of server ≡ None }
-    ensures { (f : Frame) → f.first ≡ D.seat desk.old → f.told ≡ moment_told (C.moment clock.now) → HasTaken f.ask [] [] (client_view client) → HasPrinted f.start (S.written sink.old) f.before (S.faults sink.old) (f.ask.name ++ 10 ∷ []) → Exchanged f.ask limits.idle limits.piece limits.turns f.told f.first (D.seat desk.new) f.start (S.written sink.new) f.before (S.faults sink.new) result }
+    requires view { served_view server.old ≡ first_view Little }
+    requires over { over_of server.old ≡ None }
+    ensures living { IsLiving (D.seat desk.new) (served_view server.new) }
+    ensures ends { (f : Frame) (last : Seat) → f.first ≡ D.seat desk.old → f.told ≡ moment_told (C.moment clock.now) → HasTaken f.ask [] [] (client_view client.old) → HasPrinted f.start (S.written sink.old) f.before (S.faults sink.old) (f.ask.name ++ 10 ∷ []) → Finished (shown_in (D.seat desk.new) (served_view server.new)) last → Exchanged f.ask limits.idle limits.piece limits.turns f.told f.first last f.start (S.written sink.new) f.before (S.faults sink.new) result }
 {
     desk.has_legal_history();
-    let mut client = client;
-    let mut server = server;
     let mut made = 0;
     'rounds: loop {
         if let Some(ending) = client.ended() {
-            return end(server, desk, End::Told(ending));
+            return End::Told(ending);
         }
         if made == limits.turns {
-            return end(server, desk, End::Spent);
+            return End::Spent;
         }
-        match round(
-            alloc,
-            &mut client,
-            &mut server,
-            desk,
-            clock,
-            sink,
-            limits.piece,
-        ) {
+        match round(alloc, client, server, desk, clock, sink, limits.piece) {
             Ok(true) => {
                 made += 1;
                 continue 'rounds;
             }
             Ok(false) => {
-                let ended = end_at_rest(server.is_over(), limits.turns - made, limits.idle);
-                return end(server, desk, ended);
+                return end_at_rest(server.is_over(), limits.turns - made, limits.idle);
             }
-            Err(stop) => return end(server, desk, End::Stopped(stop)),
+            Err(stop) => return End::Stopped(stop),
         }
     }
 }
 
-/// Lets a client of this operation, whose channel's name is printed, talk to a server of this desk.
+/// Lets a client of this operation, whose channel's name is printed, talk to a server of this desk, and ends the server's session
+/// and its subscriptions.
 fn talk<D: Desk, C: Clock, S: Sink>(
     alloc: Global,
     ask: Ask,
@@ -220,11 +203,15 @@ fn talk<D: Desk, C: Clock, S: Sink>(
     ensures { (start : Option (List ℕ)) (before : ℕ) → HasPrinted start (S.written sink.old) before (S.faults sink.old) (ask.name ++ 10 ∷ []) → Exchanged ask limits.idle limits.piece limits.turns (moment_told (C.moment clock.now)) (D.seat desk.old) (D.seat desk.new) start (S.written sink.new) before (S.faults sink.new) result }
 {
     desk.has_legal_history();
-    let Ok(server) = ServerEnd::start(alloc) else {
+    let Ok(mut server) = ServerEnd::start(alloc) else {
+        discard(ask);
         return End::Stopped(Stop::NoMemory);
     };
-    let client = ClientEnd::start(alloc, ask);
-    pass(alloc, client, server, desk, clock, sink, limits)
+    let mut client = ClientEnd::start(alloc, ask);
+    let end = pass(alloc, &mut client, &mut server, desk, clock, sink, limits);
+    discard(client);
+    server.finish(desk);
+    end
 }
 
 /// Prints the channel's name, and lets a client of this operation talk to a server of this desk. What it tells is printed, and

@@ -1,9 +1,9 @@
 // The words of the command line.
 ghost use Rattle.std.specs.Prelude.{◌≡◌, ◌≢◌, ◌≤◌, ℕ, Bool, List, Option, codes, false, IfOk, MatchOption, map, option_map};
-ghost use Rattle.clap.specs.Words.{FailsBy, app_of, found_of, is_broken, kind_of, rows_of, with_rule};
+ghost use Rattle.clap.specs.Words.{FailsBy, app_of, found_of, is_broken, kind_of, new_rule, rows_of, with_rule};
 ghost use Rattle.db_text.specs.Macros.{Macros};
 ghost use Rattle.prog_source.specs.Words.{AreMacrosOr, IsCountOr, Source as SourceNamed, source_of};
-ghost use Rattle.cli_within.specs.Words.{AreFieldsOr, AreNumbers, AreRead, AskIsRead, IsAtomic, IsCountIf, IsName, IsSourceIn, IsUser, RowsAreRead, bare_app, client_app, given, most, network_app, operation_app, option_rule, options_app, values_in, verb_named, word_faults, word_rows};
+ghost use Rattle.cli_within.specs.Words.{AreFieldsOr, AreNumbers, AreRead, AskIsRead, IsAtomic, IsCountIf, IsName, IsSourceIn, IsUser, RowsAreRead, bare_app, client_app, given, most, network_app, operation_app, option_rule, options_app, values_in, values_rule, verb_named, word_faults, word_rows};
 ghost use Rattle.cli_within.specs.Asking.{OperationIsRead};
 ghost use Rattle.cli_within.specs.declared.verb.Numbers.{Numbers as NumbersSaid};
 ghost use Rattle.std.specs.Option.{option_and_then};
@@ -73,6 +73,25 @@ fn with_option<'a>(
     command.arg(Arg::new(alloc, name).long(name))
 }
 
+fn with_argument<'a>(
+    command: Command<'a>,
+    alloc: Global,
+    name: &'a str,
+) -> Result<Command<'a>, AllocError>
+    ensures app { IfOk result (λ c. app_of c ≡ with_rule (app_of command.entry) (new_rule name.entry.now)) }
+    ensures whole { IfOk result (λ c. is_broken c ≡ is_broken command.entry) }
+{
+    command.arg(Arg::new(alloc, name))
+}
+
+/// The command with a last argument that may come more than once.
+fn with_values<'a>(command: Command<'a>, alloc: Global) -> Result<Command<'a>, AllocError>
+    ensures app { IfOk result (λ c. app_of c ≡ with_rule (app_of command.entry) values_rule) }
+    ensures whole { IfOk result (λ c. is_broken c ≡ is_broken command.entry) }
+{
+    command.arg(Arg::new(alloc, "value").action(ArgAction::Append))
+}
+
 /// The command, which has no options so far.
 fn bare_command<'a>(alloc: Global) -> Command<'a>
     ensures app { app_of result ≡ bare_app }
@@ -122,10 +141,9 @@ fn client_command<'a>(alloc: Global) -> Result<Command<'a>, AllocError>
     ensures app { IfOk result (λ c. app_of c ≡ client_app) }
     ensures whole { IfOk result (λ c. is_broken c ≡ false) }
 {
-    let command = network_command(alloc)?;
-    let command = command.arg(Arg::new(alloc, "op"))?;
-    let command = command.arg(Arg::new(alloc, "name"))?;
-    command.arg(Arg::new(alloc, "value").action(ArgAction::Append))
+    let command = with_argument(network_command(alloc)?, alloc, "op")?;
+    let command = with_argument(command, alloc, "name")?;
+    with_values(command, alloc)
 }
 
 /// What the words give to the options and to the arguments.

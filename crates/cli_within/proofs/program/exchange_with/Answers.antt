@@ -5,4 +5,4 @@ pub returns-in_default : goal.returns-in_default
 returns-in_default g c = has_not_run _ _ _ _ _ _
 
 pub returns : goal.returns
-returns g c = has_run _ _ _ _ _ _ _ _ c.exchange.result c.in-Ok.desk.log c.exchange.new.desk.log c.in-Ok.ensures.seat c.exchange.ensures c.exchange.new.desk.stands.own
+returns g c = has_run _ _ _ _ _ _ _ _ c.exchange-end.result c.in-Ok.desk.log c.exchange-end.new.desk.log c.in-Ok.ensures.seat c.exchange-end.ensures c.exchange-end.new.desk.stands.own
