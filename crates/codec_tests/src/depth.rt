@@ -57,36 +57,36 @@ pub fn described(alloc: Global, bytes: &[u8]) -> Option<PvType> {
 }
 
 /// The value of this type that the bytes spell.
-fn value_of(alloc: Global, ty: &PvType, bytes: &[u8]) -> Option<PvValue> {
+fn value_of(alloc: Global, order: Order, ty: &PvType, bytes: &[u8]) -> Option<PvValue> {
     let mut registry = Registry::new(alloc);
-    read_full(
-        alloc,
-        &mut Cursor::new(bytes, Order::Big),
-        &mut registry,
-        ty,
-    )
-    .ok()
+    read_full(alloc, &mut Cursor::new(bytes, order), &mut registry, ty).ok()
 }
 
 /// Whether a copy of the value is the same value and is written as these bytes.
-fn is_written_back(alloc: Global, ty: &PvType, value: &PvValue, bytes: &[u8]) -> bool {
+fn is_written_back(
+    alloc: Global,
+    order: Order,
+    ty: &PvType,
+    value: &PvValue,
+    bytes: &[u8],
+) -> bool {
     let Ok(copy) = value.clone_in(alloc) else {
         return false;
     };
     let mut out = Vec::new(alloc);
     let same = same_value(value, &copy);
     same && fits(ty, &copy)
-        && write_full(&mut out, Order::Big, ty, &copy).is_ok()
+        && write_full(&mut out, order, ty, &copy).is_ok()
         && out.as_slice() == bytes
 }
 
-/// Whether the deepest value is read, copied, compared and written.
-fn is_served(alloc: Global, ty: &[u8], bytes: &[u8]) -> bool {
+/// Whether a value of the type that these bytes describe is read, copied, compared, and written as these other bytes.
+pub fn is_served(alloc: Global, order: Order, ty: &[u8], bytes: &[u8], written: &[u8]) -> bool {
     let Some(ty) = described(alloc, ty) else {
         return false;
     };
-    match value_of(alloc, &ty, bytes) {
-        Some(value) => is_written_back(alloc, &ty, &value, bytes),
+    match value_of(alloc, order, &ty, bytes) {
+        Some(value) => is_written_back(alloc, order, &ty, &value, written),
         None => false,
     }
 }
@@ -95,9 +95,10 @@ fn is_served(alloc: Global, ty: &[u8], bytes: &[u8]) -> bool {
 fn the_greatest_depth_is_served_on_a_stack_of_two_mebibytes(rt: HostRuntime) -> Result<(), Fail> {
     let alloc = rt.alloc();
     let (ty, bytes) = (deepest_type(alloc)?, deepest_value(alloc)?);
-    let child = Builder::new()
-        .stack_size(2 << 20)
-        .spawn(&rt, move || is_served(alloc, &ty, &bytes))?;
+    let child = Builder::new().stack_size(2 << 20).spawn(
+        &rt,
+        move || is_served(alloc, Order::Big, &ty, &bytes, &bytes),
+    )?;
     assert!(rt; child.join(&rt));
     Ok(())
 }

@@ -1,11 +1,11 @@
 use pva_wire::{Cursor, Order};
-use pvd_desc::{DescFault, Registry, read_desc};
+use pvd_desc::{DescFault, Registry, read_desc, write_desc};
 use pvd_type::{NoMemory, PvType};
 use std::alloc::Global;
 use std::test::Fail;
 
 /// A structure with a long and two ints.
-const TIME: [u8; 49] = [
+pub const TIME: [u8; 49] = [
     0x80, 0x06, 0x74, 0x69, 0x6D, 0x65, 0x5F, 0x74, 0x03, 0x10, 0x73, 0x65, 0x63, 0x6F, 0x6E, 0x64,
     0x73, 0x50, 0x61, 0x73, 0x74, 0x45, 0x70, 0x6F, 0x63, 0x68, 0x23, 0x0B, 0x6E, 0x61, 0x6E, 0x6F,
     0x73, 0x65, 0x63, 0x6F, 0x6E, 0x64, 0x73, 0x22, 0x07, 0x75, 0x73, 0x65, 0x72, 0x54, 0x61, 0x67,
@@ -52,4 +52,109 @@ fn a_cached_type_is_used_a_thousand_times(rt: HostRuntime) -> Result<(), Fail> {
     let ty = defined_then(rt.alloc(), &defined, &bytes)?;
     assert_eq!(rt; counted(ty, "`H.userTag"), Some((4001, Some(4000))));
     Ok(())
+}
+
+/// What is written of the type that these bytes describe, and how many of them describe it.
+fn written_back(
+    alloc: Global,
+    order: Order,
+    registry: &mut Registry,
+    bytes: &[u8],
+) -> Result<(Vec<u8>, usize), DescFault> {
+    let mut from = Cursor::new(bytes, order);
+    let ty = read_desc(alloc, &mut from, registry)?;
+    let mut out = Vec::new(alloc);
+    write_desc(&mut out, order, ty.as_ref())?;
+    Ok((out, from.place()))
+}
+
+/// Whether the type that these bytes describe, all of them, is written as they are.
+fn comes_back(alloc: Global, order: Order, bytes: &[u8]) -> bool {
+    let mut registry = Registry::new(alloc);
+    match written_back(alloc, order, &mut registry, bytes) {
+        Ok((out, place)) => out.as_slice() == bytes && place == bytes.len(),
+        Err(_) => false,
+    }
+}
+
+#[test]
+fn descriptions_are_written_as_they_are_read(rt: HostRuntime) {
+    for bytes in [
+        &TIME[..],
+        &[0xFF][..],
+        &[0x82][..],
+        &[0x8A][..],
+        &[0x83, 0x0A][..],
+        &[0x81, 0x01, 0x75, 0x02, 0x01, 0x61, 0x00, 0x01, 0x62, 0x60][..],
+        &[0x88, 0x80, 0x00, 0x01, 0x01, 0x61, 0x22][..],
+        &[0x89, 0x81, 0x00, 0x01, 0x01, 0x61, 0x22][..],
+    ] {
+        assert!(rt; comes_back(rt.alloc(), Order::Little, bytes));
+    }
+    // the codes of each type and of its lists of any length, bounded and fixed
+    for (one, any, most, just) in [
+        (0x00u8, 0x08, 0x10, 0x18),
+        (0x20, 0x28, 0x30, 0x38),
+        (0x21, 0x29, 0x31, 0x39),
+        (0x22, 0x2A, 0x32, 0x3A),
+        (0x23, 0x2B, 0x33, 0x3B),
+        (0x24, 0x2C, 0x34, 0x3C),
+        (0x25, 0x2D, 0x35, 0x3D),
+        (0x26, 0x2E, 0x36, 0x3E),
+        (0x27, 0x2F, 0x37, 0x3F),
+        (0x42, 0x4A, 0x52, 0x5A),
+        (0x43, 0x4B, 0x53, 0x5B),
+        (0x60, 0x68, 0x70, 0x78),
+    ] {
+        for bytes in [&[one][..], &[any][..], &[most, 5][..], &[just, 5][..]] {
+            assert!(rt; comes_back(rt.alloc(), Order::Big, bytes));
+        }
+    }
+}
+
+/// Whether the bytes describe no type, are all there to be read again, and the id 1 names an int still.
+fn is_refused(alloc: Global, registry: &mut Registry, bytes: &[u8]) -> bool {
+    let mut from = Cursor::new(bytes, Order::Little);
+    if read_desc(alloc, &mut from, registry).is_ok() || from.place() != 0 {
+        return false;
+    }
+    match written_back(alloc, Order::Little, registry, &[0xFE, 0x01, 0x00]) {
+        Ok((out, _)) => out.as_slice() == [0x22].as_slice(),
+        Err(_) => false,
+    }
+}
+
+/// Whether each of these is refused so, when the id 1 names an int.
+fn are_refused(alloc: Global, rows: &[&[u8]]) -> bool {
+    let mut registry = Registry::new(alloc);
+    let int = [0xFD, 0x01, 0x00, 0x22];
+    let defined = written_back(alloc, Order::Little, &mut registry, &int).is_ok();
+    defined
+        && rows
+            .iter()
+            .all(|bytes| is_refused(alloc, &mut registry, bytes))
+}
+
+#[test]
+fn a_refused_description_defines_nothing(rt: HostRuntime) {
+    let rows = [
+        &[][..],
+        &[0xFC][..],
+        &[0x44][..],
+        &[0xFD, 0x01, 0x00, 0xFF][..],
+        &[0xFE, 0x02, 0x00][..],
+        &[0xFE, 0x02][..],
+        &[0x32, 0xFF][..],
+        &[0x88, 0x22][..],
+        &[0x88, 0xFF][..],
+        &[0x88, 0xFD, 0x01, 0x00, 0x22][..],
+        &[0x89, 0xFE, 0x01, 0x00][..],
+        &[0x80, 0x00, 0x03, 0x01, 0x61, 0x22][..],
+        // the name a for the second time, behind a definition of the id 1
+        &[
+            0x80, 0x00, 0x02, 0x01, 0x61, 0xFD, 0x01, 0x00, 0x60, 0x01, 0x61, 0x22,
+        ][..],
+        &[0x80, 0x00, 0x01, 0x00, 0x22][..],
+    ];
+    assert!(rt; are_refused(rt.alloc(), &rows));
 }
