@@ -5,15 +5,15 @@ use std::alloc::Global;
 use std::test::Fail;
 
 /// A file, a group of rules, a channel's level, a user, a host, and what they may do. `$(P)` is `ops`.
-static GRANTS: [(&str, &str, u8, &str, &str, &str); 37] = [
-    // The file of the guide: everybody reads, and one user on one host writes.
-    (GUIDE, "DEFAULT", 0, "", "", "read"),
-    (GUIDE, "DEFAULT", 0, "alice", "cons1", "write"),
-    (GUIDE, "DEFAULT", 1, "alice", "cons1", "write"),
-    (GUIDE, "none of this name", 0, "alice", "cons1", "write"),
-    (GUIDE, "DEFAULT", 0, "alice", "cons2", "read"),
-    (GUIDE, "DEFAULT", 0, "bob", "cons1", "read"),
-    (GUIDE, "DEFAULT", 2, "alice", "cons1", "nothing"),
+static GRANTS: [(&str, &str, u8, &str, &str, &str); 38] = [
+    // The usual file: everybody reads, and one user on one host writes.
+    (USUAL, "DEFAULT", 0, "", "", "read"),
+    (USUAL, "DEFAULT", 0, "alice", "cons1", "write"),
+    (USUAL, "DEFAULT", 1, "alice", "cons1", "write"),
+    (USUAL, "none of this name", 0, "alice", "cons1", "write"),
+    (USUAL, "DEFAULT", 0, "alice", "cons2", "read"),
+    (USUAL, "DEFAULT", 0, "bob", "cons1", "read"),
+    (USUAL, "DEFAULT", 2, "alice", "cons1", "nothing"),
     ("", "DEFAULT", 0, "alice", "cons1", "nothing"),
     (" # nothing\n", "DEFAULT", 0, "", "", "nothing"),
     // A rule of level 1 is for channels of levels 0 and 1, one of level 0 for channels of level 0.
@@ -35,6 +35,7 @@ static GRANTS: [(&str, &str, u8, &str, &str, &str); 37] = [
     (BOTH, "one", 0, "eve", "h1", "nothing"),
     (BOTH, "one", 0, "alice", "h3", "nothing"),
     (BOTH, "one", 0, "Alice", "h1", "nothing"),
+    (BOTH, "one", 0, "alice", "H1", "nothing"),
     (BOTH, "user", 0, "bob", "anywhere", "write"),
     (BOTH, "user", 0, "alice", "h1", "nothing"),
     (BOTH, "host", 0, "", "h2", "read"),
@@ -183,7 +184,7 @@ static PAIRS: [(&str, &str, &str); 56] = [
     (OPEN_STRING, BAD_TOKEN, "OpenString 2"),
 ];
 
-const GUIDE: &str =
+const USUAL: &str =
     "UAG(ops) {alice} HAG(ctl) {cons1} ASG(DEFAULT) { RULE(1, READ) RULE(1, WRITE) { UAG(ops) HAG(ctl) } }";
 
 const LEVELS: &str = "ASG(a) { RULE(1, READ) RULE(0, WRITE) }";
