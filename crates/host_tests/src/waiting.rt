@@ -28,6 +28,8 @@ fn has_come_to(count: &AtomicU64, wanted: u64) -> bool {
 /// A client that opens X, holds what it asks, and then holds its end.
 #[derive(Clone, Copy)]
 struct Client<'a> {
+    /// It comes at the first accept behind so many.
+    comes: u64,
     /// What it asks, once so many bytes were written to the other client.
     asks: &'a [u8],
     after: u64,
@@ -135,6 +137,7 @@ impl Link for Gate<'_> {
 struct Gates<'a> {
     clients: &'a [Client<'a>],
     accepts: u64,
+    idles: u64,
     links: u64,
     at_end: bool,
     served: u64,
@@ -145,20 +148,25 @@ impl<'a> Listener for Gates<'a> {
 
     ghost use Rattle.std.specs.Prelude.{None};
 
-    ghost door = { λ g. record { faults = 0; idles = 0; accepts = g.accepts; links = g.links; at_end = g.at_end; bindings = None; ahead = None; back = None } };
+    ghost door = { λ g. record { faults = 0; idles = g.idles; accepts = g.accepts; links = g.links; at_end = g.at_end; bindings = None; ahead = None; back = None } };
 
     fn bind(&mut self, at: Peer) -> BindStep {
         BindStep::Bound(at.port)
     }
 
     fn accept(&mut self) -> AcceptStep<Gate<'a>> {
+        let before = self.accepts;
         raise(&mut self.accepts);
         let Some(client) = self.clients.get(self.links as usize) else {
             self.at_end = true;
             return AcceptStep::End;
         };
-        raise(&mut self.links);
         self.at_end = false;
+        if before < client.comes {
+            raise(&mut self.idles);
+            return AcceptStep::Idle;
+        }
+        raise(&mut self.links);
         AcceptStep::Link(Gate::new(*client))
     }
 
@@ -179,11 +187,12 @@ fn hosted_for<'a, R: Threads + Wait + Sync>(
     let mut listener = Gates {
         clients,
         accepts: 0,
+        idles: 0,
         links: 0,
         at_end: false,
         served: 0,
     };
-    let hosted = host_x(rt, alloc, &mut listener, &mut silence(alloc), None, 10)?;
+    let hosted = host_x(rt, alloc, &mut listener, &mut silence(alloc), None, 2_000)?;
     Ok((hosted, listener.served))
 }
 
@@ -194,6 +203,7 @@ fn links_are_served_side_by_side(rt: HostRuntime) -> Result<(), Fail> {
     let (one, two) = (AtomicU64::new(0), AtomicU64::new(0));
     // the first to come asks only once the second was answered, and the second only once X is open for the first
     let first = Client {
+        comes: 0,
         asks: GET,
         after: answers.len() as u64,
         answers: &answers,
@@ -201,6 +211,7 @@ fn links_are_served_side_by_side(rt: HostRuntime) -> Result<(), Fail> {
         other: &two,
     };
     let second = Client {
+        comes: 0,
         asks: GET,
         after: OPENED.len() as u64,
         answers: &answers,
@@ -221,6 +232,7 @@ fn an_idle_session_sends_what_another_put(rt: HostRuntime) -> Result<(), Fail> {
     let (one, two) = (AtomicU64::new(0), AtomicU64::new(0));
     // the first to come ends only once its second update has come, and the second puts only once the first update has
     let first = Client {
+        comes: 0,
         asks: WATCH,
         after: 0,
         answers: &updates,
@@ -228,6 +240,7 @@ fn an_idle_session_sends_what_another_put(rt: HostRuntime) -> Result<(), Fail> {
         other: &two,
     };
     let second = Client {
+        comes: 0,
         asks: PUT,
         after: shown.len() as u64,
         answers: &answers,
@@ -236,5 +249,36 @@ fn an_idle_session_sends_what_another_put(rt: HostRuntime) -> Result<(), Fail> {
     };
     let hosted = hosted_for(&rt, alloc, &[first, second])?;
     assert_eq!(rt; hosted, (Hosted::Finished(2), 2));
+    Ok(())
+}
+
+#[test]
+fn a_session_that_has_ended_is_joined_while_another_runs(rt: HostRuntime) -> Result<(), Fail> {
+    let alloc: Global = rt.alloc();
+    let answers = joined(alloc, &[OPENED, GET_BEGUN, DESCRIPTION, GOT])?;
+    let (one, two, three) = (AtomicU64::new(0), AtomicU64::new(0), AtomicU64::new(0));
+    // the first to come asks only once the third was answered, who comes long after the second has gone: a host that waited for the
+    // first by mistake, as it joins the second, would keep the third away
+    let first = Client {
+        comes: 0,
+        asks: GET,
+        after: answers.len() as u64,
+        answers: &answers,
+        own: &one,
+        other: &three,
+    };
+    let second = Client {
+        after: 0,
+        own: &two,
+        other: &one,
+        ..first
+    };
+    let third = Client {
+        comes: 1_000,
+        own: &three,
+        ..second
+    };
+    let hosted = hosted_for(&rt, alloc, &[first, second, third])?;
+    assert_eq!(rt; hosted, (Hosted::Finished(3), 3));
     Ok(())
 }

@@ -1,11 +1,15 @@
--- A desk on a pass, the pass itself, and what else a session is served with may go to another thread.
-use mir.Syntax.{Lifetime}
-use base.Fml.{Lft}
-use denote.Ref.{ShrRef, NamedLft}
-use denote.Struct.Field.{shr_ref_field}
+-- A desk on a pass, the pass itself, and what else a session is served with may go to another thread; and threads may share what tells
+-- their ends.
+use mir.Syntax.{Sym}
+use denote.Ref.{NamedLft}
+use denote.Struct.Declared.{shape}
+use denote.Struct.Field.{shr_ref_field, u64-field}
+use denote.Struct.Struct.{Struct}
+use denote.Struct.Tuple.{TupleAt, type_at}
 use denote.RattleType.{RattleType}
-use denote.Param.Send.{IsSend, IsSync, shr_send, sendable}
+use denote.Param.Send.{IsSend, IsSync, AllSend, recorded_send, shr_send, struct_send, sendable}
 use denote.Param.SendFields.{declared_send, variants_send, as_row_send}
+use Rattle.std.proofs.Common.{List, [], ◌∷◌}
 use Rattle.std.proofs.Crossing.{crosses, send as heap_send}
 use Rattle.std.specs.contracts.option.Option as Option
 use Rattle.hall_core.specs.declared.law.Law.{Ghosts}
@@ -36,6 +40,7 @@ use Rattle.desk_shared.specs.contracts.records.RecordsLaw.TheImpl as law
 use Rattle.desk_shared.specs.contracts.shared.SharedDesk as SharedDesk
 use Rattle.desk_shared.specs.declared.home.Home as Home
 use Rattle.pva_wire.proofs.order.Order.TheSendSync as order
+use Rattle.srv_host.specs.contracts.endings.Endings as Endings
 use Rattle.srv_host.specs.contracts.session.Means as Means
 
 cell_send : (P : RattleType) → IsSend P → IsSend (RecCell.the_row P)
@@ -83,3 +88,16 @@ desk_send P R K p k ps rs ℓ = declared_send (SharedDesk.the_type ℓ R P (Reco
 
 pub means_send : IsSend Means.the_row
 means_send = search (heap_send, order.the_send, sendable) depth 20
+
+pub endings_sync : IsSync Endings.the_row
+endings_sync = search (crosses, sendable) depth 20
+
+pub number_send : IsSend u64-field.row
+number_send = search sendable depth 12
+
+-- a closure that takes seven things along
+pub taken_send : (ν : Sym) (A B C D E F G : RattleType) → IsSend A → IsSend B → IsSend C → IsSend D → IsSend E → IsSend F → IsSend G → IsSend (TupleAt ν (A ∷ B ∷ C ∷ D ∷ E ∷ F ∷ G ∷ []))
+taken_send ν A B C D E F G a b c d e f g =
+    let Ts : List RattleType = A ∷ B ∷ C ∷ D ∷ E ∷ F ∷ G ∷ [] in
+    let all : AllSend Ts = (a, (b, (c, (d, (e, (f, (g, tt))))))) in
+    recorded_send (Struct (shape (type_at ν Ts))) (type_at ν Ts).D (type_at ν Ts).to (type_at ν Ts).to_one (struct_send (shape (type_at ν Ts)) all)

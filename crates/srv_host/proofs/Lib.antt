@@ -6,4 +6,5 @@ pub mod Hosts
 pub mod Heard
 pub mod Begun
 pub mod Settled
+pub mod Replaced
 mod Crossing

@@ -1,5 +1,5 @@
 -- A session that runs, and what its thread promises of it.
-use Rattle.std.specs.Prelude.{◌≡◌, ℕ, ℤ, ⊤, List, [], ◌∷◌, ◌++◌, map, Option, None, Some, Result, Ok, Err}
+use Rattle.std.specs.Prelude.{◌≡◌, ℕ, ℤ, List, [], ◌∷◌, ◌++◌, map, Option, None, Some, Result, Ok, Err}
 use Rattle.atomic_table.specs.Seated.{TableId}
 use Rattle.journal_core.specs.Moments.{Moment}
 use Rattle.journal_core.specs.declared.entry.Entry.{Entry}
@@ -21,8 +21,9 @@ use Rattle.srv_host.specs.Accepts.{EndsAccepting, IsAccepted}
 use Rattle.srv_host.specs.Sessions.{most_calls}
 use Rattle.srv_host.specs.declared.accepting.Stop.{Stop}
 use Rattle.srv_host.specs.declared.running.Running.{Running}
-use Rattle.srv_host.specs.declared.running.Running.TheVariants as ways
 use Rattle.srv_host.specs.declared.running.Serves.{Serves}
+use Rattle.srv_host.specs.declared.running.Stage.{Stage}
+use Rattle.srv_host.specs.declared.running.Stage.TheVariants as stages
 
 module _ {H S : Type 0} where
   -- the seat of what a pass knows
@@ -50,13 +51,20 @@ module _ {T C H S L K : Type 0} {law : Ghosts T C H Entry Base S Mark Item} wher
 
   -- what was promised of a session
   abbrev pub serves_of : Running T L K C H S law → Serves T L K C H S law
-  serves_of (ways.Apart handle) = handle.promise
-  serves_of (ways.Here p pass link ended) = p
+  serves_of session = session.serves
 
-  -- It has a thread of its own, or it was served and kept what was promised.
+  abbrev pub all_serves : List (Running T L K C H S law) → List (Serves T L K C H S law)
+  all_serves sessions = map serves_of sessions
+
+  -- It has a thread of its own, which promised this, or it was served and kept what was promised. None is looked at while
+  -- its thread is being joined.
+  abbrev pub HasCome : (L → Wire) → (K → Option (ℤ × ℕ)) → Serves T L K C H S law → Stage T L K C H S law → Type 0
+  HasCome wire moment p (stages.Apart handle) = handle.promise ≡ p
+  HasCome wire moment p stages.Joining = ⊥
+  HasCome wire moment p (stages.Over pass link ended) = IsKept wire moment p (pass, link, ended)
+
   abbrev pub IsRunning : (L → Wire) → (K → Option (ℤ × ℕ)) → Running T L K C H S law → Type 0
-  IsRunning wire moment (ways.Apart handle) = ⊤
-  IsRunning wire moment (ways.Here p pass link ended) = IsKept wire moment p (pass, link, ended)
+  IsRunning wire moment session = HasCome wire moment session.serves session.stage
 
   -- A session that was begun on a pass of this hall, which had seen this history and had done nothing, over a link that
   -- came so.

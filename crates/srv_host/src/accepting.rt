@@ -6,6 +6,8 @@ ghost use Rattle.srv_host.specs.Hosting.{HasAccepted};
 ghost use Rattle.srv_host.specs.Running.{AcceptsOne, BeginsOne, IsBegun, wires_of};
 
 use crate::answering::take_turn;
+use crate::endings::Endings;
+use crate::joining::join_ended;
 use crate::running::{Running, begin};
 use crate::session::Means;
 use desk_api::{NoMemory, Site};
@@ -51,6 +53,7 @@ fn begin_split<
     link: L,
     clock: &'s C,
     means: Means,
+    endings: &'s Endings,
     running: &mut Vec<Running<Records<P>, L, C>>,
 ) -> Result<(), NoMemory>
     requires own { pass_hall pass.old ≡ hall_id hall.now }
@@ -68,7 +71,16 @@ fn begin_split<
         return Err(NoMemory);
     };
     let Ok(begun) = begin::<'s, E, Brand, R, P, L, C>(
-        scope, rt, hall, site, split, link, clock, means,
+        scope,
+        rt,
+        hall,
+        site,
+        split,
+        link,
+        clock,
+        means,
+        endings,
+        running.len(),
     ) else {
         return Err(NoMemory);
     };
@@ -93,6 +105,7 @@ fn accept<
     listener: &mut A,
     clock: &'s C,
     means: Means,
+    endings: &'s Endings,
     running: &mut Vec<Running<Records<P>, A::Link, C>>,
 ) -> Result<(), Stop>
 where
@@ -106,7 +119,9 @@ where
 {
     match listener.accept() {
         AcceptStep::Link(link) => {
-            match begin_split(scope, rt, hall, site, pass, link, clock, means, running) {
+            match begin_split(
+                scope, rt, hall, site, pass, link, clock, means, endings, running,
+            ) {
                 Ok(()) => Ok(()),
                 Err(_) => Err(Stop::NoMemory),
             }
@@ -123,7 +138,8 @@ fn room(alloc: Global) -> Result<Vec<u8>, NoMemory> {
     Ok(vec![in alloc; 0; DATAGRAM]?)
 }
 
-/// Accepts links and begins to serve each, and answers datagrams between the accepts, in at most so many turns.
+/// Accepts links and begins to serve each, and answers datagrams between the accepts, in at most so many turns. Behind each turn it joins
+/// the threads of sessions that have ended.
 #[tactic(none)]
 pub(crate) fn accept_all<
     's,
@@ -143,6 +159,7 @@ pub(crate) fn accept_all<
     datagrams: &mut G,
     clock: &'s C,
     means: Means,
+    endings: &'s Endings,
     setup: &Setup,
     beacon_to: Option<Peer>,
     turns: u32,
@@ -171,6 +188,7 @@ where
             listener,
             clock,
             means,
+            endings,
             &mut running,
         ) {
             Ok(()) => match take_turn(
@@ -182,7 +200,10 @@ where
                 before + 1,
                 &mut buffer,
             ) {
-                Ok(()) => continue 'turns,
+                Ok(()) => {
+                    join_ended(rt, endings, &mut running);
+                    continue 'turns;
+                }
                 Err(_) => return (running, Stop::NoMemory),
             },
             Err(stop) => return (running, stop),

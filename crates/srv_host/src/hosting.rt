@@ -5,6 +5,7 @@ ghost use Rattle.srv_host.specs.Hosting.{Hosts};
 ghost use Rattle.srv_stream.specs.Streams.{moment_told};
 
 use crate::accepting::accept_all;
+use crate::endings::Endings;
 use crate::hosted::{Hosted, answer};
 use crate::joining::join_all;
 use crate::session::Means;
@@ -37,6 +38,7 @@ pub(crate) fn host_in<
     listener: &mut A,
     datagrams: &mut G,
     clock: &'s C,
+    endings: &'s Endings,
     setup: &Setup,
     beacon_to: Option<Peer>,
     turns: u32,
@@ -55,8 +57,8 @@ where
     };
     let mut keep = pass;
     let (running, stop) = accept_all(
-        scope, rt, hall, site, &mut keep, listener, datagrams, clock, means, setup, beacon_to,
-        turns,
+        scope, rt, hall, site, &mut keep, listener, datagrams, clock, means, endings, setup,
+        beacon_to, turns,
     );
     let served = running.len() as u64;
     let fine = join_all(rt, hall, &mut keep, listener, running, clock, means.order);
@@ -83,6 +85,7 @@ fn host_apart<
     listener: &'l mut A,
     datagrams: &'d mut G,
     clock: &'e C,
+    endings: &'e Endings,
     setup: &'e Setup,
     beacon_to: Option<Peer>,
     turns: u32,
@@ -109,8 +112,8 @@ where
             ensures hosts { Hosts site.entry.now setup.entry.now beacon_to (moment_told (C.moment clock.entry.now)) turns (pass_view pass) (pass_view result.1) (A.door listener.entry.now) (A.door result.2.now) (G.datagrams datagrams.entry.now) (G.datagrams result.3.now) result.0 }
         {
             let (hosted, pass) = host_in(
-                scope, rt, alloc, hall, site, pass, listener, datagrams, clock, setup, beacon_to,
-                turns,
+                scope, rt, alloc, hall, site, pass, listener, datagrams, clock, endings, setup,
+                beacon_to, turns,
             );
             (hosted, pass, listener, datagrams)
         },
@@ -145,8 +148,9 @@ fn host_giving_listener<
     ensures own { pass_hall result.1 ≡ pass_hall pass }
     ensures hosts { Hosts site.now setup.now beacon_to (moment_told (C.moment clock.now)) turns (pass_view pass) (pass_view result.1) (A.door listener.old) (A.door result.2.now) (G.datagrams datagrams.old) (G.datagrams datagrams.new) result.0 }
 {
+    let endings = Endings::new(alloc);
     let (hosted, pass, listener, _datagrams) = host_apart(
-        rt, alloc, hall, site, pass, listener, datagrams, clock, setup, beacon_to, turns,
+        rt, alloc, hall, site, pass, listener, datagrams, clock, &endings, setup, beacon_to, turns,
     );
     (hosted, pass, listener)
 }
@@ -160,8 +164,8 @@ fn host_giving_listener<
 /// the host itself does. Then it waits until all sessions have ended, hands their links back to the listener, in the order of their
 /// accepts, and takes in their passes. A session that finds no memory ends alone. It may wait.
 ///
-/// Its memory grows with the clients that came: each keeps its link's record and its pass, and its ended thread's room, until the host
-/// ends.
+/// The thread of a session that has ended is joined behind the turn in which that is told. Its memory grows with the clients that came:
+/// of each it keeps the link, closed, and why the session ended.
 pub fn host<
     R: Threads + Wait + Sync,
     A: Listener,

@@ -3,6 +3,7 @@
 
 mod accepting;
 mod answering;
+mod endings;
 mod hosted;
 mod hosting;
 mod joining;

@@ -4,9 +4,10 @@ ghost use Rattle.desk_api.specs.Calls.{first_seat};
 ghost use Rattle.hall_locks.specs.Passes.{hall_id, pass_hall, pass_view};
 ghost use Rattle.desk_shared.specs.Desks.{shown_of};
 ghost use Rattle.desk_shared.specs.Records.{seat_of};
-ghost use Rattle.srv_host.specs.Running.{IsBegun, IsKept, IsRunning, IsServed, serves_of};
+ghost use Rattle.srv_host.specs.Running.{HasCome, IsBegun, IsKept, IsRunning, IsServed, serves_of};
 ghost use Rattle.srv_stream.specs.Streams.{moment_told};
 
+use crate::endings::Endings;
 use crate::session::{Means, serve_desk};
 use desk_api::{Base, Channel, Mark, NoMemory, Site};
 use desk_shared::{Hall, Home, Pass, Records, SharedDesk};
@@ -16,6 +17,7 @@ use mon_shown::RollItem;
 use pva_outside::{Clock, Link, Port};
 use pva_wire::Order;
 use srv_stream::Ended;
+use std::mem;
 use std::snapshot::Snapshot;
 use std::sync::Wait;
 use std::thread::{Promise, PromisedHandle, Scope, Threads};
@@ -43,17 +45,54 @@ impl<
     ghost kept_by = { IsKept L.wire C.moment };
 }
 
-/// A session that was begun.
+/// How far a session has come.
 #[derive(Drop)]
-pub(crate) enum Running<
+pub(crate) enum Stage<
     T: Law<Base = Base, Entry = Entry, RollItem = RollItem<Channel>, Mark = Mark>,
     L: Link + Send + Drop,
     C: Clock,
 > {
-    /// It has a thread of its own.
+    /// It has a thread of its own, which wasn't joined yet.
     Apart(PromisedHandle<(Pass<T>, L, Ended), Serves<T, L, C>>),
-    /// No thread could be started, and it was served in the caller's.
-    Here(Serves<T, L, C>, Pass<T>, L, Ended),
+    /// Its thread is being joined.
+    Joining,
+    /// It has ended. Its thread was joined, or none could be started and it was served in the caller's.
+    Over(Pass<T>, L, Ended),
+}
+
+/// Lets a value go.
+fn discard<T: Drop>(_value: T) {}
+
+impl<
+    T: Law<Base = Base, Entry = Entry, RollItem = RollItem<Channel>, Mark = Mark>,
+    L: Link + Send + Drop,
+    C: Clock,
+> Stage<T, L, C> {
+    /// Joins the thread, where there is one.
+    fn joined<R: Threads>(self, rt: &R, _serves: &Serves<T, L, C>) -> Stage<T, L, C>
+        requires { HasCome L.wire C.moment _serves.now self }
+        ensures { HasCome L.wire C.moment _serves.now result }
+    {
+        match self {
+            Stage::Apart(handle) => {
+                let (pass, link, ended) = handle.join(rt);
+                Stage::Over(pass, link, ended)
+            }
+            Stage::Joining => unreachable!(),
+            Stage::Over(pass, link, ended) => Stage::Over(pass, link, ended),
+        }
+    }
+}
+
+/// A session that was begun.
+#[derive(Drop)]
+pub(crate) struct Running<
+    T: Law<Base = Base, Entry = Entry, RollItem = RollItem<Channel>, Mark = Mark>,
+    L: Link + Send + Drop,
+    C: Clock,
+> {
+    serves: Serves<T, L, C>,
+    stage: Stage<T, L, C>,
 }
 
 impl<
@@ -61,20 +100,32 @@ impl<
     L: Link + Send + Drop,
     C: Clock,
 > Running<T, L, C> {
+    /// Joins its thread, where that wasn't done yet.
+    pub(crate) fn join_early<R: Threads>(&mut self, rt: &R)
+        requires { IsRunning L.wire C.moment self.old }
+        ensures runs { IsRunning L.wire C.moment self.new }
+        ensures serves { self.new.serves ≡ self.old.serves }
+    {
+        let stage = mem::replace(&mut self.stage, Stage::Joining).joined(rt, &self.serves);
+        discard(mem::replace(&mut self.stage, stage));
+    }
+
     /// Waits for its end.
     pub(crate) fn join<R: Threads>(self, rt: &R) -> (Pass<T>, L, Ended)
         requires { IsRunning L.wire C.moment self }
         ensures { IsKept L.wire C.moment (serves_of self) result }
     {
-        match self {
-            Running::Apart(handle) => handle.join(rt),
-            Running::Here(_, pass, link, ended) => (pass, link, ended),
+        let Running { stage, .. } = self;
+        match stage {
+            Stage::Apart(handle) => handle.join(rt),
+            Stage::Joining => unreachable!(),
+            Stage::Over(pass, link, ended) => (pass, link, ended),
         }
     }
 }
 
-/// Begins to serve a link on a pass: in a thread of its own, or here where none can be started. Without memory for its desk the link
-/// isn't served.
+/// Begins to serve a link on a pass: in a thread of its own, or here where none can be started. The session tells its end under its
+/// number. Without memory for its desk the link isn't served.
 pub(crate) fn begin<
     's,
     E,
@@ -92,6 +143,8 @@ pub(crate) fn begin<
     link: L,
     clock: &'s C,
     means: Means,
+    endings: &'s Endings,
+    number: usize,
 ) -> Result<Running<Records<P>, L, C>, NoMemory>
     requires hall { hall_id hall.now ≡ K.table }
     requires site { site.now ≡ K.base.site }
@@ -126,12 +179,22 @@ pub(crate) fn begin<
             requires { K.others ≡ [] }
             ensures own { pass_hall result.0 ≡ K.table }
             ensures served { IsServed (shown_of desk.entry.pass (first_seat K.base) (λ p. seat_of p.seat.me.0)) (pass_view result.0) (L.wire link) (L.wire result.1) (moment_told (C.moment clock.entry.now)) means.order result.2 }
-        { serve_desk(desk, link, clock, means) },
+        {
+            let served = serve_desk(desk, link, clock, means);
+            endings.tell(rt, number);
+            served
+        },
     ) {
-        Ok(handle) => Ok(Running::Apart(handle)),
+        Ok(handle) => Ok(Running {
+            serves: again,
+            stage: Stage::Apart(handle),
+        }),
         Err(refused) => {
             let (pass, link, ended) = (refused.value)();
-            Ok(Running::Here(again, pass, link, ended))
+            Ok(Running {
+                serves: again,
+                stage: Stage::Over(pass, link, ended),
+            })
         }
     }
 }

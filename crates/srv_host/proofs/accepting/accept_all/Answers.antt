@@ -1,5 +1,6 @@
 use Rattle.std.proofs.Common.{◌≡◌, ◌<◌, ◌≤◌, ℕ, refl, ap, subst, ◌∙◌, arith, rules}
-use Rattle.srv_host.proofs.Begun.{turn_begun, turn_wires}
+use denote.Param.Send.{sendable}
+use Rattle.srv_host.proofs.Begun.{all_run, same_wires, still_begun, turn_begun, turn_wires}
 use Rattle.srv_host.proofs.Turning.{Turning, turning_none, turning_on, stops_amid, stops_by, stops_there, stops_turns}
 use Rattle.srv_host.proofs.accepting.accept_all.Goals as goal
 
@@ -36,15 +37,21 @@ accept-requires-clause-count g c κs within = c.requires.count
 pub overflow_add-before : goal.overflow_add-before
 overflow_add-before g c = search rules
 
+pub join_ended-requires : goal.join_ended-requires
+join_ended-requires g c =
+    let s = rw c.turns.invariant.1 at c.in-Ok-accept.ensures.step in
+    (search (c.type_bounds.send-A-Link, sendable) depth 6, all_run _ _ _ _ _ _ _ (turn_begun _ _ _ _ _ _ s.0 _ _ s.2 c.turns.invariant.2))
+
 pub turns-preserved : goal.turns-preserved
 turns-preserved g c =
     let i = c.turns.invariant in
     let s = rw i.1 at c.in-Ok-accept.ensures.step in
-    let t = c.in-Ok-take_turn.ensures in (
+    let t = c.in-Ok-take_turn.ensures in
+    let same = c.join_ended.ensures.serves in (
       c.accept.ensures.own ∙ i.0,
       c.accept.ensures.kept ∙ i.1,
-      turn_begun _ _ _ _ _ _ s.0 _ _ s.2 i.2,
-      turning_on _ _ _ _ _ s.0 i.3 s.1 (turn_wires _ _ _ _ _ _ s.0 _ _ s.2) t.1 t.2,
+      still_begun _ _ _ _ _ _ _ _ same c.join_ended.ensures.runs (turn_begun _ _ _ _ _ _ s.0 _ _ s.2 i.2),
+      rw (same_wires _ _ _ same) (turning_on _ _ _ _ _ s.0 i.3 s.1 (turn_wires _ _ _ _ _ _ s.0 _ _ s.2) t.1 t.2),
     )
 
 pub returns-in-Err-take_turn-clause-own : goal.returns-in-Err-take_turn-clause-own

@@ -1,21 +1,21 @@
 use contract.Lifetimes.{Lfts}
 use denote.Param.{param}
-use denote.Param.Send.{IsSend, IsSync, sendable, param_send, arg_send, shr_send, struct_send, recorded_send}
+use denote.Param.Send.{IsSend, IsSync, param_send, arg_send, shr_send, struct_send, recorded_send}
 use Rattle.std.proofs.Common.{◌≡◌, refl, sym, ◌∙◌}
 use Rattle.desk_api.specs.Calls.{first_seat}
 use Rattle.desk_shared.specs.Records.{seat_of}
 use Rattle.srv_stream.proofs.ended.Ended.TheSendSync as ended
-use Rattle.srv_host.proofs.Crossing.{desk_send, means_send, pass_send}
+use Rattle.srv_host.proofs.Crossing.{desk_send, endings_sync, means_send, number_send, pass_send, taken_send}
 use Rattle.srv_host.proofs.Kept.{served_from, shown_adds}
 use Rattle.srv_host.proofs.running.begin.Given.{Over}
 use Rattle.srv_host.proofs.running.begin.Lts as Lts
 use Rattle.srv_host.proofs.running.begin.Goals as goal
 
 -- what the closure takes along, and what it gives back, apart from all that is known where it is made: a `search` among that takes too many steps
-sends : (g : Over) (κs : Lfts 8) → IsSync (param 2 g.row.R) → IsSend (param 3 g.row.P) → IsSend (param 4 g.row.L) → IsSync (param 5 g.row.C) → IsSend (param 2 (Lts.arg-9-2 g.row.E g.row.K g.row.R g.row.P g.row.L g.row.C g.E.laws g.K.laws g.R.laws g.P.laws g.L.laws g.C.laws g.K.Home g.K.Home-dict g.R.Threads g.R.Threads-dict g.R.Wait g.R.Wait-dict g.P.Port g.P.Port-dict g.L.Link g.L.Link-dict g.C.Clock g.C.Clock-dict g.P.Destruct-dict g.L.Destruct-dict κs))
-sends g κs r p l k = search (means_send, desk_send, tt, param_send, arg_send, shr_send, struct_send, recorded_send) depth 80 fits 20000
+sends : (g : Over) (κs : Lfts 10) → IsSync (param 2 g.row.R) → IsSend (param 3 g.row.P) → IsSend (param 4 g.row.L) → IsSync (param 5 g.row.C) → IsSend (param 2 (Lts.arg-9-2 g.row.E g.row.K g.row.R g.row.P g.row.L g.row.C g.E.laws g.K.laws g.R.laws g.P.laws g.L.laws g.C.laws g.K.Home g.K.Home-dict g.R.Threads g.R.Threads-dict g.R.Wait g.R.Wait-dict g.P.Port g.P.Port-dict g.L.Link g.L.Link-dict g.C.Clock g.C.Clock-dict g.P.Destruct-dict g.L.Destruct-dict κs))
+sends g κs r p l k = search (taken_send, desk_send, means_send, endings_sync, number_send, shr_send, param_send, arg_send) depth 40 fits 20000
 
-gives : (g : Over) (κs : Lfts 8) → IsSend (param 3 g.row.P) → IsSend (param 4 g.row.L) → IsSend (param 3 (Lts.arg-9-3 g.row.E g.row.K g.row.R g.row.P g.row.L g.row.C g.E.laws g.K.laws g.R.laws g.P.laws g.L.laws g.C.laws g.K.Home g.K.Home-dict g.R.Threads g.R.Threads-dict g.R.Wait g.R.Wait-dict g.P.Port g.P.Port-dict g.L.Link g.L.Link-dict g.C.Clock g.C.Clock-dict g.P.Destruct-dict g.L.Destruct-dict κs))
+gives : (g : Over) (κs : Lfts 10) → IsSend (param 3 g.row.P) → IsSend (param 4 g.row.L) → IsSend (param 3 (Lts.arg-9-3 g.row.E g.row.K g.row.R g.row.P g.row.L g.row.C g.E.laws g.K.laws g.R.laws g.P.laws g.L.laws g.C.laws g.K.Home g.K.Home-dict g.R.Threads g.R.Threads-dict g.R.Wait g.R.Wait-dict g.P.Port g.P.Port-dict g.L.Link g.L.Link-dict g.C.Clock g.C.Clock-dict g.P.Destruct-dict g.L.Destruct-dict κs))
 gives g κs p l = search (pass_send, ended.the_send, tt, param_send, arg_send, struct_send, recorded_send) depth 40 fits 20000
 
 pub spawn_with-requires-send-F : goal.spawn_with-requires-send-F
@@ -32,8 +32,8 @@ spawn_with-requires-clause-keeps g c κs within =
     )
 
 pub returns-in-Ok-spawn_with-clause-begun : goal.returns-in-Ok-spawn_with-clause-begun
-returns-in-Ok-spawn_with-clause-begun g c = rw (c.in-Ok-spawn_with.ensures.ok, c.of.ensures, c.of-2.ensures, c.of-3.ensures) (record {
-  runs = tt;
+returns-in-Ok-spawn_with-clause-begun g c = rw (c.in-Ok-spawn_with.ensures.ok, c.of.ensures, c.of-2.ensures, c.of-3.ensures, c.of-4.ensures, c.of-5.ensures, c.of-6.ensures) (record {
+  runs = refl;
   own = c.requires.own;
   seen = refl;
   log = c.requires.log;
