@@ -1,4 +1,4 @@
-// The load of bench/host.sh and bench/client.sh: clients that speak pvAccess, and the echo server that the first compares with. It is built
+// The load of bench/host.sh, bench/client.sh, bench/latency.sh and, for its storms, bench/soak.sh: clients that speak pvAccess, and the echo server that the first compares with. It is built
 // by `rustc` with nothing but the standard library. The records are longouts R0, R1 and so on, which open with their own number.
 //
 //   host port                         prints a TCP port that is free
