@@ -268,15 +268,20 @@ fn a_session_that_has_ended_is_joined_while_another_runs(rt: HostRuntime) -> Res
         other: &three,
     };
     let second = Client {
+        comes: 0,
+        asks: GET,
         after: 0,
+        answers: &answers,
         own: &two,
         other: &one,
-        ..first
     };
     let third = Client {
         comes: 1_000,
+        asks: GET,
+        after: 0,
+        answers: &answers,
         own: &three,
-        ..second
+        other: &one,
     };
     let hosted = hosted_for(&rt, alloc, &[first, second, third])?;
     assert_eq!(rt; hosted, (Hosted::Finished(3), 3));
