@@ -78,6 +78,10 @@ impl Views<Channel> for Site {
         }
     }
 
+    fn is_same(&self, one: Channel, other: Channel) -> bool {
+        one == other
+    }
+
     fn triggers(&self, channel: Channel, rec: u32) -> &BitSet {
         match channel.kind {
             ChannelKind::Rec => self.record_triggers(channel.number, rec),

@@ -21,31 +21,40 @@ use Rattle.pvd_value.specs.LeafValues.{LeafValues, nothing, over, leaf_values}
 use Rattle.pvd_value.specs.declared.value.PvValue.{PvValue}
 use Rattle.mon_queue.specs.Runs.{Posted, posted, Run, fresh, Told, Event, post, pop, with_post, without_oldest, runs_with, runs_after, update_of}
 use Rattle.mon_queue.specs.Merged.{first_told, told_more, last_more, told_with}
-use Rattle.mon_queue.specs.Told.{posted_by, told_by, are_leaves, is_update_of, IsPostOf, IsUpdateOf}
+use Rattle.mon_queue.specs.Told.{told_by, are_leaves, is_update_of, IsPostOf, IsUpdateOf}
 use Rattle.mon_queue.specs.declared.update.Update.{Update}
 use Rattle.mon_queue.specs.declared.update.Post.{Post}
 use Rattle.mon_queue.proofs.Merging.{in_union, in_both, in_none, added_is, told_first}
 
--- the value that a run's update and a further post leave
-merged_leaves : (t : Tree) (a b v : Data) (c m : FinSet nat_cmp) → ((k : ℕ) → leaf_at k t v ≡ cond (contains m k) (leaf_at k t b) (leaf_at k t a))
-    → over (union c m) nothing (leaf_values t v) ≡ over m (over c nothing (leaf_values t a)) (over m nothing (leaf_values t b))
-merged_leaves t a b v c m leaves = fun_ext (λ k.
-    (λ i. cond (in_union c m k i) (leaves k i) None) ∙ step (contains c k) (contains m k) (leaf_at k t a) (leaf_at k t b))
-  where
-    step : (c m : Bool) (x y : Option Data) → cond (c || m) (cond m y x) None ≡ cond m (cond m y None) (cond c x None)
-    step true true x y = refl
-    step true false x y = refl
-    step false true x y = refl
-    step false false x y = refl
+-- what a run comes to that takes a post
 
-pub joined_is : (t : Tree) (u w : Update) (p : Post) → w.changed ≡ union u.changed p.mask → w.overrun ≡ union (intersection p.mask u.changed) u.overrun
-    → ((k : ℕ) → leaf_at k t (view w.value) ≡ cond (contains p.mask k) (leaf_at k t (view p.value)) (leaf_at k t (view u.value)))
-    → told_by t w ≡ told_more (told_by t u) (posted_by t p)
-joined_is t u w p changed overrun leaves = λ i. record {
+merged_leaves : (t : Tree) (a v : Data) (c m : FinSet nat_cmp) → ((k : ℕ) → contains m k ≡ false → contains c k ≡ true → leaf_at k t v ≡ leaf_at k t a)
+    → over (union c m) nothing (leaf_values t v) ≡ over m (over c nothing (leaf_values t a)) (over m nothing (leaf_values t v))
+merged_leaves t a v c m leaves = fun_ext (λ k.
+    ap (λ (b : Bool). cond b (leaf_at k t v) None) (in_union c m k) ∙ step (contains c k) (contains m k) (leaf_at k t v) (leaf_at k t a) (leaves k))
+  where
+    step : (c m : Bool) (x y : Option Data) → (m ≡ false → c ≡ true → x ≡ y) → cond (c || m) x None ≡ cond m (cond m x None) (cond c y None)
+    step true true x y h = refl
+    step true false x y h = h refl refl
+    step false true x y h = refl
+    step false false x y h = refl
+
+pub joined_is : (t : Tree) (u w : Update) (m : FinSet nat_cmp) → w.changed ≡ union u.changed m → w.overrun ≡ union (intersection m u.changed) u.overrun
+    → ((k : ℕ) → contains m k ≡ false → contains u.changed k ≡ true → leaf_at k t (view w.value) ≡ leaf_at k t (view u.value))
+    → told_by t w ≡ told_more (told_by t u) (posted m (leaf_values t (view w.value)))
+joined_is t u w m changed overrun leaves = λ i. record {
   changed = changed i;
   overrun = overrun i;
-  leaves = (ap (λ (c : FinSet nat_cmp). over c nothing (leaf_values t (view w.value))) changed ∙ merged_leaves t (view u.value) (view p.value) (view w.value) u.changed p.mask leaves) i;
+  leaves = (ap (λ (c : FinSet nat_cmp). over c nothing (leaf_values t (view w.value))) changed ∙ merged_leaves t (view u.value) (view w.value) u.changed m leaves) i;
 }
+
+-- Values that agree under the mask make one post.
+pub same_post : (t : Tree) (a b : Data) (m : FinSet nat_cmp) → ((k : ℕ) → contains m k ≡ true → leaf_at k t a ≡ leaf_at k t b) → posted m (leaf_values t a) ≡ posted m (leaf_values t b)
+same_post t a b m leaves = λ i. record { mask = m; leaves = fun_ext (λ k. step k (contains m k) refl) i }
+  where
+    step : (k : ℕ) (x : Bool) → contains m k ≡ x → cond x (leaf_at k t a) None ≡ cond x (leaf_at k t b) None
+    step k true h = leaves k h
+    step k false h = refl
 
 -- sets of leaves
 
@@ -186,17 +195,17 @@ begins_told t us u size ring is room alone =
     ∙ ap (λ (x : Told). map (told_by t) us ++ x ∷ []) (told_alone t u alone)
     ∙ ap (λ (b : Bool). cond b (map (told_by t) us ++ first_told p ∷ []) (last_more (map (told_by t) us) p)) (sym (lt-ltb (length (map (told_by t) us)) size room))
 
-pub joins_told : (t : Tree) (us : List Update) (newest : Update) (p : Post) (size : ℕ) (ring : Buffer Update) → last_item us ≡ Some newest → length (map (told_by t) us) ≡ size
-    → map (told_by t) ring.items ≡ map (told_by t) (take (length us - 1) us) ++ told_more (told_by t newest) (posted_by t p) ∷ []
-    → map (told_by t) ring.items ≡ told_with size (map (told_by t) us) (posted_by t p)
+pub joins_told : (t : Tree) (us : List Update) (newest : Update) (p : Posted) (size : ℕ) (ring : Buffer Update) → last_item us ≡ Some newest → length (map (told_by t) us) ≡ size
+    → map (told_by t) ring.items ≡ map (told_by t) (take (length us - 1) us) ++ told_more (told_by t newest) p ∷ []
+    → map (told_by t) ring.items ≡ told_with size (map (told_by t) us) p
 joins_told t us newest p size ring last full is =
-    let w = told_more (told_by t newest) (posted_by t p) in
+    let w = told_more (told_by t newest) p in
     let at_last : slice_get (map (told_by t) us) (length (map (told_by t) us) - 1) ≡ Some (told_by t newest) =
     ap (λ (n : ℕ). slice_get (map (told_by t) us) (n - 1)) (length-map us (told_by t)) ∙ slice_get-map (told_by t) us (length us - 1) ∙ ap (option_map (told_by t)) last in
     is
     ∙ ap (λ (l : List Told). l ++ w ∷ []) (map_take (told_by t) (length us - 1) us ∙ ap (λ (n : ℕ). take (n - 1) (map (told_by t) us)) (sym (length-map us (told_by t))))
-    ∙ last_is (map (told_by t) us) (told_by t newest) w (posted_by t p) at_last refl
-    ∙ ap (λ (b : Bool). cond b (map (told_by t) us ++ first_told (posted_by t p) ∷ []) (last_more (map (told_by t) us) (posted_by t p))) (sym (le-ltb (length (map (told_by t) us)) size (omega (arith, full))))
+    ∙ last_is (map (told_by t) us) (told_by t newest) w p at_last refl
+    ∙ ap (λ (b : Bool). cond b (map (told_by t) us ++ first_told p ∷ []) (last_more (map (told_by t) us) p)) (sym (le-ltb (length (map (told_by t) us)) size (omega (arith, full))))
 
 pub has_last : (us : List Update) → 1 ≤ length us → (u : Update) × (last_item us ≡ Some u)
 has_last [] some = absurd (omega (arith, some))

@@ -1,20 +1,20 @@
 ghost use Rattle.std.specs.Prelude.{◌≡◌, ◌≤◌, ◌<◌, ◌-◌, ◌∷◌, ◌++◌, ◌↔◌, [], List, Some, true, length, take, drop, map, IfOk, IfSome, IsNone, slice_get, option_map};
-ghost use Rattle.std.specs.FinSet as set;
 ghost use Rattle.circular_buffer.specs.Buffer.{buffer, last_item};
 ghost use Rattle.pvd_value.specs.View.{view};
 ghost use Rattle.pvd_value.specs.Fits.{fits_of};
 ghost use Rattle.pvd_value.specs.LeafValues.{leaf_values};
 ghost use Rattle.mon_queue.specs.Runs.{posted, Run, fresh, with_post, without_oldest, oldest_of, Event, post as posting, pop as popping, unread_runs};
-ghost use Rattle.mon_queue.specs.Merged.{told_with, told_more};
+ghost use Rattle.mon_queue.specs.Merged.{told_with};
 ghost use Rattle.mon_queue.specs.Told.{posted_by, told_by, are_leaves, IsPostOf, is_update_of, are_updates_of, IsUpdateOf};
+ghost use Rattle.mon_queue.specs.declared.update.Prepared.TheVariants.{Joins};
 ghost use Rattle.mon_queue.specs.Unread.{type_of, size_of, unread, Holds, StandsFor, prepared_post, IsReadyFor};
 
-use crate::joining::{discard, first_update, joined, sets_with};
+use crate::joining::{discard, first_update, joined};
 use crate::queue::MonQueue;
+use crate::shared::SharedValue;
 use crate::update::{Post, Prepared, Update};
 use circular_buffer::HeapCircularBuffer;
 use pvd_type::{BitSet, NoMemory, PvType};
-use pvd_value::PvValue;
 use std::alloc::Global;
 
 impl MonQueue {
@@ -24,7 +24,7 @@ impl MonQueue {
         alloc: Global,
         ty: PvType,
         mask: BitSet,
-        first: PvValue,
+        first: SharedValue,
         size: u32,
     ) -> Result<MonQueue, NoMemory>
         requires size { (1 ≤ size) × (size ≤ 64) }
@@ -57,12 +57,8 @@ impl MonQueue {
         let Some(newest) = self.newest_of_full() else {
             return Ok(Prepared::Begins(first_update(alloc, post)));
         };
-        match sets_with(alloc, newest, &post.mask) {
-            Ok((changed, overrun)) => Ok(Prepared::Joins {
-                post,
-                changed,
-                overrun,
-            }),
+        match joined(alloc, &self.ty, newest, &post) {
+            Ok(update) => Ok(joins(post, update)),
             Err(no_memory) => {
                 discard(post);
                 Err(no_memory)
@@ -94,11 +90,10 @@ impl MonQueue {
     {
         match prepared {
             Prepared::Begins(update) => append(&mut self.ring, update),
-            Prepared::Joins {
-                post,
-                changed,
-                overrun,
-            } => join_newest(&self.ty, &mut self.ring, post, changed, overrun),
+            Prepared::Joins { mask, update } => {
+                discard(mask);
+                replace_newest(&mut self.ring, update);
+            }
         }
     }
 
@@ -145,25 +140,21 @@ fn append(ring: &mut HeapCircularBuffer<Update>, update: Update)
     discard(ring.push_back(update));
 }
 
-/// The newest update takes a post.
-fn join_newest(
-    ty: &PvType,
-    ring: &mut HeapCircularBuffer<Update>,
-    post: Post,
-    changed: BitSet,
-    overrun: BitSet,
-)
+/// What was prepared of a post that joins a run, which then comes to this.
+fn joins(post: Post, update: Update) -> Prepared
+    ensures { result ≡ Joins post.mask update }
+{
+    let Post { mask, value } = post;
+    discard(value);
+    Prepared::Joins { mask, update }
+}
+
+/// Another update takes the place of the newest.
+fn replace_newest(ring: &mut HeapCircularBuffer<Update>, update: Update)
     requires some { 1 ≤ length ring.old.items }
     requires few { length ring.old.items ≤ ring.old.capacity }
-    requires updates { are_updates_of ty.now ring.old.items ≡ true }
-    requires post { IsPostOf ty.now post }
-    requires changed { (newest : Update) → last_item ring.old.items ≡ Some newest → changed ≡ set.union newest.changed post.mask }
-    requires overrun { (newest : Update) → last_item ring.old.items ≡ Some newest → overrun ≡ set.union (set.intersection post.mask newest.changed) newest.overrun }
-    ensures capacity { ring.new.capacity ≡ ring.old.capacity }
-    ensures len { length ring.new.items ≡ length ring.old.items }
-    ensures updates { are_updates_of ty.now ring.new.items ≡ true }
-    ensures told { (newest : Update) → last_item ring.old.items ≡ Some newest → map (told_by ty.now) ring.new.items ≡ map (told_by ty.now) (take (length ring.old.items - 1) ring.old.items) ++ told_more (told_by ty.now newest) (posted_by ty.now post) ∷ [] }
+    ensures { ring.new ≡ buffer (take (length ring.old.items - 1) ring.old.items ++ update ∷ []) ring.old.capacity }
 {
-    let newest = take_newest(ring);
-    append(ring, joined(ty, newest, post, changed, overrun));
+    discard(take_newest(ring));
+    append(ring, update);
 }

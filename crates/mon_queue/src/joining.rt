@@ -1,11 +1,17 @@
-ghost use Rattle.std.specs.Prelude.{◌≡◌, true, IfOk};
+ghost use Rattle.std.specs.Prelude.{◌≡◌, ◌&&◌, ℕ, not, true, false, IsTrue, IfOk};
 ghost use Rattle.std.specs.FinSet as set;
+ghost use Rattle.std.specs.FinSet.{contains};
+ghost use Rattle.pvd_value.specs.View.{view};
+ghost use Rattle.pvd_value.specs.Leaves.{leaf_at};
+ghost use Rattle.pvd_value.specs.LeafValues.{leaf_values};
+ghost use Rattle.pvd_value.specs.Fits.{fits_of};
+ghost use Rattle.mon_queue.specs.Runs.{posted};
 ghost use Rattle.mon_queue.specs.Told.{posted_by, told_by, IsPostOf, is_update_of};
 ghost use Rattle.mon_queue.specs.Merged.{told_more};
 
+use crate::shared::SharedValue;
 use crate::update::{Post, Update};
 use pvd_type::{BitSet, NoMemory, PvType};
-use pvd_value::take_leaves;
 use std::alloc::Global;
 
 /// The update of one post.
@@ -40,44 +46,65 @@ fn overrun_with(alloc: Global, newest: &Update, mask: &BitSet) -> Result<BitSet,
     Ok(overrun)
 }
 
-/// The changed and the overrun leaves of an update that takes a post with this mask.
-pub(crate) fn sets_with(
-    alloc: Global,
-    newest: &Update,
-    mask: &BitSet,
-) -> Result<(BitSet, BitSet), NoMemory>
-    ensures changed { IfOk result (λ p. p.0 ≡ set.union newest.now.changed mask.now) }
-    ensures overrun { IfOk result (λ p. p.1 ≡ set.union (set.intersection mask.now newest.now.changed) newest.now.overrun) }
+/// Whether one set has a number that the other lacks, and this is it.
+fn is_only_in(set: &BitSet, other: &BitSet, bit: u32) -> bool
+    ensures { result ≡ (contains set.now bit && not (contains other.now bit)) }
 {
-    let changed = changed_with(alloc, newest, mask)?;
-    let overrun = overrun_with(alloc, newest, mask)?;
-    Ok((changed, overrun))
+    set.contains(bit) && !other.contains(bit)
 }
 
-/// The update that takes a post, whose leaves move into it.
-pub(crate) fn joined(
-    ty: &PvType,
-    newest: Update,
-    post: Post,
-    changed: BitSet,
-    overrun: BitSet,
-) -> Update
-    requires newest { is_update_of ty.now newest ≡ true }
-    requires post { IsPostOf ty.now post }
-    requires changed { changed ≡ set.union newest.changed post.mask }
-    requires overrun { overrun ≡ set.union (set.intersection post.mask newest.changed) newest.overrun }
-    ensures told { told_by ty.now result ≡ told_more (told_by ty.now newest) (posted_by ty.now post) }
-    ensures update { is_update_of ty.now result ≡ true }
+/// Whether the other set has all that one has.
+pub fn is_within(set: &BitSet, other: &BitSet) -> bool
+    ensures { IsTrue result → (k : ℕ) → contains set.now k ≡ true → contains other.now k ≡ true }
 {
-    let mut value = newest.value;
-    let mut rest = post.value;
-    take_leaves(ty, &mut value, &post.mask, &mut rest);
-    discard(rest);
-    Update {
+    for bit in 0..set.bound() * 8 {
+        if is_only_in(set, other, bit) {
+            return false;
+        }
+    }
+    true
+}
+
+/// A value that has the changed leaves of an update and, over them, the leaves of a post. It is the post's own where that has all of them.
+fn value_with(
+    alloc: Global,
+    ty: &PvType,
+    newest: &Update,
+    post: &Post,
+) -> Result<SharedValue, NoMemory>
+    requires newest { fits_of 16 (view newest.now.value) ty.now ≡ true }
+    requires post { fits_of 16 (view post.now.value) ty.now ≡ true }
+    ensures fits { IfOk result (λ v. fits_of 16 (view v) ty.now ≡ true) }
+    ensures new { IfOk result (λ v. (k : ℕ) → contains post.now.mask k ≡ true → leaf_at k ty.now (view v) ≡ leaf_at k ty.now (view post.now.value)) }
+    ensures old { IfOk result (λ v. (k : ℕ) → contains post.now.mask k ≡ false → contains newest.now.changed k ≡ true → leaf_at k ty.now (view v) ≡ leaf_at k ty.now (view newest.now.value)) }
+{
+    if is_within(&newest.changed, &post.mask) {
+        return post.value.share();
+    }
+    newest.value.with(alloc, ty, &post.mask, post.value.value())
+}
+
+/// What a run comes to that takes a post.
+pub(crate) fn joined(
+    alloc: Global,
+    ty: &PvType,
+    newest: &Update,
+    post: &Post,
+) -> Result<Update, NoMemory>
+    requires newest { is_update_of ty.now newest.now ≡ true }
+    requires post { IsPostOf ty.now post.now }
+    ensures told { IfOk result (λ u. told_by ty.now u ≡ told_more (told_by ty.now newest.now) (posted post.now.mask (leaf_values ty.now (view u.value)))) }
+    ensures post { IfOk result (λ u. posted post.now.mask (leaf_values ty.now (view u.value)) ≡ posted_by ty.now post.now) }
+    ensures update { IfOk result (λ u. is_update_of ty.now u ≡ true) }
+{
+    let changed = changed_with(alloc, newest, &post.mask)?;
+    let overrun = overrun_with(alloc, newest, &post.mask)?;
+    let value = value_with(alloc, ty, newest, post)?;
+    Ok(Update {
         changed,
         overrun,
         value,
-    }
+    })
 }
 
 /// Lets a value go in a function of its own, since its parts would else be let go one by one in the caller's proof.

@@ -1,5 +1,5 @@
+use crate::shared::SharedValue;
 use pvd_type::BitSet;
-use pvd_value::PvValue;
 
 /// The leaves of a value that are new.
 #[derive(Drop)]
@@ -7,7 +7,7 @@ pub struct Post {
     /// Their numbers.
     pub mask: BitSet,
     /// A value that has them. Its other leaves don't count.
-    pub value: PvValue,
+    pub value: SharedValue,
 }
 
 /// What a pop takes: one post, or several that were merged because the queue was full.
@@ -18,8 +18,9 @@ pub struct Update {
     pub changed: BitSet,
     /// The leaves that more than one post had.
     pub overrun: BitSet,
-    /// A value that has the changed leaves, each as the last post with it left it. Nothing is said of its other leaves.
-    pub value: PvValue,
+    /// A value that has the changed leaves, each as the last post with it left it. Nothing is said of its other leaves. It may be the value of a post,
+    /// which others are told of too.
+    pub value: SharedValue,
 }
 
 /// A post that a queue made ready, so that it can be applied without memory.
@@ -27,13 +28,11 @@ pub struct Update {
 pub enum Prepared {
     /// It begins a run, whose update this is.
     Begins(Update),
-    /// It joins the newest run, whose update then has these sets.
+    /// It joins the newest run.
     Joins {
-        /// The post, whose marked leaves move into the update.
-        post: Post,
-        /// The leaves that some post of the run then had.
-        changed: BitSet,
-        /// The leaves that more than one post of the run then had.
-        overrun: BitSet,
+        /// The leaves of the post.
+        mask: BitSet,
+        /// What the run then comes to.
+        update: Update,
     },
 }

@@ -4,3 +4,4 @@ mod Least
 mod Listing
 mod Standing
 mod Taking
+pub mod Viewing

@@ -1,19 +1,19 @@
 -- What an entry changes of what is kept.
-use Rattle.std.proofs.Common.{◌≡◌, ℕ, Bool, true, false, cond, not, ◌&&◌, List, [], ◌∷◌, map, Option, None, Some, refl, sym, ap, ◌∙◌, subst}
+use Rattle.std.proofs.Common.{◌≡◌, ℕ, Bool, true, false, cond, not, ◌&&◌, List, [], ◌∷◌, map, Option, None, Some, refl, sym, ap, ◌∙◌}
 use Rattle.std.specs.Prelude.{◌==◌}
 use Rattle.std.proofs.Math.Path.{fun_ext}
 use Rattle.std.proofs.lemmas.Bool.{eqb-true, false≢true}
 use Rattle.std.specs.Ordering.{nat_cmp}
 use Rattle.std.specs.FinSet.{FinSet, contains, empty, len, empty_of_len, len-empty}
+use Rattle.pvd_type.specs.Tree.{Tree}
 use Rattle.pvd_value.specs.Data.{Data}
+use Rattle.pvd_value.specs.Leaves.{leaf_at}
 use Rattle.pvd_value.specs.View.{view}
 use Rattle.pvd_value.specs.Same.{same_slot}
-use Rattle.pvd_value.specs.LeafValues.{LeafValues, nothing, leaf_values, over, differing_in}
-use Rattle.rec_kinds.specs.declared.state.RecState.{RecState}
-use Rattle.journal_core.specs.declared.entry.Entry.{Entry}
-use Rattle.mon_queue.specs.Runs.{Posted, posted, Run, Told, with_post, update_of}
+use Rattle.pvd_value.specs.LeafValues.{LeafValues, leaf_values, over, differing_in}
+use Rattle.mon_shown.specs.Keeping.{SameUnder, ShowsWith}
+use Rattle.mon_queue.specs.Runs.{Posted, posted, Run, update_of}
 use Rattle.mon_queue.specs.Merged.{told_with}
-use Rattle.mon_queue.specs.Unread.{type_of, size_of, unread}
 use Rattle.mon_queue.specs.Shown.{Watch, Scene, seen, anew, next_scene, news, posts_by}
 use Rattle.mon_queue.specs.Course.{with_posts}
 use Rattle.mon_queue.proofs.Merging.{same, in_retain, in_none, added_is}
@@ -35,6 +35,36 @@ over_differing mask old view = fun_ext (λ k.
     step true x y true h = slot_is x y h
     step true x y false h = refl
     step false x y d h = refl
+
+-- Values that are the same under a mask have the same post, and differ from a third in the same leaves.
+
+pub posted_same : (mask : FinSet nat_cmp) (a b : LeafValues) → SameUnder mask a b → posted mask a ≡ posted mask b
+posted_same mask a b agree = λ i. record { mask = mask; leaves = fun_ext (λ k. step k (contains mask k) refl) i }
+  where
+    step : (k : ℕ) (m : Bool) → contains mask k ≡ m → cond m (a k) None ≡ cond m (b k) None
+    step k true h = agree k h
+    step k false h = refl
+
+pub differing_same : (mask : FinSet nat_cmp) (a b v : LeafValues) → SameUnder mask a b → differing_in mask a v ≡ differing_in mask b v
+differing_same mask a b v agree = same (differing_in mask a v) (differing_in mask b v) (λ k.
+    in_retain mask (λ j. not (same_slot (a j) (v j))) k ∙ step k (contains mask k) refl ∙ sym (in_retain mask (λ j. not (same_slot (b j) (v j))) k))
+  where
+    step : (k : ℕ) (m : Bool) → contains mask k ≡ m → (m && not (same_slot (a k) (v k))) ≡ (m && not (same_slot (b k) (v k)))
+    step k true h = ap (λ (x : Option Data). not (same_slot x (v k))) (agree k h)
+    step k false h = refl
+
+-- Where a value differs from what is shown in these leaves of those that it was compared in, and all that were asked for are among them, it
+-- shows what was shown with them.
+pub shows_itself : (t : Tree) (requested compared mask : FinSet nat_cmp) (shown v : Data) → ((k : ℕ) → contains requested k ≡ true → contains compared k ≡ true)
+    → mask ≡ differing_in compared (leaf_values t shown) (leaf_values t v) → ShowsWith t requested mask shown v v
+shows_itself t requested compared mask shown v within is k asked =
+    sym (ap (λ (b : Bool). cond b (leaf_at k t v) (leaf_at k t shown)) (ap (λ (m : FinSet nat_cmp). contains m k) is ∙ in_retain compared (λ j. not (same_slot (leaf_at j t shown) (leaf_at j t v))) k
+    ∙ ap (λ (b : Bool). b && not (same_slot (leaf_at k t shown) (leaf_at k t v))) (within k asked))
+    ∙ step (leaf_at k t shown) (leaf_at k t v) (same_slot (leaf_at k t shown) (leaf_at k t v)) refl)
+  where
+    step : (x y : Option Data) (d : Bool) → same_slot x y ≡ d → cond (not d) y x ≡ y
+    step x y true h = slot_is x y h
+    step x y false h = refl
 
 module _ {State Entry : Type 0} (w : Watch State Entry) (s : Scene State) (e : Entry) where
   abbrev new : LeafValues

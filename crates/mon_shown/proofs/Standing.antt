@@ -1,10 +1,9 @@
 -- The subscriptions stand through beginnings, endings, pops and entries.
-use Rattle.std.specs.Prelude.{◌≡◌, ◌==◌, ◌&&◌, ◌||◌, ℕ, zero, suc, ◌+◌, ◌≤◌, ◌<◌, Bool, true, false, cond, not, List, [], ◌∷◌, ◌++◌, length, set, Option, None, Some, is_some, is_none, refl}
-use Rattle.std.proofs.Common.{get_or, sym, ◌∙◌, ap, subst, arith, eqb, inl, inr}
+use Rattle.std.specs.Prelude.{◌≡◌, ◌&&◌, ◌||◌, ℕ, zero, suc, ◌≤◌, ◌<◌, Bool, true, false, List, [], ◌∷◌, ◌++◌, length, Option, None, Some, is_some, refl}
+use Rattle.std.proofs.Common.{sym, ◌∙◌, ap, subst, arith, eqb, inl, inr}
 use Rattle.std.proofs.Math.Path.{fun_ext}
 use Rattle.std.specs.List.{fold, list_any}
-use Rattle.std.proofs.lemmas.Bool.{eqb-true, eq-eqb, ne_eqb, false≢true, true≢false, cases_lt}
-use Rattle.std.proofs.lemmas.Option.{none-some}
+use Rattle.std.proofs.lemmas.Bool.{eqb-true, eq-eqb, false≢true, true≢false, cases_lt}
 use Rattle.std.specs.Ordering.{nat_cmp}
 use Rattle.std.specs.FinSet.{FinSet, contains, empty, union, intersection}
 use Rattle.rec_kinds.specs.declared.state.RecState.{RecState}
@@ -12,11 +11,10 @@ use Rattle.journal_core.specs.declared.entry.Entry.{Entry}
 use Rattle.mon_queue.specs.Unread.{type_of}
 use Rattle.mon_queue.specs.declared.update.Update.{Update}
 use Rattle.mon_queue.proofs.Merging.{same, in_both, in_none, in_union}
-use Rattle.mon_shown.specs.Channels.{ChannelView, watch}
-use Rattle.mon_shown.specs.Keeping.{IsOf, IsReady, MayChange, Took, Popped}
+use Rattle.mon_shown.specs.Channels.{ChannelView}
+use Rattle.mon_shown.specs.Keeping.{IsOf}
 use Rattle.mon_shown.specs.Noting.{names, wants, OthersStay}
-use Rattle.mon_shown.specs.Readies.{found_for, are_apart}
-use Rattle.mon_shown.specs.Slots.{slot_of, slot_in, is_filled, is_concerned, Stand, SlotMay, SlotReady, SlotTook, OtherSlotsStay, SlotPopped}
+use Rattle.mon_shown.specs.Slots.{slot_of, slot_in, is_concerned, Stand, SlotReady, SlotTook, OtherSlotsStay, SlotPopped}
 use Rattle.mon_shown.specs.declared.index.Index.{Index}
 use Rattle.mon_shown.specs.declared.watching.Watching.{Watching}
 use Rattle.mon_shown.specs.declared.watching.Ready.{Ready}

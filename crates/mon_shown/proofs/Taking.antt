@@ -1,11 +1,10 @@
 -- One slot after another is made ready, and takes what was made ready.
-use Rattle.std.specs.Prelude.{◌≡◌, ◌≢◌, ◌==◌, ◌&&◌, ℕ, zero, suc, ◌+◌, ◌≤◌, ◌<◌, Bool, true, false, cond, List, [], ◌∷◌, ◌++◌, length, Option, None, Some, is_some, is_none, refl}
+use Rattle.std.specs.Prelude.{◌≡◌, ◌≢◌, ◌&&◌, ℕ, ◌+◌, ◌≤◌, ◌<◌, Bool, true, false, cond, List, [], ◌∷◌, ◌++◌, length, Option, None, Some, is_none, refl}
 use Rattle.std.proofs.Common.{sym, ◌∙◌, ap, subst, arith, eqb, inl, inr}
-use Rattle.std.proofs.lemmas.Bool.{eqb-true, eq-eqb, ne_eqb, false≢true, true≢false, cases_lt}
+use Rattle.std.proofs.lemmas.Bool.{eqb-true, eq-eqb, ne_eqb, false≢true, cases_lt}
 use Rattle.rec_kinds.specs.declared.state.RecState.{RecState}
 use Rattle.journal_core.specs.declared.entry.Entry.{Entry}
 use Rattle.mon_shown.specs.Channels.{ChannelView}
-use Rattle.mon_shown.specs.Keeping.{IsReady, Took}
 use Rattle.mon_shown.specs.Readies.{found_for, are_apart}
 use Rattle.mon_shown.specs.Slots.{slot_of, slot_in, SlotMay, SlotReady, SlotTook}
 use Rattle.mon_shown.specs.declared.watching.Watching.{Watching}

@@ -1,5 +1,5 @@
 -- Why no subscription begins.
-use Rattle.std.specs.Prelude.{◌≡◌, ◌<◌, ℕ, true, false}
+use Rattle.std.specs.Prelude.{◌≡◌, ◌<◌, ℕ, false}
 use Rattle.mon_shown.specs.Slots.{is_filled, IsFull}
 use Rattle.mon_shown.specs.declared.slots.NotBegun.{NotBegun}
 use Rattle.mon_shown.specs.declared.slots.NotBegun.TheVariants.{TooMany, NoMemory}

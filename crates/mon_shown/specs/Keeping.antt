@@ -1,8 +1,9 @@
 -- What is kept of a subscription, and what an entry will make of it.
 use Rattle.std.specs.Prelude.{◌≡◌, ℕ, Bool, true, List, [], ◌∷◌, map, Option, None, Some, option_map}
 use Rattle.std.specs.Ordering.{nat_cmp}
-use Rattle.std.specs.FinSet.{FinSet}
+use Rattle.std.specs.FinSet.{FinSet, contains}
 use Rattle.pvd_type.specs.Tree.{Tree}
+use Rattle.pvd_value.specs.Data.{Data}
 use Rattle.pvd_value.specs.View.{view}
 use Rattle.pvd_value.specs.Fits.{fits_of}
 use Rattle.pvd_value.specs.LeafValues.{LeafValues, leaf_values, over}
@@ -19,6 +20,15 @@ use Rattle.mon_shown.specs.Channels.{ChannelView, RecordsWatch, RecordsScene, wa
 use Rattle.mon_shown.specs.declared.watching.Watching.{Watching}
 use Rattle.mon_shown.specs.declared.watching.Ready.{Ready}
 
+-- Under these numbers they are the same.
+abbrev pub SameUnder : FinSet nat_cmp → LeafValues → LeafValues → Type 0
+SameUnder mask a b = (k : ℕ) → contains mask k ≡ true → a k ≡ b k
+
+-- Of the leaves that were asked for, one value has these of another, and the rest of what was shown.
+abbrev pub ShowsWith : Tree → FinSet nat_cmp → FinSet nat_cmp → Data → Data → Data → Type 0
+ShowsWith t requested mask shown new v =
+    SameUnder requested (leaf_values t v) (over mask (leaf_values t shown) (leaf_values t new))
+
 module _ {C : Type 0} where
   abbrev pub channel_of : Watching C → C
   channel_of x = x.channel
@@ -31,12 +41,12 @@ module _ {C : Type 0} where
   abbrev pub capacity_of : Watching C → ℕ
   capacity_of x = size_of x.queue
 
-  -- The subscription keeps what is shown and, of the unread runs, their updates.
+  -- The subscription keeps what is shown of the leaves that it asked for and, of the unread runs, their updates.
   pub record Keeps (w : RecordsWatch) (size : ℕ) (s : RecordsScene) (runs : List Run) (x : Watching C) : Type 0 where
     pub ty_is : type_of x.queue ≡ w.ty
     pub requested_is : x.requested ≡ w.requested
     pub size_is : size_of x.queue ≡ size
-    pub shown_is : leaf_values w.ty (view x.shown) ≡ s.shown
+    pub shown_is : SameUnder w.requested (leaf_values w.ty (view x.shown)) s.shown
     pub holds : Holds x.queue runs
 
   -- It is one of these channels, and has this channel's type.
@@ -55,7 +65,7 @@ module _ {C : Type 0} where
   -- what is shown and what is unread, once this is taken that was made ready
   abbrev pub shown_with : Watching C → Option Ready → LeafValues
   shown_with x None = leaf_values (type_of x.queue) (view x.shown)
-  shown_with x (Some r) = over r.mask (leaf_values (type_of x.queue) (view x.shown)) (leaf_values (type_of x.queue) (view r.value))
+  shown_with x (Some r) = leaf_values (type_of x.queue) (view r.shown)
 
   abbrev pub unread_with : Watching C → Option Ready → List Told
   unread_with x None = unread x.queue
@@ -64,7 +74,7 @@ module _ {C : Type 0} where
   -- It was made ready for the subscription as it is.
   pub record MayTake (x : Watching C) (r : Ready) : Type 0 where
     pub queue : IsReadyFor x.queue r.prepared
-    pub fits : fits_of 16 (view r.value) (type_of x.queue) ≡ true
+    pub fits : fits_of 16 (view r.shown) (type_of x.queue) ≡ true
 
   abbrev pub MayChange : Watching C → Option Ready → Type 0
   MayChange x None = Unit {0}
@@ -72,7 +82,7 @@ module _ {C : Type 0} where
 
   -- Once it is taken the subscription keeps this.
   pub record WillKeep (s : RecordsScene) (runs : List Run) (x : Watching C) (r : Option Ready) : Type 0 where
-    pub shown_is : shown_with x r ≡ s.shown
+    pub shown_is : SameUnder x.requested (shown_with x r) s.shown
     pub unread_is : unread_with x r ≡ map update_of runs
 
   -- The entry was made ready: whatever the subscription keeps, it will keep that with the entry and its posts. The states may be any of

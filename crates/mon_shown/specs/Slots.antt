@@ -1,11 +1,10 @@
 -- The slots of the living subscriptions, and what is done with all of them.
-use Rattle.std.specs.Prelude.{◌≡◌, ◌==◌, ◌&&◌, ◌<◌, ℕ, Bool, true, false, List, [], ◌∷◌, Option, None, Some, is_some, is_none, slice_index_or, if◌then◌else◌}
+use Rattle.std.specs.Prelude.{◌≡◌, ◌<◌, ℕ, Bool, true, false, List, Option, None, Some, is_some, slice_index_or}
 use Rattle.rec_kinds.specs.declared.state.RecState.{RecState}
 use Rattle.journal_core.specs.declared.entry.Entry.{Entry}
-use Rattle.mon_queue.specs.Unread.{type_of}
 use Rattle.mon_queue.specs.declared.update.Update.{Update}
 use Rattle.mon_shown.specs.Channels.{ChannelView}
-use Rattle.mon_shown.specs.Keeping.{IsOf, IsReady, MayTake, MayChange, Took, Popped}
+use Rattle.mon_shown.specs.Keeping.{IsOf, IsReady, MayChange, Took, Popped}
 use Rattle.mon_shown.specs.Noting.{names, wants}
 use Rattle.mon_shown.specs.Readies.{found_for}
 use Rattle.mon_shown.specs.declared.watching.Watching.{Watching}

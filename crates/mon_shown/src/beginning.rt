@@ -2,8 +2,7 @@
 ghost use Rattle.std.specs.Prelude.{◌≡◌, ◌≤◌, ◌∷◌, [], true, ℕ, IfOk};
 ghost use Rattle.pvd_value.specs.View.{view};
 ghost use Rattle.pvd_value.specs.Fits.{fits_of};
-ghost use Rattle.pvd_value.specs.Blank.{blank_of};
-ghost use Rattle.pvd_value.specs.LeafValues.{leaf_values, over};
+ghost use Rattle.pvd_value.specs.LeafValues.{leaf_values};
 ghost use Rattle.mon_queue.specs.Runs.{fresh, posted};
 ghost use Rattle.mon_queue.specs.Told.{are_leaves};
 ghost use Rattle.mon_queue.specs.Unread.{type_of, size_of, Holds};
@@ -12,9 +11,8 @@ ghost use Rattle.mon_shown.specs.Keeping.{Begins};
 use crate::entering::discard;
 use crate::views::Views;
 use crate::watching::Watching;
-use mon_queue::MonQueue;
+use mon_queue::{MonQueue, SharedValue};
 use pvd_type::{BitSet, NoMemory, PvType};
-use pvd_value::{PvValue, blank, take_leaves};
 use rec_kinds::RecState;
 use std::alloc::Global;
 
@@ -36,7 +34,7 @@ impl<C: Copy> Watching<C> {
     {
         let ty = views.type_of(channel);
         let part = views.view_part(alloc, channel, states, &requested)?;
-        let shown = first_shown(alloc, ty, &requested, part)?;
+        let shown = SharedValue::new(alloc, part)?;
         match first_queue(alloc, ty, &requested, &shown, size) {
             Ok(queue) => Ok(Watching {
                 channel,
@@ -52,37 +50,12 @@ impl<C: Copy> Watching<C> {
     }
 }
 
-/// The requested leaves of a value over the blank one.
-fn first_shown(
-    alloc: Global,
-    ty: &PvType,
-    requested: &BitSet,
-    part: PvValue,
-) -> Result<PvValue, NoMemory>
-    requires { fits_of 16 (view part) ty.now ≡ true }
-    ensures fits { IfOk result (λ v. fits_of 16 (view v) ty.now ≡ true) }
-    ensures shown { IfOk result (λ v. leaf_values ty.now (view v) ≡ over requested.now (leaf_values ty.now (blank_of ty.now)) (leaf_values ty.now (view part))) }
-{
-    match blank(alloc, ty) {
-        Ok(mut shown) => {
-            let mut rest = part;
-            take_leaves(ty, &mut shown, requested, &mut rest);
-            discard(rest);
-            Ok(shown)
-        }
-        Err(no_memory) => {
-            discard(part);
-            Err(no_memory)
-        }
-    }
-}
-
 /// A queue whose first post has these leaves of the value.
 fn first_queue(
     alloc: Global,
     ty: &PvType,
     requested: &BitSet,
-    shown: &PvValue,
+    shown: &SharedValue,
     size: u32,
 ) -> Result<MonQueue, NoMemory>
     requires fits { fits_of 16 (view shown.now) ty.now ≡ true }
@@ -94,6 +67,6 @@ fn first_queue(
 {
     let kind = ty.clone_in(alloc)?;
     let mask = requested.clone_in(alloc)?;
-    let value = shown.clone_in(alloc)?;
+    let value = shown.share()?;
     MonQueue::start(alloc, kind, mask, value, size)
 }

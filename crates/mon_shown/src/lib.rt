@@ -10,6 +10,7 @@ mod posting;
 mod roll;
 mod slots;
 mod subscriptions;
+mod viewed;
 mod views;
 mod watching;
 

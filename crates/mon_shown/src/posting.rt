@@ -4,10 +4,12 @@ ghost use Rattle.std.specs.FinSet.{contains};
 ghost use Rattle.mon_shown.specs.Channels.{ChannelView};
 ghost use Rattle.mon_shown.specs.Keeping.{channel_of, IsOf, anew_of};
 ghost use Rattle.mon_shown.specs.Readies.{found_for};
+ghost use Rattle.mon_shown.specs.Viewing.{AreViews};
 ghost use Rattle.mon_shown.specs.Slots.{slot_of, slot_in, Stand, SlotMay, SlotReady, SlotTook, AreReady, MayTakeAll, TookAll};
 
 use crate::entering::discard;
 use crate::subscriptions::{Readied, Subscriptions};
+use crate::viewed::Viewed;
 use crate::views::Views;
 use crate::watching::{Ready, Watching};
 use journal_core::Entry;
@@ -17,7 +19,8 @@ use std::alloc::Global;
 
 impl<C: Copy> Subscriptions<C> {
     /// What an entry will change, where these are the states after it. All memory of its posts is taken here, and nothing is
-    /// changed. Only those subscriptions are looked at of which a written record triggers a requested leaf.
+    /// changed. Only those subscriptions are looked at of which a written record triggers a requested leaf, and those that are shown the same
+    /// share one value.
     pub fn ready_all<V: Views<C>>(
         &self,
         alloc: Global,
@@ -29,6 +32,26 @@ impl<C: Copy> Subscriptions<C> {
         requires ready { (slot : ℕ) (x : Watching C) → slot_in self.now slot ≡ Some x → V.ready views.now (channel_of x) (anew_of (V.shows views.now) x entry.now) states.now }
         ensures { IfOk result (AreReady (V.shows views.now) states.now entry.now self.now) }
     {
+        let mut viewed = Viewed::new(alloc);
+        let made = self.ready_each(alloc, views, entry, states, &mut viewed);
+        discard(viewed);
+        made
+    }
+
+    /// What an entry will change, one subscription after the other.
+    fn ready_each<V: Views<C>>(
+        &self,
+        alloc: Global,
+        views: &V,
+        entry: &Entry,
+        states: &[RecState],
+        viewed: &mut Viewed<C>,
+    ) -> Result<Readied, NoMemory>
+        requires stand { Stand (V.has views.now) (V.shows views.now) self.now }
+        requires ready { (slot : ℕ) (x : Watching C) → slot_in self.now slot ≡ Some x → V.ready views.now (channel_of x) (anew_of (V.shows views.now) x entry.now) states.now }
+        requires viewed { AreViews (V.shows views.now) states.now viewed.old.views.items }
+        ensures { IfOk result (AreReady (V.shows views.now) states.now entry.now self.now) }
+    {
         let concerned = self.index.concerned(alloc, entry.writes.as_slice())?;
         let mut made = Readied {
             readies: Vec::new(alloc),
@@ -38,7 +61,8 @@ impl<C: Copy> Subscriptions<C> {
             let Some(slot) = self.next_of(&concerned, start) else {
                 return Ok(made);
             };
-            self.add_ready(alloc, views, slot, entry, states, &mut made)?;
+            let ready = self.ready_at(alloc, views, slot, entry, states, viewed)?;
+            add_some(&mut made, slot, ready)?;
             start = slot + 1;
         }
         Ok(made)
@@ -57,26 +81,25 @@ impl<C: Copy> Subscriptions<C> {
         None
     }
 
-    /// Adds what an entry will change of the subscription of a slot.
-    fn add_ready<V: Views<C>>(
+    /// What an entry will change of the subscription of a slot.
+    fn ready_at<V: Views<C>>(
         &self,
         alloc: Global,
         views: &V,
         slot: u32,
         entry: &Entry,
         states: &[RecState],
-        made: &mut Readied,
-    ) -> Result<(), NoMemory>
+        viewed: &mut Viewed<C>,
+    ) -> Result<Option<Ready>, NoMemory>
         requires within { slot < length self.now.slots.items }
         requires stand { Stand (V.has views.now) (V.shows views.now) self.now }
         requires ready { (slot : ℕ) (x : Watching C) → slot_in self.now slot ≡ Some x → V.ready views.now (channel_of x) (anew_of (V.shows views.now) x entry.now) states.now }
-        requires fresh { found_for slot made.old.readies.items ≡ None }
-        ensures others { OnOk result ((s : ℕ) → s ≢ slot → found_for s made.new.readies.items ≡ found_for s made.old.readies.items) }
-        ensures own { OnOk result (SlotReady (V.shows views.now) states.now entry.now (slot_in self.now slot) (found_for slot made.new.readies.items)) }
+        requires viewed { AreViews (V.shows views.now) states.now viewed.old.views.items }
+        ensures ready { IfOk result (SlotReady (V.shows views.now) states.now entry.now (slot_in self.now slot)) }
+        ensures viewed { AreViews (V.shows views.now) states.now viewed.new.views.items }
     {
         let place = &self.slots[slot as usize];
-        let ready = ready_slot(alloc, views, place, entry, states)?;
-        add_some(made, slot, ready)
+        ready_slot(alloc, views, place, entry, states, viewed)
     }
 
     /// Takes in all that was made ready for the subscriptions as they are. It takes no memory.
@@ -99,13 +122,16 @@ fn ready_slot<C: Copy, V: Views<C>>(
     slot: &Option<Watching<C>>,
     entry: &Entry,
     states: &[RecState],
+    viewed: &mut Viewed<C>,
 ) -> Result<Option<Ready>, NoMemory>
     requires is_of { (x : Watching C) → slot.now ≡ Some x → IsOf (V.has views.now) (V.shows views.now) x }
     requires ready { (x : Watching C) → slot.now ≡ Some x → V.ready views.now (channel_of x) (anew_of (V.shows views.now) x entry.now) states.now }
-    ensures { IfOk result (SlotReady (V.shows views.now) states.now entry.now slot.now) }
+    requires viewed { AreViews (V.shows views.now) states.now viewed.old.views.items }
+    ensures ready { IfOk result (SlotReady (V.shows views.now) states.now entry.now slot.now) }
+    ensures viewed { AreViews (V.shows views.now) states.now viewed.new.views.items }
 {
     match slot {
-        Some(watching) => watching.ready(alloc, views, entry, states),
+        Some(watching) => watching.ready(alloc, views, entry, states, viewed),
         None => Ok(None),
     }
 }

@@ -1,4 +1,4 @@
-ghost use Rattle.std.specs.Prelude.{◌≡◌, true, false, ℕ, IfOk};
+ghost use Rattle.std.specs.Prelude.{◌≡◌, true, false, ℕ, IfOk, IsTrue};
 ghost use Rattle.std.specs.List.{list_any};
 ghost use Rattle.std.specs.FinSet.{contains, empty};
 ghost use Rattle.pvd_value.specs.View.{view};
@@ -32,6 +32,10 @@ pub trait Views<C> {
     fn type_of(&self, channel: C) -> &PvType
         requires { has self.now channel ≡ true }
         ensures { result.now ≡ (shows self.now channel).ty };
+
+    /// Whether two are one channel, where that is known.
+    fn is_same(&self, one: C, other: C) -> bool
+        ensures { IsTrue result → one ≡ other };
 
     /// The leaves that are taken anew where this record is written.
     fn triggers(&self, channel: C, rec: u32) -> &BitSet

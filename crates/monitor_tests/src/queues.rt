@@ -3,7 +3,7 @@ ghost use Rattle.std.specs.Prelude.{◌≤◌, IfOk};
 ghost use Rattle.mon_queue.specs.Told.{IsPostOf};
 
 use crate::leaves::{discard, int_at, ints_named, leaves_of};
-use mon_queue::{MonQueue, NoMemory, Post, Update};
+use mon_queue::{MonQueue, NoMemory, Post, SharedValue, Update};
 use pvd_type::PvType;
 use pvd_value::{PvValue, fits};
 use std::alloc::Global;
@@ -46,7 +46,10 @@ fn post(alloc: Global, ty: &PvType, numbers: &[u16], int: i32) -> Result<Post, N
     let mask = leaves_of(alloc, ty, numbers)?;
     let value = filled(alloc, int)?;
     if fits(ty, &value) {
-        return Ok(Post { mask, value });
+        return Ok(Post {
+            mask,
+            value: SharedValue::new(alloc, value)?,
+        });
     }
     discard(value);
     Err(NoMemory)
@@ -132,7 +135,7 @@ fn agrees(ty: &PvType, update: &Update, run: &[(u16, i32)]) -> bool {
         if update.overrun.contains(number) != (times > 1) {
             return false;
         }
-        if times > 0 && int_at(ty, &update.value, number) != Some(last) {
+        if times > 0 && int_at(ty, update.value.value(), number) != Some(last) {
             return false;
         }
     }

@@ -296,7 +296,7 @@ fn number_in(update: Option<Update>) -> Option<i32> {
     let Some(update) = update else {
         return None;
     };
-    let number = int(update.value.members().get(0));
+    let number = int(update.value.value().members().get(0));
     discard(update);
     number
 }

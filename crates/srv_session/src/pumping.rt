@@ -88,7 +88,7 @@ impl Session {
             req,
             ty,
             &update.changed,
-            &update.value,
+            update.value.value(),
             &update.overrun,
         )
     }

@@ -1,4 +1,4 @@
-use Rattle.std.proofs.Common.{◌≡◌, ◌∙◌, Some, ap, sym}
+use Rattle.std.proofs.Common.{◌∙◌, Some, ap, sym}
 use Rattle.std.proofs.lemmas.Option.{slice_get-get_or}
 use Rattle.mon_shown.proofs.Listing.{ok_map, err_map, added_at, same_at}
 use Rattle.mon_shown.proofs.index.add_at.Goals as goal

@@ -1,4 +1,4 @@
-use Rattle.std.proofs.Common.{◌≡◌, ◌∙◌, ap}
+use Rattle.std.proofs.Common.{◌∙◌, ap}
 use Rattle.std.specs.Result.{is_ok}
 use Rattle.mon_shown.specs.Readies.{found_for}
 use Rattle.mon_shown.proofs.Taking.{apart_pushed, found_else, found_own}

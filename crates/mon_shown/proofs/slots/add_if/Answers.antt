@@ -1,4 +1,4 @@
-use Rattle.std.proofs.Common.{◌≡◌, ◌∙◌, ◌||◌, ◌&&◌, Bool, true, false, sym, ap, eqb}
+use Rattle.std.proofs.Common.{◌∙◌, ◌||◌, ◌&&◌, Bool, sym, ap, eqb}
 use Rattle.mon_shown.specs.Noting.{names}
 use Rattle.mon_shown.proofs.Listing.{ok_map, or_false}
 use Rattle.mon_shown.proofs.slots.add_if.Goals as goal

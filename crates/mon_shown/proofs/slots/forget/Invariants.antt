@@ -1,4 +1,3 @@
-use Rattle.std.proofs.Common.{◌≡◌}
 use Rattle.mon_shown.proofs.Listing.{IsForgetting}
 use Rattle.mon_shown.proofs.slots.forget.Given as goal
 

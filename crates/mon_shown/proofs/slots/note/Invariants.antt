@@ -1,4 +1,3 @@
-use Rattle.std.proofs.Common.{◌≡◌}
 use Rattle.mon_shown.proofs.Listing.{IsNoting}
 use Rattle.mon_shown.proofs.slots.note.Given as goal
 

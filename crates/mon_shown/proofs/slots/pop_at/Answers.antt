@@ -1,4 +1,4 @@
-use Rattle.std.proofs.Common.{◌≡◌, ◌<◌, ◌∙◌, Option, Some, None, List, length, set, get_or, sym, ap, subst, arith, refl}
+use Rattle.std.proofs.Common.{◌≡◌, ◌<◌, ◌∙◌, Option, Some, None, length, set, sym, subst, arith, refl}
 use Rattle.std.proofs.lemmas.List.{get_or-set_same, get_or-set_other, get_or_default, length-set}
 use Rattle.mon_shown.specs.Slots.{slot_of, SlotPopped}
 use Rattle.mon_shown.specs.declared.watching.Watching.{Watching}

@@ -1,7 +1,5 @@
-use Rattle.std.proofs.Common.{◌≡◌, ◌<◌, ◌∙◌, Option, Some, None, List, length, set, get_or, sym, ap, subst, arith, refl}
+use Rattle.std.proofs.Common.{◌<◌, ◌∙◌, None, length, sym, arith}
 use Rattle.std.proofs.lemmas.List.{get_or-set_same, get_or-set_other, get_or_default, length-set}
-use Rattle.mon_shown.specs.Slots.{slot_of, SlotMay}
-use Rattle.mon_shown.specs.declared.watching.Watching.{Watching}
 use Rattle.mon_shown.proofs.Standing.{at_past}
 use Rattle.mon_shown.proofs.slots.take_out.Goals as goal
 

@@ -1,4 +1,4 @@
-use Rattle.std.proofs.Common.{◌≡◌, ◌∙◌, ◌||◌, ◌&&◌, Bool, ap, eqb}
+use Rattle.std.proofs.Common.{◌∙◌, ◌||◌, ◌&&◌, Bool, ap, eqb}
 use Rattle.mon_shown.proofs.Listing.{ok_map, err_map}
 use Rattle.mon_shown.proofs.index.Index.add.Goals as goal
 

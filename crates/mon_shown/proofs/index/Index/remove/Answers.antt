@@ -1,4 +1,4 @@
-use Rattle.std.proofs.Common.{◌≡◌, arith}
+use Rattle.std.proofs.Common.{arith}
 use Rattle.mon_shown.proofs.Listing.{removed_past}
 use Rattle.mon_shown.proofs.index.Index.remove.Goals as goal
 

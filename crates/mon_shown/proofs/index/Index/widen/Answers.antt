@@ -1,4 +1,4 @@
-use Rattle.std.proofs.Common.{◌≡◌, ◌∙◌, ◌+◌, ◌∷◌, [], ℕ, List, length, refl, ap, arith, length-append}
+use Rattle.std.proofs.Common.{◌∙◌, ◌+◌, ◌∷◌, [], ℕ, List, length, ap, arith, length-append}
 use Rattle.mon_shown.specs.Channels.{is_one_of}
 use Rattle.mon_shown.specs.Noting.{has_slot_at}
 use Rattle.mon_shown.specs.declared.index.Listed.{Listed}

@@ -1,4 +1,4 @@
-use Rattle.std.proofs.Common.{◌≡◌, ◌∙◌, ℕ, List, ap}
+use Rattle.std.proofs.Common.{◌∙◌, ℕ, List, ap}
 use Rattle.mon_shown.specs.Channels.{is_one_of}
 use Rattle.mon_shown.proofs.Listing.{one_more}
 use Rattle.mon_shown.proofs.index.Listed.add.Goals as goal

@@ -1,4 +1,4 @@
-use Rattle.std.proofs.Common.{rules, ◌≡◌, ◌∙◌, ℕ, List, ap, not, eqb}
+use Rattle.std.proofs.Common.{rules, ◌∙◌, ℕ, List, ap, not, eqb}
 use Rattle.std.proofs.lemmas.Fn.{filter_same}
 use Rattle.mon_shown.specs.Channels.{is_one_of}
 use Rattle.mon_shown.proofs.Listing.{one_fewer}

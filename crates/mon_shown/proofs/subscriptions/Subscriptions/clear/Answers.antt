@@ -1,4 +1,4 @@
-use Rattle.std.proofs.Common.{◌≡◌, ◌∙◌, Option, refl, sym, subst}
+use Rattle.std.proofs.Common.{◌∙◌, Option, refl, sym, subst}
 use Rattle.mon_shown.specs.Slots.{slot_of}
 use Rattle.mon_shown.specs.declared.watching.Watching.{Watching}
 use Rattle.mon_shown.proofs.Listing.{untriggered}

@@ -1,4 +1,4 @@
-use Rattle.std.proofs.Common.{◌≡◌, ◌∙◌, refl}
+use Rattle.std.proofs.Common.{◌∙◌, refl}
 use Rattle.mon_shown.proofs.Standing.{stand_kept, kinds_stay, stand_filled, stand_freed, free_unlisted, others_trans}
 use Rattle.mon_shown.proofs.subscriptions.Subscriptions.fill.Goals as goal
 

@@ -1,4 +1,4 @@
-use Rattle.std.proofs.Common.{◌≡◌, refl}
+use Rattle.std.proofs.Common.{refl}
 use Rattle.mon_shown.proofs.Standing.{stand_kept, kinds_at, popped_kind}
 use Rattle.mon_shown.proofs.subscriptions.Subscriptions.pop.Goals as goal
 

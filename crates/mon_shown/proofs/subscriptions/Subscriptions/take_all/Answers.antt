@@ -1,5 +1,4 @@
-use Rattle.std.proofs.Common.{◌≡◌, ◌∙◌, ℕ, List, [], length, refl, sym, ap, subst, arith}
-use Rattle.mon_shown.specs.declared.watching.Ready.{Ready}
+use Rattle.std.proofs.Common.{◌≡◌, [], refl, subst, arith}
 use Rattle.mon_shown.proofs.Standing.{stand_kept, took_kind}
 use Rattle.mon_shown.proofs.Taking.{IsTaking, taking_starts, may_take, taking_step, taken_all, none_left}
 use Rattle.mon_shown.proofs.subscriptions.Subscriptions.take_all.Goals as goal

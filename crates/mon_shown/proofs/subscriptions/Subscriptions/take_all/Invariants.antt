@@ -1,4 +1,4 @@
-use Rattle.std.proofs.Common.{◌≡◌, ℕ, length}
+use Rattle.std.proofs.Common.{◌≡◌, length}
 use Rattle.mon_shown.proofs.Taking.{IsTaking}
 use Rattle.mon_shown.proofs.subscriptions.Subscriptions.take_all.Given as goal
 

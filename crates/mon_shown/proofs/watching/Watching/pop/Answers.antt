@@ -1,4 +1,4 @@
-use Rattle.std.proofs.Common.{◌≡◌, ◌∙◌, refl, ap, sym}
+use Rattle.std.proofs.Common.{◌∙◌, refl, ap, sym}
 use Rattle.std.specs.Prelude.{option_map}
 use Rattle.pvd_type.specs.Tree.{Tree}
 use Rattle.mon_queue.specs.Told.{told_by}

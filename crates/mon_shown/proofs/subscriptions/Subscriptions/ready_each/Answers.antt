@@ -1,18 +1,20 @@
-use Rattle.std.proofs.Common.{◌≡◌, ◌∙◌, ◌≤◌, ◌<◌, ℕ, Option, None, Some, List, refl, sym, ap, subst, arith}
+use Rattle.std.proofs.Common.{◌∙◌, ℕ, Option, refl, sym, ap, subst, arith}
 use Rattle.std.specs.Prelude.{IsNone}
 use Rattle.std.specs.List.{list_any}
 use Rattle.rec_kinds.specs.declared.state.RecState.{RecState}
 use Rattle.mon_shown.specs.Noting.{names}
 use Rattle.mon_shown.specs.Readies.{found_for}
-use Rattle.mon_shown.specs.Slots.{slot_in, ready_in}
+use Rattle.mon_shown.specs.Slots.{slot_in, ready_in, SlotReady}
+use Rattle.mon_shown.specs.declared.watching.Ready.{Ready}
 use Rattle.mon_shown.proofs.Standing.{unconcerned}
 use Rattle.mon_shown.proofs.Taking.{making_step, made_all, may_of}
-use Rattle.mon_shown.proofs.subscriptions.Subscriptions.ready_all.Goals as goal
+use Rattle.mon_shown.proofs.subscriptions.Subscriptions.ready_each.Goals as goal
 
 pub loop-turn-init : goal.loop-turn-init
 loop-turn-init g c = record {
   at = omega arith;
   few = omega arith;
+  viewed = c.requires.viewed;
   making = record { fresh = λ s le. ap (found_for s) c.new.ensures.items; done = λ s less. absurd (omega (arith, less)) };
 }
 
@@ -25,10 +27,12 @@ loop-turn-preserved g c =
     record {
       at = omega (arith, c.loop-turn.invariant.at, some.0);
       few = omega (arith, some.2);
-      making = making_step shows c.args.states.now e subs c.loop-turn.start c.in-Some.slot c.loop-turn.made.readies.items c.add_ready.new.made.readies.items c.loop-turn.invariant.making some.0
+      viewed = c.ready_at.ensures.viewed;
+      making = making_step shows c.args.states.now e subs c.loop-turn.start c.in-Some.slot c.loop-turn.made.readies.items c.add_some.new.made.readies.items c.loop-turn.invariant.making some.0
           (λ s from before. unconcerned (g.V.Views.has c.args.views.now) shows c.args.states.now e subs c.requires.stand s
           (ap (list_any (λ (w : ℕ × RecState). names subs.index w.0 s)) (sym c.as_slice.ensures) ∙ sym (c.in_ok-concerned.ensures {u = tt} s) ∙ c.in-Some.ensures.between s from before))
-          (c.in_ok-add_ready.ensures {u = tt}).others (c.in_ok-add_ready.ensures {u = tt}).own;
+          (c.in_ok-add_some.ensures {u = tt}).others
+          (subst (λ (o : Option Ready). SlotReady shows c.args.states.now e (slot_in subs c.in-Some.slot) o) (sym (c.in_ok-add_some.ensures {u = tt}).own) c.in_ok-ready.ensures.ready);
     }
 
 pub returns : goal.returns
