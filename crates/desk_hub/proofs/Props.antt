@@ -18,7 +18,7 @@ use Rattle.mon_queue.specs.Course.{AreBetween, scene_at}
 use Rattle.mon_queue.specs.Runs.{Run, Told, update_of}
 use Rattle.mon_queue.specs.Unread.{type_of, size_of, unread}
 use Rattle.mon_shown.specs.Channels.{ChannelView, RecordsWatch, RecordsScene}
-use Rattle.mon_shown.specs.Keeping.{channel_of, IsOf, Keeps}
+use Rattle.mon_shown.specs.Keeping.{channel_of, IsOf, SameUnder, Keeps}
 use Rattle.mon_shown.specs.Noting.{names}
 use Rattle.mon_shown.specs.Rolls.{is_held}
 use Rattle.mon_shown.specs.Slots.{slot_in, is_concerned, is_filled, Stand}
@@ -43,8 +43,11 @@ data_set = hedberg (discrete_by same_data same_data-Decides)
 tree_set : IsSet Tree
 tree_set = hedberg (discrete_by _ same_tree-Decides)
 
-leaves_set : IsSet LeafValues
-leaves_set = hlevel (props, data_set)
+leaf_set : IsSet (Option Data)
+leaf_set = hlevel (props, data_set)
+
+same_prop : (mask : FinSet nat_cmp) (a b : LeafValues) → IsProp (SameUnder mask a b)
+same_prop mask a b f g = λ i k asked. leaf_set (a k) (b k) (f k asked) (g k asked) i
 
 mask_coded : Coded (FinSet nat_cmp)
 mask_coded = code coded_ℕ
@@ -57,7 +60,7 @@ keeps_prop w size s runs x a b =
     let ty_prop : IsProp (type_of x.queue ≡ w.ty) = tree_set (type_of x.queue) w.ty in
     let requested_prop : IsProp (x.requested ≡ w.requested) = hlevel (props, mask_coded) in
     let size_prop : IsProp (size_of x.queue ≡ size) = hlevel props in
-    let shown_prop : IsProp (leaf_values w.ty (view x.shown) ≡ s.shown) = leaves_set (leaf_values w.ty (view x.shown)) s.shown in
+    let shown_prop : IsProp (SameUnder w.requested (leaf_values w.ty (view x.shown)) s.shown) = same_prop w.requested (leaf_values w.ty (view x.shown)) s.shown in
     let holds_prop : IsProp (unread x.queue ≡ map update_of runs) = hlevel (props, told_set) in
     λ i. record {
       ty_is = ty_prop a.ty_is b.ty_is i;

@@ -21,10 +21,10 @@ option_sync : (R : RattleType) → IsSync R → IsSync (Option.the_row R)
 option_sync R s = variants_sync (Option.enum R) (search (s, sendable) depth 12)
 
 pub watching_send : (C : RattleType) → IsSend C → IsSend (Watching.the_row C)
-watching_send C c = declared_send (Watching.the_type C) (search (c, set.the_send, shared_field_send, queue_send, as_row_send, sendable) depth 30 fits 10000)
+watching_send C c = declared_send (Watching.the_type C) (search (c, set.the_send, shared_field_send, queue_send, sendable) depth 30 fits 10000)
 
 pub watching_sync : (C : RattleType) → IsSync C → IsSync (Watching.the_row C)
-watching_sync C c = declared_sync (Watching.the_type C) (search (c, set.the_sync, shared_field_sync, queue_sync, as_row_sync, sendable) depth 30 fits 10000)
+watching_sync C c = declared_sync (Watching.the_type C) (search (c, set.the_sync, shared_field_sync, queue_sync, sendable) depth 30 fits 10000)
 
 abbrev slots : RattleType → Field
 slots C = Vec.the_field (Option.the_row (Watching.the_row C)) Heap.the_row ghosts
