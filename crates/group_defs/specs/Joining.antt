@@ -50,9 +50,14 @@ join_group number groups e =
 abbrev pub join_groups : ℕ → Groups → List (List ℕ × Members) → Told Groups
 join_groups number = each (join_group number)
 
+abbrev pub join_value : ℕ → Groups → Json → Told Groups
+join_value number groups j = groups_of j >>= λ es. join_groups number groups es
+
+abbrev pub join_json : ℕ → Groups → List ℕ → Told Groups
+join_json number groups text = json_of text >>= λ j. join_value number groups j
+
 unfoldable pub join_text : ℕ → Groups → List ℕ → Told Groups
-join_text number groups text =
-    json_of (with_quoted_keys text) >>= λ j. groups_of j >>= λ es. join_groups number groups es
+join_text number groups text = join_json number groups (with_quoted_keys text)
 
 -- of the infos of a record, `Q:group` alone speaks of groups
 abbrev pub join_info : ℕ → Groups → Info → Told Groups

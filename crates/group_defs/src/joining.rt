@@ -1,10 +1,11 @@
-ghost use Rattle.std.specs.Prelude.{◌≡◌, ◌<◌, ◌^◌, length, unwrap_or, IfOk, OnOk};
+ghost use Rattle.std.specs.Prelude.{◌≡◌, ◌<◌, ◌^◌, codes, length, unwrap_or, IfOk, OnOk};
+ghost use Rattle.std.specs.Str.{bytes_eq};
 ghost use Rattle.group_defs.specs.Joined.{blank};
 ghost use Rattle.json.specs.Value.{value_view, members_view};
 ghost use Rattle.group_defs.specs.Told.{Gives};
 ghost use Rattle.group_defs.specs.Groups.{groups_seen, FaultsAs, Answers};
 ghost use Rattle.group_defs.specs.Shown.{shown_places, shown_groups};
-ghost use Rattle.group_defs.specs.Joining.{known, with_group, join_key, join_keys, join_group, join_groups, join_text, join_info, join_infos, join_record, join_texts};
+ghost use Rattle.group_defs.specs.Joining.{known, with_group, join_key, join_keys, join_group, join_groups, join_value, join_json, join_text, join_info, join_infos, join_record, join_texts};
 ghost use Rattle.group_defs.specs.Statements.{fault_in};
 
 use crate::bare_keys::with_quoted_keys;
@@ -118,24 +119,52 @@ fn join_groups<'a>(
     Ok(())
 }
 
+/// Joins what a value says.
+fn join_value(
+    alloc: Global,
+    number: u32,
+    groups: &mut Drafts,
+    value: &Value<'_>,
+) -> Result<(), Stop>
+    ensures { Gives (λ _. groups_seen groups.new) result (join_value number (groups_seen groups.old) (value_view value.now)) }
+{
+    let objects = groups_of(alloc, value)?;
+    join_groups(alloc, number, groups, &objects)?;
+    Ok(())
+}
+
+/// Joins what JSON says.
+fn join_json(alloc: Global, number: u32, groups: &mut Drafts, text: &str) -> Result<(), Stop>
+    ensures { Gives (λ _. groups_seen groups.new) result (join_json number (groups_seen groups.old) text.now) }
+{
+    let mut scratch = Scratch::new(alloc);
+    let value = json_of(alloc, text, &mut scratch)?;
+    join_value(alloc, number, groups, &value)?;
+    Ok(())
+}
+
 /// Joins what a text says once its bare keys are in quotes.
 #[tactic(auto, unfolding(crate::specs::Joining::join_text))]
 fn join_text(alloc: Global, number: u32, groups: &mut Drafts, text: &str) -> Result<(), Stop>
     ensures { Gives (λ _. groups_seen groups.new) result (join_text number (groups_seen groups.old) text.now) }
 {
     let quoted = with_quoted_keys(alloc, text)?;
-    let mut scratch = Scratch::new(alloc);
-    let value = json_of(alloc, quoted.as_str(), &mut scratch)?;
-    let objects = groups_of(alloc, &value)?;
-    join_groups(alloc, number, groups, &objects)?;
+    join_json(alloc, number, groups, quoted.as_str())?;
     Ok(())
+}
+
+/// Whether an info of this name speaks of groups.
+fn is_of_groups(name: &str) -> bool
+    ensures { result ≡ bytes_eq name.now (codes "Q:group") }
+{
+    name == "Q:group"
 }
 
 /// Joins what an info of a record says.
 fn join_info(alloc: Global, number: u32, groups: &mut Drafts, info: &Info) -> Result<(), Stop>
     ensures { Gives (λ _. groups_seen groups.new) result (join_info number (groups_seen groups.old) info.now) }
 {
-    if info.name.as_str() == "Q:group" {
+    if is_of_groups(info.name.as_str()) {
         return join_text(alloc, number, groups, info.text.as_str());
     }
     Ok(())
