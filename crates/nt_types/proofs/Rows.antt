@@ -1,7 +1,7 @@
 -- Members made one by one, and structures with another number of members.
 use Rattle.std.proofs.Common.{◌≡◌, ℕ, ◌+◌, ◌<◌, false, List, [], ◌∷◌, ◌++◌, length, take, get_or, refl, ap, sym, ◌∙◌}
 use Rattle.std.proofs.lemmas.List.{take_more}
-use Rattle.pvd_type.specs.Tree.{Tree, node, struct, field}
+use Rattle.pvd_type.specs.Tree.{Tree, node, struct, Fields, field}
 use Rattle.pvd_type.specs.View.{member_view, members_view}
 use Rattle.pvd_type.specs.declared.shape.Member.{Member}
 use Rattle.pvd_type.specs.declared.shape.Scalar.{Scalar}
@@ -17,17 +17,14 @@ fields_more : (shape : Scalar → Tree) (cs : List (List ℕ × Scalar)) (c : Li
 fields_more shape [] c = refl
 fields_more shape (x ∷ cs) c = ap (field x.0 (shape x.1)) (fields_more shape cs c)
 
-pub made_more : (shape : Scalar → Tree) (cs : List (List ℕ × Scalar)) (i : ℕ) (x : List ℕ × Scalar) (ms after : List Member) (m : Member) →
-    i < length cs → get_or cs i x ≡ x → members_view ms ≡ fields_by shape (take i cs) → after ≡ ms ++ m ∷ [] →
-    member_view m ≡ (x.0, shape x.1) → members_view after ≡ fields_by shape (take (i + 1) cs)
-made_more shape cs i x ms after m short here so_far is made =
-    ap members_view is
-    ∙ (members_more ms m
-    ∙ (ap (λ fs. at_end fs (member_view m)) so_far
-    ∙ (ap (at_end (fields_by shape (take i cs))) made
+pub made_more : (shape : Scalar → Tree) (cs : List (List ℕ × Scalar)) (i : ℕ) (x : List ℕ × Scalar) (ms after : Fields) →
+    i < length cs → get_or cs i x ≡ x → ms ≡ fields_by shape (take i cs) → after ≡ at_end ms (x.0, shape x.1) → after ≡ fields_by shape (take (i + 1) cs)
+made_more shape cs i x ms after short here so_far more =
+    more
+    ∙ (ap (λ fs. at_end fs (x.0, shape x.1)) so_far
     ∙ (sym (fields_more shape (take i cs) x)
     ∙ (ap (λ (y : List ℕ × Scalar). fields_by shape (take i cs ++ y ∷ [])) (sym here)
-    ∙ ap (fields_by shape) (sym (take_more cs i x short)))))))
+    ∙ ap (fields_by shape) (sym (take_more cs i x short)))))
 
 -- a structure with another number of members than two
 pub not_two : (id : List ℕ) (ms : List Member) → (length ms ≡ 2 → ⊥) → false ≡ is_choice (node struct id (members_view ms))

@@ -1,5 +1,5 @@
 // The shapes that Normative Types are made of.
-ghost use Rattle.std.specs.Prelude.{◌≡◌, IfOk};
+ghost use Rattle.std.specs.Prelude.{◌≡◌, ◌∷◌, ◌++◌, [], IfOk};
 ghost use Rattle.pvd_type.specs.Tree.{node, struct};
 ghost use Rattle.pvd_type.specs.View.{shape_view, member_view, members_view};
 ghost use Rattle.nt_types.specs.Types.{alarm_tree, time_tree, enum_value, with_meta, at_end, fields_by, list_of, scalar};
@@ -17,6 +17,18 @@ pub(crate) fn member(alloc: Global, name: &str, shape: Shape) -> Result<Member, 
     })
 }
 
+/// Lets go the members of a type that isn't made.
+fn discard<T: Drop>(_made: T) {}
+
+/// A list with one more element behind it.
+fn pushed<T: Drop>(items: Vec<T>, item: T) -> Result<Vec<T>, NoMemory>
+    ensures { IfOk result (λ v. v.items ≡ items.items ++ item ∷ []) }
+{
+    let mut items = items;
+    items.push(item)?;
+    Ok(items)
+}
+
 /// Members, and one more behind them.
 pub(crate) fn with_member(
     alloc: Global,
@@ -26,9 +38,13 @@ pub(crate) fn with_member(
 ) -> Result<Vec<Member>, NoMemory>
     ensures { IfOk result (λ ms. members_view ms.items ≡ at_end (members_view members.items) (name.now, shape_view shape)) }
 {
-    let mut members = members;
-    members.push(member(alloc, name, shape)?)?;
-    Ok(members)
+    match member(alloc, name, shape) {
+        Ok(member) => pushed(members, member),
+        Err(NoMemory) => {
+            discard(members);
+            Err(NoMemory)
+        }
+    }
 }
 
 /// A structure.
@@ -101,7 +117,7 @@ pub(crate) fn columns_of(alloc: Global, columns: &[(Name, Scalar)]) -> Result<Ve
 {
     let mut members = Vec::with_capacity(alloc, columns.len())?;
     for column in columns {
-        members.push(column_of(alloc, column)?)?;
+        members = with_column(alloc, members, column)?;
     }
     Ok(members)
 }
@@ -112,19 +128,27 @@ pub(crate) fn scalars_of(alloc: Global, query: &[(Name, Scalar)]) -> Result<Vec<
 {
     let mut members = Vec::with_capacity(alloc, query.len())?;
     for field in query {
-        members.push(scalar_of(alloc, field)?)?;
+        members = with_scalar(alloc, members, field)?;
     }
     Ok(members)
 }
 
-fn column_of(alloc: Global, column: &(Name, Scalar)) -> Result<Member, NoMemory>
-    ensures { IfOk result (λ m. member_view m ≡ (column.now.0, list_of column.now.1)) }
+fn with_column(
+    alloc: Global,
+    members: Vec<Member>,
+    column: &(Name, Scalar),
+) -> Result<Vec<Member>, NoMemory>
+    ensures { IfOk result (λ ms. members_view ms.items ≡ at_end (members_view members.items) (column.now.0, list_of column.now.1)) }
 {
-    member(alloc, column.0.as_str(), list(column.1))
+    with_member(alloc, members, column.0.as_str(), list(column.1))
 }
 
-fn scalar_of(alloc: Global, field: &(Name, Scalar)) -> Result<Member, NoMemory>
-    ensures { IfOk result (λ m. member_view m ≡ (field.now.0, scalar field.now.1)) }
+fn with_scalar(
+    alloc: Global,
+    members: Vec<Member>,
+    field: &(Name, Scalar),
+) -> Result<Vec<Member>, NoMemory>
+    ensures { IfOk result (λ ms. members_view ms.items ≡ at_end (members_view members.items) (field.now.0, scalar field.now.1)) }
 {
-    member(alloc, field.0.as_str(), Shape::Plain(field.1))
+    with_member(alloc, members, field.0.as_str(), Shape::Plain(field.1))
 }

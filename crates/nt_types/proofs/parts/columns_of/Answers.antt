@@ -7,5 +7,4 @@ pub loop-column-preserved : goal.loop-column-preserved
 loop-column-preserved c =
     let item = c.column-item.result in
     let here : get_or c.args.columns.now c.loop-column.column-index item ≡ item = search rules in
-    made_more list_of c.args.columns.now c.loop-column.column-index item _ _ _ c.loop-column-test.true here c.loop-column.invariant (c.in_ok-push.ensures {u = tt}).items
-    (c.in_ok-column_of.ensures {u = tt})
+    made_more list_of c.args.columns.now c.loop-column.column-index item _ _ c.loop-column-test.true here c.loop-column.invariant (c.in_ok-members-2.ensures {u = tt})

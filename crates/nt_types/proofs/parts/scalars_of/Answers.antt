@@ -7,5 +7,4 @@ pub loop-field-preserved : goal.loop-field-preserved
 loop-field-preserved c =
     let item = c.field-item.result in
     let here : get_or c.args.query.now c.loop-field.field-index item ≡ item = search rules in
-    made_more scalar c.args.query.now c.loop-field.field-index item _ _ _ c.loop-field-test.true here c.loop-field.invariant (c.in_ok-push.ensures {u = tt}).items
-    (c.in_ok-scalar_of.ensures {u = tt})
+    made_more scalar c.args.query.now c.loop-field.field-index item _ _ c.loop-field-test.true here c.loop-field.invariant (c.in_ok-members-2.ensures {u = tt})
