@@ -8,8 +8,6 @@ mod floor;
 mod law;
 mod laws;
 mod memory;
-#[cfg(test)]
-mod tests;
 
 pub use floor::{Floor, FloorEvent, Next};
 pub use law::Law;

@@ -1,0 +1,2 @@
+pub mod TwoCells
+pub mod Adding

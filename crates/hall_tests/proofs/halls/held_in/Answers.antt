@@ -1,0 +1,11 @@
+use Rattle.std.proofs.Common.{◌∙◌, ap, sym, map, reverse}
+use Rattle.hall_tests.specs.TwoCells.{two_cells}
+use Rattle.hall_locks.specs.Hands.{values_of}
+use Rattle.hall_tests.proofs.Adding.{may_look}
+use Rattle.hall_tests.proofs.halls.held_in.Goals as goal
+
+pub look-pass-requires-clause-may : goal.look-pass-requires-clause-may
+look-pass-requires-clause-may g c =
+    let h = c.hub-held.result in
+    may_look h.seat.me.0 h.hub h.cells.items (ap (λ v. v.hub) c.hub-held.ensures.taken) c.hub-held.ensures.found.entries
+    (ap (λ v. values_of v.cells) c.hub-held.ensures.taken ∙ (c.in-Ok-visit.ensures.taken ∙ ap (λ l. reverse (map two_cells.shows l)) (sym c.hub-held.ensures.cells)))
