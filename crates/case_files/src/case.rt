@@ -61,6 +61,20 @@ impl<'a> Entry<'a> {
     }
 }
 
+/// Appends those of these entries that have this key.
+fn push_those<'a>(
+    entries: &[Entry<'a>],
+    key: &str,
+    those: &mut Vec<Entry<'a>>,
+) -> Result<(), AllocError> {
+    for entry in entries {
+        if entry.key == key {
+            those.push(*entry)?;
+        }
+    }
+    Ok(())
+}
+
 /// A case: its title, and its entries, those that it shares with others among them.
 #[derive(Drop)]
 pub struct Case<'a> {
@@ -79,11 +93,9 @@ impl<'a> Case<'a> {
 
     /// The entries of this key.
     pub fn all(&self, alloc: Global, key: &str) -> Result<Vec<Entry<'a>>, AllocError> {
-        self.entries
-            .iter()
-            .filter(|entry| entry.key == key)
-            .copied()
-            .collect(alloc)
+        let mut entries = Vec::new(alloc);
+        push_those(&self.entries, key, &mut entries)?;
+        Ok(entries)
     }
 
     /// The bytes or the text of an entry, of which some may be left open.

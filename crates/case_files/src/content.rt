@@ -3,8 +3,8 @@ ghost use Rattle.std.specs.Prelude.{◌≤◌, ◌<◌, IfOk, length};
 
 use crate::names::{Named, content_named};
 use crate::numbers::number_in;
-use crate::quoted::{hexadecimal, unquoted};
-use crate::words::word_at;
+use crate::quoted::{hexadecimal, push_unquoted};
+use crate::words::{is_blank, word_at};
 use crate::{CaseFault, Line};
 use std::alloc::Global;
 use std::str;
@@ -27,19 +27,36 @@ fn push_all(bytes: &[u8], content: &mut Vec<Expected>) -> Result<(), CaseFault> 
     Ok(())
 }
 
+/// The byte that two hexadecimal digits name.
+fn byte_of(pair: &[u8]) -> Option<u8> {
+    match pair {
+        [high, low] => hexadecimal(*high, *low),
+        _ => None,
+    }
+}
+
 /// Appends the bytes of an even number of hexadecimal digits.
 fn push_hexadecimal(word: &str, line: u32, content: &mut Vec<Expected>) -> Result<(), CaseFault> {
     for pair in word.as_bytes().chunks(2) {
-        let byte = match pair {
-            [high, low] => hexadecimal(*high, *low),
-            _ => None,
-        };
-        let Some(byte) = byte else {
+        let Some(byte) = byte_of(pair) else {
             return Err(CaseFault::At(line, "these aren't hexadecimal bytes"));
         };
         content.push(Some(byte))?;
     }
     Ok(())
+}
+
+/// Appends the bytes of this name.
+fn push_named(
+    names: &[Named<'_>],
+    name: &str,
+    line: u32,
+    content: &mut Vec<Expected>,
+) -> Result<(), CaseFault> {
+    match content_named(names, name) {
+        Some(bytes) => Ok(content.extend_from_slice(bytes)?),
+        None => Err(CaseFault::At(line, "this name isn't known")),
+    }
 }
 
 /// Appends what a word stands for: any byte, a name's bytes, the number or hexadecimal bytes.
@@ -50,11 +67,7 @@ fn push_meaning(
     content: &mut Vec<Expected>,
 ) -> Result<(), CaseFault> {
     if let Some(name) = word.strip_prefix('@') {
-        let Some(bytes) = content_named(around.names, name) else {
-            return Err(CaseFault::At(line, "this name isn't known"));
-        };
-        content.extend_from_slice(bytes)?;
-        return Ok(());
+        return push_named(around.names, name, line, content);
     }
     let number = around.number.unwrap_or(0);
     match word {
@@ -66,15 +79,12 @@ fn push_meaning(
 }
 
 /// Appends what a word stands for, as often as the number behind a `*` says.
-fn push_word(
+fn push_repeated(
     around: Around<'_>,
-    word: &[u8],
+    word: &str,
     line: u32,
     content: &mut Vec<Expected>,
 ) -> Result<(), CaseFault> {
-    let Ok(word) = str::from_utf8(word) else {
-        return Err(CaseFault::At(line, "this isn't UTF-8"));
-    };
     let Some((word, count)) = word.split_once('*') else {
         return push_meaning(around, word, line, content);
     };
@@ -82,6 +92,19 @@ fn push_word(
         push_meaning(around, word, line, content)?;
     }
     Ok(())
+}
+
+/// Appends what a word stands for, which is UTF-8.
+fn push_word(
+    around: Around<'_>,
+    word: &[u8],
+    line: u32,
+    content: &mut Vec<Expected>,
+) -> Result<(), CaseFault> {
+    match str::from_utf8(word) {
+        Ok(word) => push_repeated(around, word, line, content),
+        Err(_) => Err(CaseFault::At(line, "this isn't UTF-8")),
+    }
 }
 
 /// Appends a quoted text, and gives what stands behind it.
@@ -93,8 +116,28 @@ fn push_quoted<'b>(
 ) -> Result<&'b [u8], CaseFault>
     ensures { IfOk result (λ r. length r.now ≤ length text.now) }
 {
-    let (bytes, after) = unquoted(alloc, text, line)?;
+    let mut bytes = Vec::new(alloc);
+    let after = push_unquoted(text, line, &mut bytes)?;
     push_all(&bytes, content)?;
+    Ok(after)
+}
+
+/// Appends what stands at the front of a text, which is no blank: a quoted text, or a word. It gives what stands behind that.
+fn push_front<'b>(
+    alloc: Global,
+    around: Around<'_>,
+    text: &'b [u8],
+    line: u32,
+    content: &mut Vec<Expected>,
+) -> Result<&'b [u8], CaseFault>
+    requires { 0 < length text.now }
+    ensures { IfOk result (λ r. length r.now < length text.now) }
+{
+    if let [b'"', after @ ..] = text {
+        return push_quoted(alloc, after, line, content);
+    }
+    let (word, after) = word_at(text);
+    push_word(around, word, line, content)?;
     Ok(after)
 }
 
@@ -108,16 +151,14 @@ pub(crate) fn push_bytes(
 ) -> Result<(), CaseFault> {
     let mut rest = text.as_bytes();
     while let [first, after @ ..] = rest {
-        match *first {
-            b'#' => return Ok(()),
-            b' ' | b'\t' => rest = after,
-            b'"' => rest = push_quoted(alloc, after, line, content)?,
-            _ => {
-                let (word, after) = word_at(rest);
-                push_word(around, word, line, content)?;
-                rest = after;
-            }
+        if *first == b'#' {
+            return Ok(());
         }
+        if is_blank(*first) {
+            rest = after;
+            continue;
+        }
+        rest = push_front(alloc, around, rest, line, content)?;
     }
     Ok(())
 }
@@ -129,16 +170,9 @@ fn push_numbered(
     number: u32,
     content: &mut Vec<Expected>,
 ) -> Result<(), CaseFault> {
-    let number = number.to_string(alloc)?;
-    let mut parts = text.split("%%");
-    if let Some(part) = parts.next() {
-        push_all(part.as_bytes(), content)?;
-    }
-    for part in parts {
-        push_all(number.as_bytes(), content)?;
-        push_all(part.as_bytes(), content)?;
-    }
-    Ok(())
+    let digits = number.to_string(alloc)?;
+    let text = text.replace(alloc, "%%", &digits)?;
+    push_all(text.as_bytes(), content)
 }
 
 /// Appends a line of a text, with its line feed. One of a backslash alone takes the line feed before it away.
@@ -177,14 +211,20 @@ pub(crate) fn push_lines(
     Ok(())
 }
 
+/// Appends the bytes of a content in which none may be left open.
+fn push_exact(content: &[Expected], line: u32, bytes: &mut Vec<u8>) -> Result<(), CaseFault> {
+    for byte in content {
+        match byte {
+            Some(byte) => bytes.push(*byte)?,
+            None => return Err(CaseFault::At(line, "a byte is left open here")),
+        }
+    }
+    Ok(())
+}
+
 /// The bytes of a content in which none may be left open.
 pub(crate) fn exact(alloc: Global, content: &[Expected], line: u32) -> Result<Vec<u8>, CaseFault> {
     let mut bytes = Vec::with_capacity(alloc, content.len())?;
-    for byte in content {
-        let Some(byte) = byte else {
-            return Err(CaseFault::At(line, "a byte is left open here"));
-        };
-        bytes.push(*byte)?;
-    }
+    push_exact(content, line, &mut bytes)?;
     Ok(bytes)
 }

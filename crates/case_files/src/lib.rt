@@ -14,8 +14,6 @@ mod numbers;
 mod program;
 mod quoted;
 mod script;
-#[cfg(test)]
-mod tests;
 mod words;
 
 pub use case::{Case, Entry};

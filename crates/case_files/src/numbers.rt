@@ -10,11 +10,17 @@ pub(crate) fn number_in(text: &str, line: u32) -> Result<u64, CaseFault> {
     }
 }
 
-/// The numbers that a text names, between blanks.
-pub(crate) fn numbers_in(alloc: Global, text: &str, line: u32) -> Result<Vec<u64>, CaseFault> {
-    let mut numbers = Vec::new(alloc);
+/// Appends the numbers that a text names, between blanks.
+fn push_numbers(text: &str, line: u32, numbers: &mut Vec<u64>) -> Result<(), CaseFault> {
     for word in text.split_ascii_whitespace() {
         numbers.push(number_in(word, line)?)?;
     }
+    Ok(())
+}
+
+/// The numbers that a text names, between blanks.
+pub(crate) fn numbers_in(alloc: Global, text: &str, line: u32) -> Result<Vec<u64>, CaseFault> {
+    let mut numbers = Vec::new(alloc);
+    push_numbers(text, line, &mut numbers)?;
     Ok(numbers)
 }

@@ -3,7 +3,7 @@ use crate::case::{Case, Entry, first_word, paragraph_lines, push_entries};
 use crate::lines::lines_of;
 use crate::names::{Named, name_of};
 use crate::{CaseFault, Depth, Line};
-use std::alloc::Global;
+use std::alloc::{AllocError, Global};
 use std::rt::Files;
 use std::{env, fs, io};
 
@@ -62,25 +62,28 @@ fn paragraphs_of<'a>(
     Ok(paragraphs)
 }
 
+/// Appends the bytes or the text that a paragraph names, if it is one for that.
+fn push_name<'a>(
+    alloc: Global,
+    paragraph: &Paragraph<'a>,
+    names: &mut Vec<Named<'a>>,
+) -> Result<(), CaseFault> {
+    let line = paragraph.head.number;
+    match paragraph.kind {
+        "bytes" | "text" => {
+            let named = name_of(alloc, names, paragraph.title, line, paragraph.lines)?;
+            Ok(names.push(named)?)
+        }
+        "case" | "with" => Ok(()),
+        _ => Err(CaseFault::At(line, "a paragraph is none of bytes, text, with and case")),
+    }
+}
+
 /// The bytes and texts that these paragraphs name.
 fn names_of<'a>(alloc: Global, paragraphs: &[Paragraph<'a>]) -> Result<Vec<Named<'a>>, CaseFault> {
     let mut names = Vec::new(alloc);
     for paragraph in paragraphs {
-        match paragraph.kind {
-            "bytes" | "text" => {
-                let line = paragraph.head.number;
-                let named = name_of(alloc, &names, paragraph.title, line, paragraph.lines)?;
-                names.push(named)?;
-            }
-            "case" | "with" => {}
-            _ => {
-                let line = paragraph.head.number;
-                return Err(CaseFault::At(
-                    line,
-                    "a paragraph is none of bytes, text, with and case",
-                ));
-            }
-        }
+        push_name(alloc, paragraph, &mut names)?;
     }
     Ok(names)
 }
@@ -154,38 +157,77 @@ fn run_case<'a, P: Program>(
     program.differs(alloc, &case)
 }
 
-/// Runs the cases of a file, and reports on each that disagrees.
-fn run_paragraphs<'a, P: Program>(
+impl Report {
+    /// Adds a line for a case of this file that disagrees, by what is told of it.
+    fn add(&mut self, name: &str, paragraph: &Paragraph<'_>, told: &str) -> Result<(), AllocError> {
+        self.agrees = false;
+        let line = paragraph.head.number;
+        let title = paragraph.title;
+        write!(self.text, "{name}:{line}: {title}: {told}\n")
+    }
+}
+
+/// Runs a case of a file, reports on it if it disagrees, and tells whether it agrees.
+fn report_case<'a, P: Program>(
     alloc: Global,
     program: &P,
     name: &str,
     paragraphs: &[Paragraph<'a>],
     names: &'a [Named<'a>],
-) -> Result<Report, CaseFault> {
-    let mut text = String::new(alloc);
+    paragraph: &Paragraph<'a>,
+    report: &mut Report,
+) -> Result<bool, CaseFault> {
+    match run_case(alloc, program, paragraphs, names, paragraph)? {
+        None => Ok(true),
+        Some(told) => {
+            report.add(name, paragraph, &told)?;
+            Ok(false)
+        }
+    }
+}
+
+/// Runs the cases of a file, reports on each that disagrees, and counts those that agree.
+fn report_cases<'a, P: Program>(
+    alloc: Global,
+    program: &P,
+    name: &str,
+    paragraphs: &[Paragraph<'a>],
+    names: &'a [Named<'a>],
+    report: &mut Report,
+) -> Result<u32, CaseFault> {
     let mut agreed = 0u32;
-    let mut agrees = true;
     for paragraph in paragraphs {
         if paragraph.kind != "case" {
             continue;
         }
-        match run_case(alloc, program, paragraphs, names, paragraph)? {
-            None => agreed = agreed.saturating_add(1),
-            Some(told) => {
-                agrees = false;
-                let line = paragraph.head.number;
-                let title = paragraph.title;
-                write!(text, "{name}:{line}: {title}: {told}\n")?;
-            }
+        let agrees = report_case(alloc, program, name, paragraphs, names, paragraph, report)?;
+        if agrees {
+            agreed = agreed.saturating_add(1);
         }
     }
-    let end = if agrees {
+    Ok(agreed)
+}
+
+/// Runs the cases of a file, and reports on each that disagrees, and on the file.
+fn report_paragraphs<'a, P: Program>(
+    alloc: Global,
+    program: &P,
+    name: &str,
+    paragraphs: &[Paragraph<'a>],
+) -> Result<Report, CaseFault> {
+    let names = names_of(alloc, paragraphs)?;
+    let mut report = Report {
+        text: String::new(alloc),
+        agrees: true,
+    };
+    let agreed = report_cases(alloc, program, name, paragraphs, &names, &mut report)?;
+    let end = if report.agrees {
         "agree"
     } else {
         "agree, and those above don't"
     };
-    write!(text, "{name}: {agreed} cases {end}\n")?;
-    Ok(Report { text, agrees })
+    write!(report.text, "{name}: {agreed} cases {end}\n")?;
+    Ok(report)
 }
 
 /// Runs the cases of a text, which is in the file of this name.
@@ -197,8 +239,7 @@ pub fn report_on<P: Program>(
 ) -> Result<Report, CaseFault> {
     let lines = lines_of(alloc, text)?;
     let paragraphs = paragraphs_of(alloc, &lines)?;
-    let names = names_of(alloc, &paragraphs)?;
-    run_paragraphs(alloc, program, name, &paragraphs, &names)
+    report_paragraphs(alloc, program, name, &paragraphs)
 }
 
 /// Runs the cases of the file of this name, prints the report, and tells whether all agree. A fault of the file counts as none that agrees.

@@ -2,7 +2,6 @@
 ghost use Rattle.std.specs.Prelude.{◌≤◌, ◌<◌, IfOk, IfSome, length};
 
 use crate::CaseFault;
-use std::alloc::Global;
 
 /// The value of a hexadecimal digit, of either case.
 fn digit(byte: u8) -> Option<u8>
@@ -33,30 +32,46 @@ fn escaped(letter: u8) -> Option<u8> {
     }
 }
 
+/// The byte that an escape names whose backslash stands before it, and what stands behind it.
+fn escape_at(text: &[u8]) -> Option<(u8, &[u8])>
+    ensures { IfSome result (λ p. length p.1.now < length text.now) }
+{
+    match text {
+        [b'x', high, low, after @ ..] => Some((hexadecimal(*high, *low)?, after)),
+        [letter, after @ ..] => Some((escaped(*letter)?, after)),
+        [] => None,
+    }
+}
+
 /// The first byte of what stands between quotes, and what stands behind it. None at the closing quote, and where there is none of either.
 fn byte_at(text: &[u8]) -> Option<(u8, &[u8])>
     ensures { IfSome result (λ p. length p.1.now < length text.now) }
 {
-    match text {
-        [b'\\', b'x', high, low, after @ ..] => Some((hexadecimal(*high, *low)?, after)),
-        [b'\\', letter, after @ ..] => Some((escaped(*letter)?, after)),
-        [b'"' | b'\\', ..] | [] => None,
-        [byte, after @ ..] => Some((*byte, after)),
+    let [first, after @ ..] = text else {
+        return None;
+    };
+    match *first {
+        b'\\' => escape_at(after),
+        b'"' => None,
+        byte => Some((byte, after)),
     }
 }
 
-/// The bytes of a text whose opening quote stands before it, and what stands behind its closing quote.
-pub(crate) fn unquoted(alloc: Global, text: &[u8], line: u32) -> Result<(Vec<u8>, &[u8]), CaseFault>
-    ensures { IfOk result (λ p. length p.1.now ≤ length text.now) }
+/// Appends the bytes of a text whose opening quote stands before it, and gives what stands behind its closing quote.
+pub(crate) fn push_unquoted<'a>(
+    text: &'a [u8],
+    line: u32,
+    bytes: &mut Vec<u8>,
+) -> Result<&'a [u8], CaseFault>
+    ensures { IfOk result (λ r. length r.now ≤ length text.now) }
 {
-    let mut bytes = Vec::new(alloc);
     let mut rest = text;
     while let Some((byte, after)) = byte_at(rest) {
         bytes.push(byte)?;
         rest = after;
     }
     match rest {
-        [b'"', after @ ..] => Ok((bytes, after)),
+        [b'"', after @ ..] => Ok(after),
         _ => Err(CaseFault::At(line, "a quote isn't closed, or an escape isn't known")),
     }
 }

@@ -41,15 +41,34 @@ fn again(alloc: Global, turns: &[Turn], count: u64) -> Result<Vec<Turn>, CaseFau
     Ok(all)
 }
 
+/// Appends the turns of an item, or has all that is there so often in place of once.
+fn push_item(alloc: Global, item: &str, line: u32, turns: &mut Vec<Turn>) -> Result<(), CaseFault> {
+    match item.strip_prefix("again ") {
+        Some(count) => {
+            let count = number_in(count, line)?;
+            *turns = again(alloc, turns, count)?;
+            Ok(())
+        }
+        None => push_turns(item, line, turns),
+    }
+}
+
+/// Appends the turns that a text names between commas.
+fn push_items(
+    alloc: Global,
+    text: &str,
+    line: u32,
+    turns: &mut Vec<Turn>,
+) -> Result<(), CaseFault> {
+    for item in text.split(',') {
+        push_item(alloc, item.trim(), line, turns)?;
+    }
+    Ok(())
+}
+
 /// The turns that a text names between commas. `again N` has all before it N times.
 pub(crate) fn turns_of(alloc: Global, text: &str, line: u32) -> Result<Vec<Turn>, CaseFault> {
     let mut turns = Vec::new(alloc);
-    for item in text.split(',') {
-        let item = item.trim();
-        match item.strip_prefix("again ") {
-            Some(count) => turns = again(alloc, &turns, number_in(count, line)?)?,
-            None => push_turns(item, line, &mut turns)?,
-        }
-    }
+    push_items(alloc, text, line, &mut turns)?;
     Ok(turns)
 }

@@ -2,11 +2,11 @@
 ghost use Rattle.std.specs.Prelude.{◌≤◌, ◌<◌, IfOk, length};
 
 use crate::CaseFault;
-use crate::quoted::unquoted;
+use crate::quoted::push_unquoted;
 use std::alloc::Global;
 
 /// Whether a byte stands between words.
-fn is_blank(byte: u8) -> bool {
+pub(crate) fn is_blank(byte: u8) -> bool {
     matches!(byte, b' ' | b'\t')
 }
 
@@ -23,17 +23,33 @@ pub(crate) fn word_at(text: &[u8]) -> (&[u8], &[u8])
     text.split_at(end + 1)
 }
 
-/// The word at the front, which isn't a blank, and what stands behind it.
-fn next_word(alloc: Global, text: &[u8], line: u32) -> Result<(Vec<u8>, &[u8]), CaseFault>
+/// Appends the bytes of the word at the front, which isn't a blank, and gives what stands behind it.
+fn push_front<'a>(text: &'a [u8], line: u32, word: &mut Vec<u8>) -> Result<&'a [u8], CaseFault>
     requires { 0 < length text.now }
-    ensures { IfOk result (λ p. length p.1.now < length text.now) }
+    ensures { IfOk result (λ r. length r.now < length text.now) }
 {
     if let [b'"', after @ ..] = text {
-        return unquoted(alloc, after, line);
+        return push_unquoted(after, line, word);
     }
-    let (word, after) = word_at(text);
-    let word = Vec::from_slice(alloc, word)?;
-    Ok((word, after))
+    let (bytes, after) = word_at(text);
+    word.extend_from_slice(bytes)?;
+    Ok(after)
+}
+
+/// Appends the word at the front, which isn't a blank, and gives what stands behind it.
+fn push_next<'a>(
+    alloc: Global,
+    text: &'a [u8],
+    line: u32,
+    words: &mut Vec<String>,
+) -> Result<&'a [u8], CaseFault>
+    requires { 0 < length text.now }
+    ensures { IfOk result (λ r. length r.now < length text.now) }
+{
+    let mut word = Vec::new(alloc);
+    let after = push_front(text, line, &mut word)?;
+    push_word(word, line, words)?;
+    Ok(after)
 }
 
 /// Appends the words of a text.
@@ -49,9 +65,7 @@ pub(crate) fn push_words(
             rest = after;
             continue;
         }
-        let (word, after) = next_word(alloc, rest, line)?;
-        push_word(word, line, words)?;
-        rest = after;
+        rest = push_next(alloc, rest, line, words)?;
     }
     Ok(())
 }

@@ -1,5 +1,5 @@
 use Rattle.std.proofs.Common.{length, ◌≤◌}
-use Rattle.case_files.proofs.quoted.unquoted.Given as goal
+use Rattle.case_files.proofs.quoted.push_unquoted.Given as goal
 
 abbrev pub invariant-loop-byte : goal.invariant-loop-byte
 invariant-loop-byte l = length l.rest ≤ length l.text
