@@ -18,6 +18,9 @@ const ANYWHERE: Peer = Peer {
     port: 0,
 };
 
+/// Lets a value go in a function of its own, since its parts would else be let go one by one in the caller's proof.
+fn discard<T: Drop>(_value: T) {}
+
 /// A finder of this one name.
 fn finder_of(alloc: Global, name: Name, rounds: u32) -> Result<Finder, NoMemory>
     requires short { length name ≤ longest }
@@ -46,7 +49,10 @@ pub fn find<G: Datagrams>(alloc: Global, name: Name, plan: Plan, datagrams: &mut
     };
     match datagrams.bind(ANYWHERE) {
         BindStep::Bound(port) => {
-            Searching::new(finder, buffer, plan, port).run(alloc, datagrams)
+            let mut searching = Searching::new(finder, buffer, plan, port);
+            let searched = searching.run(alloc, datagrams);
+            discard(searching);
+            searched
         }
         BindStep::Failed => Searched::Failed,
         BindStep::NoMemory => Searched::NoMemory,

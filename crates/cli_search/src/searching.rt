@@ -194,18 +194,17 @@ impl Searching {
     }
 
     /// Round after round, until one finds the server or all are over.
-    pub(crate) fn run<G: Datagrams>(self, alloc: Global, datagrams: &mut G) -> Searched
-        requires open { (view_of self).finding.servers ≡ None ∷ [] }
-        requires none { (view_of self).calls ≡ 0 }
-        ensures { (s : Search) → IsBefore s 0 (view_of self) → Ends s (view_of self).plan.turns (G.datagrams datagrams.old) (G.datagrams datagrams.new) result }
+    pub(crate) fn run<G: Datagrams>(&mut self, alloc: Global, datagrams: &mut G) -> Searched
+        requires open { (view_of self.old).finding.servers ≡ None ∷ [] }
+        requires none { (view_of self.old).calls ≡ 0 }
+        ensures { (s : Search) → IsBefore s 0 (view_of self.old) → Ends s (view_of self.old).plan.turns (G.datagrams datagrams.old) (G.datagrams datagrams.new) result }
     {
-        let mut searching = self;
         'rounds: loop {
-            match searching.round(alloc, datagrams) {
+            match self.round(alloc, datagrams) {
                 Ok(found) => match found {
-                    Some(server) => return Searched::Found(server, searching.calls),
+                    Some(server) => return Searched::Found(server, self.calls),
                     None => {
-                        let more = searching.turn();
+                        let more = self.turn();
                         if more {
                             continue 'rounds;
                         }
