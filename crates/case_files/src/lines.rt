@@ -44,9 +44,8 @@ fn is_silent(text: &str) -> bool {
     matches!(text.as_bytes(), [] | [b'#', ..])
 }
 
-/// The lines of a text, without those that are empty and those that begin with `#`.
-pub(crate) fn lines_of(alloc: Global, text: &str) -> Result<Vec<Line<'_>>, AllocError> {
-    let mut lines = Vec::new(alloc);
+/// Appends the lines of a text, without those that are empty and those that begin with `#`.
+fn push_lines<'a>(text: &'a str, lines: &mut Vec<Line<'a>>) -> Result<(), AllocError> {
     let mut number = 0u32;
     for line in text.lines() {
         number = number.saturating_add(1);
@@ -60,5 +59,12 @@ pub(crate) fn lines_of(alloc: Global, text: &str) -> Result<Vec<Line<'_>>, Alloc
             })?;
         }
     }
+    Ok(())
+}
+
+/// The lines of a text, without those that are empty and those that begin with `#`.
+pub(crate) fn lines_of(alloc: Global, text: &str) -> Result<Vec<Line<'_>>, AllocError> {
+    let mut lines = Vec::new(alloc);
+    push_lines(text, &mut lines)?;
     Ok(lines)
 }
