@@ -9,10 +9,16 @@ use Rattle.group_defs.specs.declared.fault.Stop.TheVariants.{UnknownKey}
 use Rattle.group_defs.specs.declared.said.Said.{Said}
 use Rattle.group_defs.specs.declared.said.Said.TheVariants.{Id, Atomic, Member}
 
+abbrev pub id_of : Json → Told Said
+id_of j = given (as_str j) >>= λ text. Ok (Id text)
+
+abbrev pub flag_of : Json → Told Said
+flag_of j = given (as_bool j) >>= λ flag. Ok (Atomic flag)
+
 abbrev pub setting_of : List ℕ → Json → Told Said
 setting_of key j =
-    if bytes_eq key (codes "+id") then (given (as_str j) >>= λ text. Ok (Id text))
-    else if bytes_eq key (codes "+atomic") then (given (as_bool j) >>= λ flag. Ok (Atomic flag))
+    if bytes_eq key (codes "+id") then id_of j
+    else if bytes_eq key (codes "+atomic") then flag_of j
     else Err UnknownKey
 
 -- what this key says in a text of the record with this number

@@ -44,7 +44,11 @@ fn is_lost(alloc: Global, names: &IndexSet<&[u8]>, member: &Member) -> Result<bo
 }
 
 /// Whether the trigger of one of these members names none of these names.
-fn has_lost(alloc: Global, names: &IndexSet<&[u8]>, members: &[Member]) -> Result<bool, NoMemory>
+fn has_lost_among(
+    alloc: Global,
+    names: &IndexSet<&[u8]>,
+    members: &[Member],
+) -> Result<bool, NoMemory>
     ensures { IfOk result (λ lost. lost ≡ list_any (λ m. is_lost (names_seen names.now) m.text.trigger) members.now) }
 {
     for member in members {
@@ -53,6 +57,16 @@ fn has_lost(alloc: Global, names: &IndexSet<&[u8]>, members: &[Member]) -> Resul
         }
     }
     Ok(false)
+}
+
+/// Whether the trigger of one of these members names none of them.
+fn has_lost(alloc: Global, members: &[Member]) -> Result<bool, NoMemory>
+    requires { IsDistinct bytes_eq (names_of members.now) }
+    ensures { IfOk result (λ lost. lost ≡ has_lost members.now) }
+{
+    let names = names_of(alloc, members)?;
+    let lost = has_lost_among(alloc, &names, members)?;
+    Ok(lost)
 }
 
 /// Whether two runs of bytes are the same.
@@ -104,8 +118,7 @@ fn fault_of(
     ensures { Answers (λ u. u) result (fault_of texts.now total before group.now) }
 {
     let members = group.members.as_slice();
-    let names = names_of(alloc, members)?;
-    if has_lost(alloc, &names, members)? {
+    if has_lost(alloc, members)? {
         return Err(GroupFault::UnknownTrigger(group.name.clone_in(alloc)?));
     }
     if is_taken(texts, group.name.as_str()) {
