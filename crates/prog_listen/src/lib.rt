@@ -8,11 +8,7 @@ mod listened;
 mod listening;
 mod network;
 mod opening;
-#[cfg(test)]
-mod server_tests;
 mod setup;
-#[cfg(test)]
-mod tests;
 
 pub use asked::Listening;
 pub use laws::{binds_at_most_once, every_end_has_its_cause, faultless_runs_finish};

@@ -4,8 +4,6 @@
 
 mod program;
 mod server;
-#[cfg(test)]
-mod server_tests;
 mod telling;
 mod words;
 
