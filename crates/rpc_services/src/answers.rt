@@ -1,5 +1,5 @@
 // What the service answers.
-ghost use Rattle.std.specs.Prelude.{◌≡◌, IfOk, true, length, map, ◌∷◌, []};
+ghost use Rattle.std.specs.Prelude.{◌≡◌, IfOk, true, length, map, ◌++◌, ◌∷◌, []};
 ghost use Rattle.nt_types.specs.Types.{table_tree};
 ghost use Rattle.pvd_value.specs.Data.{single, int, texts, many, members};
 ghost use Rattle.pvd_value.specs.Fits.{fits_of};
@@ -108,13 +108,26 @@ pub fn table(
 fn columns(alloc: Global) -> Result<Vec<(Name, Scalar)>, NoMemory>
     ensures { IfOk result (λ cs. cs.items ≡ columns) }
 {
-    let mut columns = Vec::with_capacity(alloc, 5)?;
-    columns.push((Name::of(alloc, "name")?, Scalar::Text))?;
-    columns.push((Name::of(alloc, "value")?, Scalar::Text))?;
-    columns.push((Name::of(alloc, "severity")?, Scalar::I32))?;
-    columns.push((Name::of(alloc, "secondsPastEpoch")?, Scalar::I64))?;
-    columns.push((Name::of(alloc, "nanoseconds")?, Scalar::I32))?;
-    Ok(columns)
+    let columns = Vec::with_capacity(alloc, 5)?;
+    let columns = with_column(alloc, columns, "name", Scalar::Text)?;
+    let columns = with_column(alloc, columns, "value", Scalar::Text)?;
+    let columns = with_column(alloc, columns, "severity", Scalar::I32)?;
+    let columns = with_column(alloc, columns, "secondsPastEpoch", Scalar::I64)?;
+    with_column(alloc, columns, "nanoseconds", Scalar::I32)
+}
+
+/// One more column behind these.
+fn with_column(
+    alloc: Global,
+    columns: Vec<(Name, Scalar)>,
+    name: &str,
+    scalar: Scalar,
+) -> Result<Vec<(Name, Scalar)>, NoMemory>
+    ensures { IfOk result (λ more. more.items ≡ columns.items ++ (name.now, scalar) ∷ []) }
+{
+    let mut more = columns;
+    more.push((Name::of(alloc, name)?, scalar))?;
+    Ok(more)
 }
 
 fn table_type(alloc: Global, columns: &[(Name, Scalar)]) -> Result<PvType, NoMemory>
