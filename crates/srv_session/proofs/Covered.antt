@@ -30,7 +30,7 @@ use Rattle.srv_session.specs.Steps.{Step, hears, pops, knowing, IsAnswer, PartOf
 use Rattle.srv_session.proofs.Rows.{whole_is_part, snapshot_is_part}
 use Rattle.srv_session.proofs.Owning.{AllLeave, living_append, Has, any_has, unended, ended, Owns, has_slot, has_owned}
 use Rattle.srv_session.proofs.OnSite.{IsTaskOf, IsPlain, IsHeardOf, heard_so, knows}
-use Rattle.srv_session.proofs.Kept.{same_ask, Was, was_itself, was_left, was_behind, was_new, was_like, get_leaves, snapshot_leaves, says_leave, none_leave, Subscribes, began, crowded, without, subscribes}
+use Rattle.srv_session.proofs.Kept.{same_ask, Was, was_itself, was_left, was_behind, was_new, was_like, get_leaves, snapshot_leaves, says_leave, none_leave, Subscribes, began, crowded, without, subscribes, Leaves, all_stays, channel_ended, monitor_comes, part_leaves}
 use Rattle.srv_session.proofs.Tables.{same_or_not, got_inserted, got_beside, got_left, got_without, stays_elsewhere}
 
 pub record Covers (log : List Mark) (s : State) : Type 0 where
@@ -214,27 +214,13 @@ module _ (site : SiteData) (log marks : List Mark) (sent : List Sent) where
   row_covers s (steer req count started ask) of p c = covers_like log marks s (says_leave _ marks sent p) req (steered count started ask) ask of.here refl refl refl refl c
   row_covers s (destroy_request req) of p c = covers_ended log marks s c req p.endings
 
-module _ (site : SiteData) (log : List Mark) where
-  part_covers : (s : State) (task : Task) (marks : List Mark) → IsTaskOf site s task → Part site s task marks → Covers log s → Covers (log ++ marks) (left_by site s task marks)
-  part_covers s pass_over marks of p c = covers_same log marks s c (none_leave marks p) s refl
-  part_covers s (echo_control number) marks of p c = covers_same log marks s c (none_leave marks p) s refl
-  part_covers s (refuse r) marks of p c = covers_same log marks s c (none_leave marks p) s refl
-  part_covers s (tell r) marks of p c = covers_same log marks s c (none_leave marks p) s refl
-  part_covers s (validate buffer registry user host) marks of p c = covers_same log marks s c (none_leave marks p) s refl
-  part_covers s (echo payload) marks of p c = covers_same log marks s c (none_leave marks p) s refl
-  part_covers s (create names) marks of p c = covers_same log marks s c (none_leave marks p) s refl
-  part_covers s (destroy_channel sid cid) [] of p c = covers_same log [] s c (λ slot o. refl) s refl
-  part_covers s (destroy_channel sid cid) (mark ∷ marks) of p c = covers_closed log (mark ∷ marks) s c sid p _ refl
-  part_covers s (begin kind req sub sid channel wanted) marks of p c = covers_same log marks s c (none_leave marks p) s refl
-  part_covers s (get kind req sub ask channel) marks of p c = covers_same log marks s c (get_leaves site channel ask.atomic marks p) s refl
-  part_covers s (put req sub ask channel mask value) marks of p c = covers_same log marks s c (λ slot o. puts_leave slot o _ p.1 marks p.2) s refl
-  part_covers s (put_get req sub ask channel mask value) marks of p c = covers_same log marks s c (λ slot o. put_gets_leave slot o (asked site ask channel mask value p.0) p.1 marks p.2) s refl
-  part_covers s (respond req sub r) marks of p c = covers_same log marks s c (none_leave marks p) s refl
-  part_covers s (snapshot req sub) marks of p c = covers_same log marks s c (snapshot_leaves site marks p) s refl
-  part_covers s (subscribe req sub sid channel wanted count) marks of p c =
-      covers_subscribed log s c req sid wanted count of.0.free channel marks (subscribes channel wanted.mask wanted.queue p.0 marks p.1)
-  part_covers s (steer req count started ask) marks of p c = covers_same log marks s c (none_leave marks p) s refl
-  part_covers s (destroy_request req) marks of p c = covers_same log marks s c (none_leave marks p) s refl
+part_covers : (site : SiteData) (log : List Mark) (s : State) (task : Task) (marks : List Mark) → IsTaskOf site s task → Part site s task marks → Covers log s → Covers (log ++ marks) (left_by site s task marks)
+part_covers site log s task marks of p c = by_what_is_left (left_by site s task marks) (part_leaves site s task marks of p)
+  where
+    by_what_is_left : (left : State) → Leaves s marks left → Covers (log ++ marks) left
+    by_what_is_left left (all_stays plain is) = covers_same log marks s c plain left (ap (λ (z : State). z.requests) is)
+    by_what_is_left left (channel_ended sid endings is) = covers_closed log marks s c sid endings left (ap (λ (z : State). z.requests) is)
+    by_what_is_left left (monitor_comes req sid channel wanted window none open_ subscribes_ is) = subst (Covers (log ++ marks)) (sym is) (covers_subscribed log s c req sid wanted window none channel marks subscribes_)
 
 knowing_covers : (log : List Mark) (s : State) (types : Types) → Covers log s → Covers log (knowing s types)
 knowing_covers log s types c = record { owned = c.owned; only = c.only }
@@ -344,31 +330,20 @@ no_popped_ending (x ∷ slots) place slot update p = false≢true (ap first_ends
     first_ends [] = false
     first_ends (mark ∷ marks) = ends_one mark
 
-popped_part : (site : SiteData) (s : State) (task : Task) (place slot : ℕ) (update : Option Update) → Part site s task (Popped place slot update ∷ [])
+popped_part : (site : SiteData) (s : State) (task : Task) (place slot : ℕ) (update : Option Update) → IsTaskOf site s task → Part site s task (Popped place slot update ∷ [])
     → slots_of s.requests ≡ slots_of (left_by site s task (Popped place slot update ∷ [])).requests
-popped_part site s pass_over place slot update p = refl
-popped_part site s (echo_control number) place slot update p = refl
-popped_part site s (refuse r) place slot update p = refl
-popped_part site s (tell r) place slot update p = refl
-popped_part site s (validate buffer registry user host) place slot update p = refl
-popped_part site s (echo payload) place slot update p = refl
-popped_part site s (create names) place slot update p = refl
-popped_part site s (destroy_channel sid cid) place slot update p = absurd (no_popped_ending (slots_of (on_only sid s.requests)) place slot update p)
-popped_part site s (begin kind req sub sid channel wanted) place slot update p = refl
-popped_part site s (get kind req sub ask channel) place slot update p = refl
-popped_part site s (put req sub ask channel mask value) place slot update p = refl
-popped_part site s (put_get req sub ask channel mask value) place slot update p = refl
-popped_part site s (respond req sub r) place slot update p = refl
-popped_part site s (snapshot req sub) place slot update p = refl
-popped_part site s (subscribe req sub sid channel wanted count) place slot update p = refl
-popped_part site s (steer req count started ask) place slot update p = refl
-popped_part site s (destroy_request req) place slot update p = refl
+popped_part site s task place slot update of p = by_what_is_left (left_by site s task (Popped place slot update ∷ [])) (part_leaves site s task (Popped place slot update ∷ []) of p)
+  where
+    by_what_is_left : (left : State) → Leaves s (Popped place slot update ∷ []) left → slots_of s.requests ≡ slots_of left.requests
+    by_what_is_left left (all_stays plain is) = ap (λ (z : State). slots_of z.requests) (sym is)
+    by_what_is_left left (channel_ended sid endings is) = absurd (no_popped_ending (slots_of (on_only sid s.requests)) place slot update endings)
+    by_what_is_left left (monitor_comes req sid channel wanted window none open_ subscribes_ is) = ap (λ (z : State). slots_of z.requests) (sym is)
 
-popped_part_of : (site : SiteData) (s : State) (hearing : Hearing) (place slot : ℕ) (update : Option Update) → PartOf site s hearing (Popped place slot update ∷ [])
+popped_part_of : (site : SiteData) (s : State) (hearing : Hearing) (place slot : ℕ) (update : Option Update) → IsHeardOf site s hearing → PartOf site s hearing (Popped place slot update ∷ [])
     → slots_of s.requests ≡ slots_of (left_by_hearing site s hearing (Popped place slot update ∷ [])).requests
-popped_part_of site s (asks task types) place slot update p = popped_part site (knowing s types) task place slot update p
-popped_part_of site s (unreadable fault) place slot update p = refl
-popped_part_of site s over_range place slot update p = refl
+popped_part_of site s (asks task types) place slot update of p = popped_part site (knowing s types) task place slot update (knows site s types task of) p
+popped_part_of site s (unreadable fault) place slot update of p = refl
+popped_part_of site s over_range place slot update of p = refl
 
 pub after_part_is : (site : SiteData) (s : State) (e : Event) (more : List Event) (marks : List Mark) → PartOf site s (heard site s e) marks
     → slots_of (after_part site s (e ∷ more) marks).requests ≡ slots_of (left_by_hearing site s (heard site s e) marks).requests
@@ -379,7 +354,7 @@ after_part_is site s e more (Overweight place footprint actions kept added limit
 after_part_is site s e more (Begun place index slot channel mask size ∷ marks) p = refl
 after_part_is site s e more (Crowded place index count ∷ marks) p = refl
 after_part_is site s e more (Dropped place index slot ∷ marks) p = refl
-after_part_is site s e more (Popped place slot update ∷ []) p = popped_part_of site s (heard site s e) place slot update p
+after_part_is site s e more (Popped place slot update ∷ []) p = popped_part_of site s (heard site s e) place slot update (heard_so site s e) p
 after_part_is site s e more (Popped place slot update ∷ mark ∷ marks) p = refl
 
 module _ (site : SiteData) (log : List Mark) (s : State) (c : Covers log s) (endings : List Mark) (slot : ℕ) where

@@ -432,30 +432,47 @@ module _ (site : SiteData) (log marks : List Mark) (sent : List Sent) where
 pub none_leave : (marks : List Mark) → NoPart marks → AllLeave marks
 none_leave marks p = subst AllLeave (sym p) (λ slot o. refl)
 
+-- What is left where memory ran out in a row: all as it was, or without a channel whose subscriptions ended, or with a subscription, where
+-- one began.
+pub data Leaves (s : State) (marks : List Mark) (left : State) : Type 0 where
+  all_stays : AllLeave marks → left ≡ s → Leaves s marks left
+  channel_ended : (sid : ℕ) → AreEndingsOf (slots_of (on_only sid s.requests)) marks → left ≡ record s { channels = remove s.channels sid; requests = without_channel sid s.requests } → Leaves s marks left
+  monitor_comes : (req sid : ℕ) (channel : Channel) (wanted : Wanted) (window : Option ℕ) → at s.requests req ≡ None → channel_at s.channels sid ≡ Some channel → Subscribes channel wanted.mask marks
+      → left ≡ record s { requests = subscribed req sid wanted window marks s.requests } → Leaves s marks left
+
+pub part_leaves : (site : SiteData) (s : State) (task : Task) (marks : List Mark) → IsTaskOf site s task → Part site s task marks → Leaves s marks (left_by site s task marks)
+part_leaves site s pass_over marks of p = all_stays (none_leave marks p) refl
+part_leaves site s (echo_control number) marks of p = all_stays (none_leave marks p) refl
+part_leaves site s (refuse r) marks of p = all_stays (none_leave marks p) refl
+part_leaves site s (tell r) marks of p = all_stays (none_leave marks p) refl
+part_leaves site s (validate buffer registry user host) marks of p = all_stays (none_leave marks p) refl
+part_leaves site s (echo payload) marks of p = all_stays (none_leave marks p) refl
+part_leaves site s (create names) marks of p = all_stays (none_leave marks p) refl
+part_leaves site s (destroy_channel sid cid) [] of p = all_stays (λ slot o. refl) refl
+part_leaves site s (destroy_channel sid cid) (mark ∷ marks) of p = channel_ended sid p refl
+part_leaves site s (begin kind req sub sid channel wanted) marks of p = all_stays (none_leave marks p) refl
+part_leaves site s (get kind req sub ask channel) marks of p = all_stays (get_leaves site channel ask.atomic marks p) refl
+part_leaves site s (put req sub ask channel mask value) marks of p = all_stays (λ slot o. puts_leave slot o _ p.1 marks p.2) refl
+part_leaves site s (put_get req sub ask channel mask value) marks of p = all_stays (λ slot o. put_gets_leave slot o (asked site ask channel mask value p.0) p.1 marks p.2) refl
+part_leaves site s (respond req sub r) marks of p = all_stays (none_leave marks p) refl
+part_leaves site s (snapshot req sub) marks of p = all_stays (snapshot_leaves site marks p) refl
+part_leaves site s (subscribe req sub sid channel wanted count) marks of p =
+    monitor_comes req sid channel wanted count of.0.free of.0.open_ (subscribes channel wanted.mask wanted.queue p.0 marks p.1) refl
+part_leaves site s (steer req count started ask) marks of p = all_stays (none_leave marks p) refl
+part_leaves site s (destroy_request req) marks of p = all_stays (none_leave marks p) refl
+
 module _ (site : SiteData) (log : List Mark) where
   stays : (marks : List Mark) (s : State) → AllLeave marks → Holds log s → Holds (log ++ marks) s
   stays marks s plain holds = goes_holds log marks s s (unmoved log marks s s plain refl refl) holds
 
   pub part_holds : (s : State) (task : Task) (marks : List Mark) → IsTaskOf site s task → Part site s task marks → AllTrue IsFreeBegun log marks → Holds log s → Holds (log ++ marks) (left_by site s task marks)
-  part_holds s pass_over marks of p free holds = stays marks s (none_leave marks p) holds
-  part_holds s (echo_control number) marks of p free holds = stays marks s (none_leave marks p) holds
-  part_holds s (refuse r) marks of p free holds = stays marks s (none_leave marks p) holds
-  part_holds s (tell r) marks of p free holds = stays marks s (none_leave marks p) holds
-  part_holds s (validate buffer registry user host) marks of p free holds = stays marks s (none_leave marks p) holds
-  part_holds s (echo payload) marks of p free holds = stays marks s (none_leave marks p) holds
-  part_holds s (create names) marks of p free holds = stays marks s (none_leave marks p) holds
-  part_holds s (destroy_channel sid cid) [] of p free holds = stays [] s (λ slot o. refl) holds
-  part_holds s (destroy_channel sid cid) (mark ∷ marks) of p free holds = goes_holds log (mark ∷ marks) s _ (goes_closed log (mark ∷ marks) s holds sid p) holds
-  part_holds s (begin kind req sub sid channel wanted) marks of p free holds = stays marks s (none_leave marks p) holds
-  part_holds s (get kind req sub ask channel) marks of p free holds = stays marks s (get_leaves site channel ask.atomic marks p) holds
-  part_holds s (put req sub ask channel mask value) marks of p free holds = stays marks s (λ slot o. puts_leave slot o _ p.1 marks p.2) holds
-  part_holds s (put_get req sub ask channel mask value) marks of p free holds = stays marks s (λ slot o. put_gets_leave slot o (asked site ask channel mask value p.0) p.1 marks p.2) holds
-  part_holds s (respond req sub r) marks of p free holds = stays marks s (none_leave marks p) holds
-  part_holds s (snapshot req sub) marks of p free holds = stays marks s (snapshot_leaves site marks p) holds
-  part_holds s (subscribe req sub sid channel wanted count) marks of p free holds =
-      subscribe_holds log s req sid channel wanted count marks of.0.open_ (subscribes channel wanted.mask wanted.queue p.0 marks p.1) free holds
-  part_holds s (steer req count started ask) marks of p free holds = stays marks s (none_leave marks p) holds
-  part_holds s (destroy_request req) marks of p free holds = stays marks s (none_leave marks p) holds
+  part_holds s task marks of p free holds = by_what_is_left (left_by site s task marks) (part_leaves site s task marks of p)
+    where
+      by_what_is_left : (left : State) → Leaves s marks left → Holds (log ++ marks) left
+      by_what_is_left left (all_stays plain is) = subst (Holds (log ++ marks)) (sym is) (stays marks s plain holds)
+      by_what_is_left left (channel_ended sid endings is) = subst (Holds (log ++ marks)) (sym is) (goes_holds log marks s _ (goes_closed log marks s holds sid endings) holds)
+      by_what_is_left left (monitor_comes req sid channel wanted window none open_ subscribes_ is) =
+          subst (Holds (log ++ marks)) (sym is) (subscribe_holds log s req sid channel wanted window marks open_ subscribes_ free holds)
 
 -- Steps.
 

@@ -1,22 +1,26 @@
 -- What is written behind the output, and what the rows' functions did.
 use Rattle.std.proofs.Common.{◌≡◌, ℕ, ◌≤◌, drop, length, Bool, true, false, not, ◌&&◌, List, [], ◌∷◌, ◌++◌, Option, None, Some, Result, Ok, Err, refl, sym, ◌∙◌, ap, subst, append_assoc}
-use Rattle.std.specs.Prelude.{OnOk, OnErr, IsErr, IfNone, option_map}
+use Rattle.std.specs.Prelude.{OnOk, OnErr, IsErr}
 use Rattle.std.specs.FinSet.{FinSet}
 use Rattle.std.specs.Ordering.{nat_cmp}
 use Rattle.std.proofs.lemmas.Bool.{false≢true}
 use Rattle.std.proofs.lemmas.List.{append-nil, drop-append-le}
+use Rattle.pva_wire.specs.declared.order.Order.{Order}
 use Rattle.pva_wire.specs.declared.status.Status.{Status}
 use Rattle.pva_wire.specs.Status.{good}
 use Rattle.pvd_type.specs.Tree.{Tree}
 use Rattle.pvd_type.specs.declared.memory.NoMemory.{NoMemory}
 use Rattle.pvd_value.specs.Data.{Data}
 use Rattle.journal_core.specs.Moments.{Moment}
+use Rattle.pvd_codec.specs.Written.{CanEach}
+use Rattle.pva_frames.specs.Spelling.{message_bytes}
 use Rattle.pva_messages.specs.Fields as field
-use Rattle.pva_messages.specs.Fields.{Field, Valued, PartData}
+use Rattle.pva_messages.specs.Fields.{Field, PartData}
 use Rattle.pva_messages.specs.Replies as reply
-use Rattle.pva_messages.specs.Replies.{Reply, CanReply, reply_fields, reply_command, begun_reply}
+use Rattle.pva_messages.specs.Replies.{Reply, CanReply, reply_fields, reply_command}
 use Rattle.pva_messages.specs.Rows.{byte_of}
-use Rattle.pva_messages.specs.Subcommands.{begins, asks_back, OnlyWhere, ExactlyWhere}
+use Rattle.pva_messages.specs.Written.{FitsField, CanField, canonical}
+use Rattle.pva_messages.specs.Subcommands.{begins, asks_back, ExactlyWhere}
 use Rattle.chan_table.specs.declared.ask.AskKind.{AskKind}
 use Rattle.chan_table.specs.declared.ask.AskKind.TheVariants as kinds
 use Rattle.desk_api.specs.Calls.{Calls, IsGet, IsPartOfGet, ArePut, ArePutGet, IsSnapshot, IsPartOfSnapshot}
@@ -28,13 +32,15 @@ use Rattle.desk_api.specs.declared.channel.Channel.{Channel}
 use Rattle.desk_api.specs.declared.mark.Seat.{Seat}
 use Rattle.desk_api.specs.declared.put.Done.{Done}
 use Rattle.desk_api.specs.declared.put.PutAnswer.{PutAnswer}
-use Rattle.srv_session.specs.State.{State, Asked, slots_of}
-use Rattle.srv_session.specs.Replies.{IsSayable, said, control, methods, greetings, spelled, spelled_all, outcome, answered, begun, got, called, command_of_kind}
-use Rattle.srv_session.specs.Tasks.{get, put, put_get, snapshot}
+use Rattle.srv_session.specs.State.{State, Asked}
+use Rattle.srv_session.specs.Replies.{Sent, HasLeafBits, IsSayable, said, control, methods, greetings, spelled, spelled_all, answered, got, called, command_of_kind}
+use Rattle.srv_session.specs.Tasks.{get, put, put_get, respond, snapshot}
 use Rattle.srv_session.specs.Rows.{asked, put_status, put_get_reply, rows_data, behind}
 use Rattle.srv_session.specs.Calls.{Takes}
-use Rattle.srv_session.specs.Views.{HasOneType, HasPart, IsOkAlone}
-use Rattle.srv_session.proofs.Rows.{shown, part_moments, whole_is_part, put_moments, put_get_moments, snapshot_moments, snapshot_is_part}
+use Rattle.srv_session.specs.Views.{state_of, output_of, show, AnswersAlone, HasPart, HasSaid, IsAsBefore, RepliesWith}
+use Rattle.srv_session.specs.declared.session.Session.{Session}
+use Rattle.srv_session.proofs.Rows.{part_moments, whole_is_part, put_moments, put_get_moments, snapshot_moments, snapshot_is_part, gave_up, said_one, says_this}
+use Rattle.srv_session.proofs.Slots.{still}
 
 -- The greeting was written.
 pub greeted : (s m : State) (names : List (List ℕ)) (first second last : List ℕ) → m ≡ s
@@ -62,51 +68,13 @@ pub left_out : (sent : ℕ) (before after : List ℕ) (result : Result (Unit {0}
 left_out sent before after (Ok u) err = tt
 left_out sent before after (Err e) err = ap (drop sent) err
 
--- what was looked up
-pub looked_up : {A B : Type 0} (f : A → B) (o : Option A) (r : A) (t : B) → o ≡ Some r → option_map f o ≡ Some t → f r ≡ t
-looked_up f o r t is found = let e : Some (f r) ≡ Some t = sym (ap (option_map f) is) ∙ found in cc
-
--- The fields and the command of a reply about a request.
+-- Leaves of a value that are told: the fields and the command of the reply.
 
 bare : (b : Bool) (t : Option Tree) → b ≡ false → reply.type_field b t ≡ []
 bare true t is = absurd (false≢true (sym is))
 bare false t is = refl
 
-bare_call : (b : Bool) (v : Valued) → b ≡ true → reply.valued_field (not b) v ≡ []
-bare_call true v is = refl
-bare_call false v is = absurd (false≢true is)
-
-whole_call : (b : Bool) (v : Valued) → b ≡ false → reply.valued_field (not b) v ≡ field.valued v ∷ []
-whole_call true v is = absurd (false≢true (sym is))
-whole_call false v is = refl
-
-both_types : (b : Bool) (t : Option Tree) → b ≡ true → reply.type_field b t ≡ field.description t ∷ []
-both_types true t is = refl
-both_types false t is = absurd (false≢true is)
-
-pub answered_fields : (kind : AskKind) (req sub : ℕ) (problem : Option (List ℕ)) → IfNone problem (IsOkAlone kind sub)
-    → reply_fields (answered kind req sub (outcome problem)) ≡ field.word req ∷ field.byte sub ∷ field.status (outcome problem) ∷ []
-answered_fields kinds.Get req sub None none = absurd none
-answered_fields kinds.Get req sub (Some text) none = refl
-answered_fields kinds.Put req sub None none =
-    ap (λ (l : List Field). field.word req ∷ field.byte sub ∷ field.status good ∷ (l ++ [])) (bare (begins sub) None none.0)
-answered_fields kinds.Put req sub (Some text) none = refl
-answered_fields kinds.PutGet req sub None none = absurd none
-answered_fields kinds.PutGet req sub (Some text) none = refl
-answered_fields kinds.Rpc req sub None none =
-    ap (λ (l : List Field). field.word req ∷ field.byte sub ∷ field.status good ∷ l) (bare_call (begins sub) None none)
-answered_fields kinds.Rpc req sub (Some text) none = refl
-answered_fields kinds.Monitor req sub None none = absurd none
-answered_fields kinds.Monitor req sub (Some text) none = refl
-
-pub answered_command : (kind : AskKind) (req sub : ℕ) (status : Status) → reply_command (answered kind req sub status) ≡ byte_of (command_of_kind kind)
-answered_command kinds.Get req sub status = refl
-answered_command kinds.Put req sub status = refl
-answered_command kinds.PutGet req sub status = refl
-answered_command kinds.Rpc req sub status = refl
-answered_command kinds.Monitor req sub status = refl
-
-pub got_fields : (kind : AskKind) (req sub : ℕ) (ty : Tree) (mask : FinSet nat_cmp) (value : Data) → HasPart kind sub → begins sub ≡ false
+got_fields : (kind : AskKind) (req sub : ℕ) (ty : Tree) (mask : FinSet nat_cmp) (value : Data) → HasPart kind sub → begins sub ≡ false
     → reply_fields (got kind req sub ty mask value) ≡ field.word req ∷ field.byte sub ∷ field.status good ∷ field.part (record { ty = ty; mask = mask; value = value }) ∷ []
 got_fields kinds.Get req sub ty mask value part none =
     ap (λ (l : List Field). field.word req ∷ field.byte sub ∷ field.status good ∷ (l ++ field.part (record { ty = ty; mask = mask; value = value }) ∷ [])) (bare (begins sub) None none)
@@ -117,182 +85,200 @@ got_fields kinds.PutGet req sub ty mask value part none =
 got_fields kinds.Rpc req sub ty mask value part none = absurd part
 got_fields kinds.Monitor req sub ty mask value part none = absurd part
 
-pub got_command : (kind : AskKind) (req sub : ℕ) (ty : Tree) (mask : FinSet nat_cmp) (value : Data) → HasPart kind sub → reply_command (got kind req sub ty mask value) ≡ byte_of (command_of_kind kind)
+got_command : (kind : AskKind) (req sub : ℕ) (ty : Tree) (mask : FinSet nat_cmp) (value : Data) → HasPart kind sub → reply_command (got kind req sub ty mask value) ≡ byte_of (command_of_kind kind)
 got_command kinds.Get req sub ty mask value part = refl
 got_command kinds.Put req sub ty mask value part = refl
 got_command kinds.PutGet req sub ty mask value part = refl
 got_command kinds.Rpc req sub ty mask value part = absurd part
 got_command kinds.Monitor req sub ty mask value part = absurd part
 
--- the reply that begins a request
-pub begun_is : (kind : AskKind) (req sub : ℕ) (ty : Tree) → HasOneType kind → begun_reply (command_of_kind kind) req sub ty ≡ begun kind req sub ty
-begun_is kinds.Get req sub ty served = refl
-begun_is kinds.Put req sub ty served = refl
-begun_is kinds.PutGet req sub ty served = absurd served
-begun_is kinds.Rpc req sub ty served = absurd served
-begun_is kinds.Monitor req sub ty served = refl
+part_where : (b : Bool) (p : PartData) → b ≡ false → ExactlyWhere (not b) (Some p)
+part_where true p is = absurd (false≢true (sym is))
+part_where false p is = tt
 
-pub begun_command : (kind : AskKind) (req sub : ℕ) (ty : Tree) → HasOneType kind → reply_command (begun kind req sub ty) ≡ byte_of (command_of_kind kind)
-begun_command kinds.Get req sub ty served = refl
-begun_command kinds.Put req sub ty served = refl
-begun_command kinds.PutGet req sub ty served = absurd served
-begun_command kinds.Rpc req sub ty served = absurd served
-begun_command kinds.Monitor req sub ty served = refl
+part_asked : (b back : Bool) (p : PartData) → b ≡ false → back ≡ true → ExactlyWhere (not b && back) (Some p)
+part_asked true back p is asked = absurd (false≢true (sym is))
+part_asked false true p is asked = tt
+part_asked false false p is asked = absurd (false≢true asked)
 
-can_begin : (b back : Bool) (t : Tree) → b ≡ true → OnlyWhere b (Some t) × ExactlyWhere {A = PartData} (not b && back) None
-can_begin true back t is = ((λ e. absurd (false≢true (sym e))), refl)
-can_begin false back t is = absurd (false≢true is)
+may_get : (kind : AskKind) (req sub : ℕ) (ty : Tree) (mask : FinSet nat_cmp) (value : Data) → HasPart kind sub → begins sub ≡ false → CanReply (got kind req sub ty mask value)
+may_get kinds.Get req sub ty mask value part none = ((λ e. refl), part_where (begins sub) (record { ty = ty; mask = mask; value = value }) none)
+may_get kinds.Put req sub ty mask value part none = ((λ e. refl), part_asked (begins sub) (asks_back sub) (record { ty = ty; mask = mask; value = value }) none part)
+may_get kinds.PutGet req sub ty mask value part none = ((λ e. refl), (λ e. refl), part_where (begins sub) (record { ty = ty; mask = mask; value = value }) none)
+may_get kinds.Rpc req sub ty mask value part none = absurd part
+may_get kinds.Monitor req sub ty mask value part none = absurd part
 
-can_begin_whole : (b : Bool) (t : Tree) → b ≡ true → OnlyWhere b (Some t) × ExactlyWhere {A = PartData} (not b) None
-can_begin_whole true t is = ((λ e. absurd (false≢true (sym e))), refl)
-can_begin_whole false t is = absurd (false≢true is)
+got_bits : (kind : AskKind) (req sub : ℕ) (ty : Tree) (mask : FinSet nat_cmp) (value : Data) → HasPart kind sub → HasLeafBits (got kind req sub ty mask value)
+got_bits kinds.Get req sub ty mask value part = tt
+got_bits kinds.Put req sub ty mask value part = tt
+got_bits kinds.PutGet req sub ty mask value part = tt
+got_bits kinds.Rpc req sub ty mask value part = absurd part
+got_bits kinds.Monitor req sub ty mask value part = absurd part
 
-pub may_begin : (kind : AskKind) (req sub : ℕ) (ty : Tree) → HasOneType kind → begins sub ≡ true → CanReply (begun_reply (command_of_kind kind) req sub ty)
-may_begin kinds.Get req sub ty served is = can_begin_whole (begins sub) ty is
-may_begin kinds.Put req sub ty served is = can_begin (begins sub) (asks_back sub) ty is
-may_begin kinds.PutGet req sub ty served is = absurd served
-may_begin kinds.Rpc req sub ty served is = absurd served
-may_begin kinds.Monitor req sub ty served is = (is, λ e. absurd (false≢true (sym e)))
+-- leaves of a value were written
+pub got_said : (order : Order) (segment : ℕ) (kind : AskKind) (req sub : ℕ) (ty : Tree) (mask : FinSet nat_cmp) (value : Data) (sent : ℕ) (before after : List ℕ) (result : Result (Unit {0}) NoMemory)
+    → HasPart kind sub → begins sub ≡ false → sent ≤ length before → FitsField (field.part (record { ty = ty; mask = mask; value = value }))
+    → OnOk result
+    (after ≡ before ++ message_bytes order true (byte_of (command_of_kind kind)) (canonical order (field.word req ∷ field.byte sub ∷ field.status good ∷ field.part (record { ty = ty; mask = mask; value = value }) ∷ [])) segment)
+    → OnOk result (CanEach CanField (field.word req ∷ field.byte sub ∷ field.status good ∷ field.part (record { ty = ty; mask = mask; value = value }) ∷ []))
+    → OnOk result ((drop sent after ≡ drop sent before ++ spelled order segment (said (got kind req sub ty mask value))) × IsSayable (said (got kind req sub ty mask value)))
+got_said order segment kind req sub ty mask value sent before after (Err e) part none within fits ok can = tt
+got_said order segment kind req sub ty mask value sent before after (Ok u) part none within fits ok can =
+    let fields = got_fields kind req sub ty mask value part none in
+    let bytes : ℕ → List Field → List ℕ = λ (n : ℕ) (fs : List Field). message_bytes order true n (canonical order fs) segment in
+    let row : List Field = field.word req ∷ field.byte sub ∷ field.status good ∷ field.part (record { ty = ty; mask = mask; value = value }) ∷ [] in (
+      ap (drop sent) ok ∙ drop-append-le sent before (bytes (byte_of (command_of_kind kind)) row) within
+          ∙ ap (λ (n : ℕ). drop sent before ++ bytes n row) (sym (got_command kind req sub ty mask value part))
+          ∙ ap (λ (fs : List Field). drop sent before ++ bytes (reply_command (got kind req sub ty mask value)) fs) (sym fields),
+      (
+        (may_get kind req sub ty mask value part none, subst (CanEach FitsField) (sym fields) (tt, (tt, (tt, (fits, tt)))), subst (CanEach CanField) (sym fields) can),
+        got_bits kind req sub ty mask value part,
+      ),
+    )
 
--- the reply that begins a put-get
-pub both_fields : (req sub : ℕ) (ty : Tree) → begins sub ≡ true
-    → reply_fields (begun kinds.PutGet req sub ty) ≡ field.word req ∷ field.byte sub ∷ field.status good ∷ field.description (Some ty) ∷ field.description (Some ty) ∷ []
-both_fields req sub ty is = ap (λ (l : List Field). field.word req ∷ field.byte sub ∷ field.status good ∷ ((l ++ l) ++ [])) (both_types (begins sub) (Some ty) is)
+-- A reply about a request, behind which the request ends where that was asked for.
 
--- the answer to a call
-pub called_fields : (req sub : ℕ) (ty : Tree) (value : Data) → begins sub ≡ false
-    → reply_fields (called req sub ty value) ≡ field.word req ∷ field.byte sub ∷ field.status good ∷ field.valued (Some (ty, value)) ∷ []
-called_fields req sub ty value is = ap (λ (l : List Field). field.word req ∷ field.byte sub ∷ field.status good ∷ l) (whole_call (begins sub) (Some (ty, value)) is)
+module _ (old new : Session) (req sub : ℕ) where
+  pub replied : (mid : Session) (x : Sent) → state_of mid ≡ state_of old → HasSaid old mid x
+      → state_of new ≡ record (state_of mid) { requests = behind req sub (state_of mid).requests } → output_of new ≡ output_of mid → RepliesWith old new req sub x (Ok tt)
+  replied mid x same said_ ended kept = (ended ∙ ap (λ (z : State). record z { requests = behind req sub z.requests }) same, (kept ∙ said_.0, said_.1))
+
+  -- memory ran out for it
+  pub unreplied : (x : Sent) (result : Result (Unit {0}) NoMemory) → IsErr result → output_of new ≡ output_of old → state_of new ≡ state_of old → RepliesWith old new req sub x result
+  unreplied x (Ok u) failed kept same = absurd (false≢true failed)
+  unreplied x (Err e) failed kept same = record { output = kept; subscribed = still same }
+
+  -- nothing was asked of a desk for it
+  pub responded : (r : Reply) (result : Result (Unit {0}) NoMemory) → RepliesWith old new req sub (said r) result → AnswersAlone old new (respond req sub r) result
+  responded r (Ok u) p seat legal moment =
+      said_one seat moment (state_of old) (state_of new) (output_of old) (output_of new) (respond req sub r) (Ok u) (said r) legal (says_this _) p.0 p.1 tt tt
+  responded r (Err e) p seat legal moment =
+      gave_up seat moment (state_of old) (state_of new) (output_of old) (output_of new) (respond req sub r) (Err e) legal refl p.output p.subscribed
 
 -- A get of a channel.
 
-module _ (here there : Seat) (moment : Moment) (s t : State) (out after : List ℕ) (kind : AskKind) (req sub : ℕ) (ask : Asked) (channel : Channel) where
+module _ (here there : Seat) (moment : Moment) (old new : Session) (kind : AskKind) (req sub : ℕ) (ask : Asked) (channel : Channel) where
   -- memory ran out in it
-  pub not_got : (result : Result (Unit {0}) NoMemory) → Calls here there (IsPartOfGet here.seen.base.site channel ask.atomic) → IsErr result → after ≡ out → slots_of t.requests ≡ slots_of s.requests
-      → Takes (shown here s out) (shown there t after) moment (get kind req sub ask channel) result
-  not_got (Ok u) calls failed same stay = absurd (false≢true failed)
-  not_got (Err e) calls failed same stay = record {
+  pub not_got : (result : Result (Unit {0}) NoMemory) → Calls here there (IsPartOfGet here.seen.base.site channel ask.atomic) → IsErr result → IsAsBefore old new
+      → Takes (show here old) (show there new) moment (get kind req sub ask channel) result
+  not_got (Ok u) calls failed same = absurd (false≢true failed)
+  not_got (Err e) calls failed same = record {
     marks = calls.marks;
     part_is = calls.named;
     adds = calls.adds;
     moments = part_moments moment here.seen.base.site channel ask.atomic calls.marks calls.named;
-    subscribed = stay;
-    output = same;
+    subscribed = same.subscribed;
+    output = same.output;
   }
 
-  module _ (value : Data) (calls : Calls here there (IsGet here.seen.base.site channel ask.atomic value)) where
-    -- it gave a value, and memory ran out for the reply
-    pub got_unsaid : (result : Result (Unit {0}) NoMemory) → IsErr result → after ≡ out → slots_of t.requests ≡ slots_of s.requests
-        → Takes (shown here s out) (shown there t after) moment (get kind req sub ask channel) result
-    got_unsaid result failed same stay =
-        not_got result (record { marks = calls.marks; adds = calls.adds; named = whole_is_part here.seen.base.site channel ask.atomic value calls.marks calls.named }) failed same stay
-
-    -- it was written
-    pub told : (ty : Tree) → ty ≡ type_of here.seen.base.site channel → t ≡ record s { requests = behind req sub s.requests }
-        → (after ≡ out ++ spelled s.order s.segment (said (got kind req sub ty ask.mask value))) × IsSayable (said (got kind req sub ty ask.mask value))
-        → Takes (shown here s out) (shown there t after) moment (get kind req sub ask channel) (Ok tt)
-    told ty ty_is state ok = record {
-      marks = calls.marks;
-      sent = said (got kind req sub (type_of here.seen.base.site channel) ask.mask value) ∷ [];
-      row = record { value = value; is_get = calls.named; sent_is = refl };
-      sayable = (subst (λ (y : Tree). IsSayable (said (got kind req sub y ask.mask value))) ty_is ok.1, tt);
-      adds = calls.adds;
-      moments = part_moments moment here.seen.base.site channel ask.atomic calls.marks (whole_is_part here.seen.base.site channel ask.atomic value calls.marks calls.named);
-      state = state;
-      output =
-          ok.0
-          ∙ ap (λ (y : Tree). out ++ spelled s.order s.segment (said (got kind req sub y ask.mask value))) ty_is
-          ∙ ap (λ (z : List ℕ). out ++ z) (sym (append-nil (spelled s.order s.segment (said (got kind req sub (type_of here.seen.base.site channel) ask.mask value)))));
-    }
+  -- it gave a value, with which its client was answered
+  pub told_got : (value : Data) → Calls here there (IsGet here.seen.base.site channel ask.atomic value) → (ty : Tree) → ty ≡ type_of here.seen.base.site channel
+      → (result : Result (Unit {0}) NoMemory) → RepliesWith old new req sub (said (got kind req sub ty ask.mask value)) result
+      → Takes (show here old) (show there new) moment (get kind req sub ask channel) result
+  told_got value calls ty ty_is (Ok u) p =
+      let site = here.seen.base.site in
+      let s = state_of old in
+      record {
+        marks = calls.marks;
+        sent = said (got kind req sub (type_of site channel) ask.mask value) ∷ [];
+        row = record { value = value; is_get = calls.named; sent_is = refl };
+        sayable = (subst (λ (y : Tree). IsSayable (said (got kind req sub y ask.mask value))) ty_is p.1.1, tt);
+        adds = calls.adds;
+        moments = part_moments moment site channel ask.atomic calls.marks (whole_is_part site channel ask.atomic value calls.marks calls.named);
+        state = p.0;
+        output =
+            p.1.0
+            ∙ ap (λ (y : Tree). output_of old ++ spelled s.order s.segment (said (got kind req sub y ask.mask value))) ty_is
+            ∙ ap (λ (z : List ℕ). output_of old ++ z) (sym (append-nil (spelled s.order s.segment (said (got kind req sub (type_of site channel) ask.mask value)))));
+      }
+  told_got value calls ty ty_is (Err e) p =
+      not_got (Err e) (record { marks = calls.marks; adds = calls.adds; named = whole_is_part here.seen.base.site channel ask.atomic value calls.marks calls.named }) refl p
 
 -- What became of a put is told, or memory ran out for that.
-module _ (here there : Seat) (moment : Moment) (s t : State) (out after : List ℕ) (req sub : ℕ) (ask : Asked) (channel : Channel) (mask : FinSet nat_cmp) (value : Data) (answer : Result Done PutAnswer)
+module _ (here there : Seat) (moment : Moment) (old new : Session) (req sub : ℕ) (ask : Asked) (channel : Channel) (mask : FinSet nat_cmp) (value : Data) (answer : Result Done PutAnswer)
     (calls : Calls here there (ArePut (asked here.seen.base.site ask channel mask value moment) answer)) where
-  pub put_unsaid : (result : Result (Unit {0}) NoMemory) → IsErr result → after ≡ out → slots_of t.requests ≡ slots_of s.requests
-      → Takes (shown here s out) (shown there t after) moment (put req sub ask channel mask value) result
-  put_unsaid (Ok u) failed same stay = absurd (false≢true failed)
-  put_unsaid (Err x) failed same stay = record {
+  pub put_untold : (result : Result (Unit {0}) NoMemory) → IsErr result → IsAsBefore old new → Takes (show here old) (show there new) moment (put req sub ask channel mask value) result
+  put_untold (Ok u) failed same = absurd (false≢true failed)
+  put_untold (Err x) failed same = record {
     marks = calls.marks;
     part_is = (moment, answer, calls.named);
     adds = calls.adds;
     moments = put_moments (asked here.seen.base.site ask channel mask value moment) answer calls.marks calls.named;
-    subscribed = stay;
-    output = same;
+    subscribed = same.subscribed;
+    output = same.output;
   }
 
-  pub put_said : (status : Status) → put_status answer ≡ Some status → t ≡ record s { requests = behind req sub s.requests }
-      → (after ≡ out ++ spelled s.order s.segment (said (answered kinds.Put req sub status))) × IsSayable (said (answered kinds.Put req sub status))
-      → Takes (shown here s out) (shown there t after) moment (put req sub ask channel mask value) (Ok tt)
-  put_said status is state ok = record {
+  pub told_put : (status : Status) → put_status answer ≡ Some status → (result : Result (Unit {0}) NoMemory) → RepliesWith old new req sub (said (answered kinds.Put req sub status)) result
+      → Takes (show here old) (show there new) moment (put req sub ask channel mask value) result
+  told_put status is (Ok u) p = record {
     marks = calls.marks;
     sent = said (answered kinds.Put req sub status) ∷ [];
     row = record { moment = moment; answer = answer; status = status; is_put = calls.named; status_is = is; sent_is = refl };
-    sayable = (ok.1, tt);
+    sayable = (p.1.1, tt);
     adds = calls.adds;
     moments = put_moments (asked here.seen.base.site ask channel mask value moment) answer calls.marks calls.named;
-    state = state;
-    output = ok.0 ∙ ap (λ (z : List ℕ). out ++ z) (sym (append-nil (spelled s.order s.segment (said (answered kinds.Put req sub status)))));
+    state = p.0;
+    output = p.1.0 ∙ ap (λ (z : List ℕ). output_of old ++ z) (sym (append-nil (spelled (state_of old).order (state_of old).segment (said (answered kinds.Put req sub status)))));
   }
+  told_put status is (Err x) p = put_untold (Err x) refl p
 
 -- The same of a put-get.
-module _ (here there : Seat) (moment : Moment) (s t : State) (out after : List ℕ) (req sub : ℕ) (ask : Asked) (channel : Channel) (mask : FinSet nat_cmp) (value : Data) (answer : Result (Done × PvValue) PutAnswer)
+module _ (here there : Seat) (moment : Moment) (old new : Session) (req sub : ℕ) (ask : Asked) (channel : Channel) (mask : FinSet nat_cmp) (value : Data) (answer : Result (Done × PvValue) PutAnswer)
     (calls : Calls here there (ArePutGet (asked here.seen.base.site ask channel mask value moment) answer)) where
-  pub put_get_unsaid : (result : Result (Unit {0}) NoMemory) → IsErr result → after ≡ out → slots_of t.requests ≡ slots_of s.requests
-      → Takes (shown here s out) (shown there t after) moment (put_get req sub ask channel mask value) result
-  put_get_unsaid (Ok u) failed same stay = absurd (false≢true failed)
-  put_get_unsaid (Err x) failed same stay = record {
+  pub put_get_untold : (result : Result (Unit {0}) NoMemory) → IsErr result → IsAsBefore old new → Takes (show here old) (show there new) moment (put_get req sub ask channel mask value) result
+  put_get_untold (Ok u) failed same = absurd (false≢true failed)
+  put_get_untold (Err x) failed same = record {
     marks = calls.marks;
     part_is = (moment, answer, calls.named);
     adds = calls.adds;
     moments = put_get_moments (asked here.seen.base.site ask channel mask value moment) answer calls.marks calls.named;
-    subscribed = stay;
-    output = same;
+    subscribed = same.subscribed;
+    output = same.output;
   }
 
-  pub put_get_said : (told : Reply) → put_get_reply here.seen.base.site req sub ask channel answer ≡ Some told → t ≡ record s { requests = behind req sub s.requests }
-      → (after ≡ out ++ spelled s.order s.segment (said told)) × IsSayable (said told)
-      → Takes (shown here s out) (shown there t after) moment (put_get req sub ask channel mask value) (Ok tt)
-  put_get_said told is state ok = record {
+  pub told_put_get : (told : Reply) → put_get_reply here.seen.base.site req sub ask channel answer ≡ Some told → (result : Result (Unit {0}) NoMemory) → RepliesWith old new req sub (said told) result
+      → Takes (show here old) (show there new) moment (put_get req sub ask channel mask value) result
+  told_put_get told is (Ok u) p = record {
     marks = calls.marks;
     sent = said told ∷ [];
     row = record { moment = moment; answer = answer; told = told; is_put_get = calls.named; told_is = is; sent_is = refl };
-    sayable = (ok.1, tt);
+    sayable = (p.1.1, tt);
     adds = calls.adds;
     moments = put_get_moments (asked here.seen.base.site ask channel mask value moment) answer calls.marks calls.named;
-    state = state;
-    output = ok.0 ∙ ap (λ (z : List ℕ). out ++ z) (sym (append-nil (spelled s.order s.segment (said told))));
+    state = p.0;
+    output = p.1.0 ∙ ap (λ (z : List ℕ). output_of old ++ z) (sym (append-nil (spelled (state_of old).order (state_of old).segment (said told))));
   }
+  told_put_get told is (Err x) p = put_get_untold (Err x) refl p
 
 -- The same of a look at all records.
-module _ (here there : Seat) (moment : Moment) (s t : State) (out after : List ℕ) (req sub : ℕ) where
-  pub not_looked : (result : Result (Unit {0}) NoMemory) → Calls here there (IsPartOfSnapshot here.seen.base.site) → IsErr result → after ≡ out → slots_of t.requests ≡ slots_of s.requests
-      → Takes (shown here s out) (shown there t after) moment (snapshot req sub) result
-  not_looked (Ok u) calls failed same stay = absurd (false≢true failed)
-  not_looked (Err x) calls failed same stay = record {
+module _ (here there : Seat) (moment : Moment) (old new : Session) (req sub : ℕ) where
+  pub not_looked : (result : Result (Unit {0}) NoMemory) → Calls here there (IsPartOfSnapshot here.seen.base.site) → IsErr result → IsAsBefore old new
+      → Takes (show here old) (show there new) moment (snapshot req sub) result
+  not_looked (Ok u) calls failed same = absurd (false≢true failed)
+  not_looked (Err x) calls failed same = record {
     marks = calls.marks;
     part_is = calls.named;
     adds = calls.adds;
     moments = snapshot_moments moment here.seen.base.site calls.marks calls.named;
-    subscribed = stay;
-    output = same;
+    subscribed = same.subscribed;
+    output = same.output;
   }
 
   module _ (rows : List RecRow) (calls : Calls here there (IsSnapshot here.seen.base.site rows)) where
-    pub look_unsaid : (result : Result (Unit {0}) NoMemory) → IsErr result → after ≡ out → slots_of t.requests ≡ slots_of s.requests
-        → Takes (shown here s out) (shown there t after) moment (snapshot req sub) result
-    look_unsaid result failed same stay =
-        not_looked result (record { marks = calls.marks; adds = calls.adds; named = snapshot_is_part here.seen.base.site rows calls.marks calls.named }) failed same stay
+    pub look_untold : (result : Result (Unit {0}) NoMemory) → IsErr result → IsAsBefore old new → Takes (show here old) (show there new) moment (snapshot req sub) result
+    look_untold result failed same =
+        not_looked result (record { marks = calls.marks; adds = calls.adds; named = snapshot_is_part here.seen.base.site rows calls.marks calls.named }) failed same
 
-    pub look_said : t ≡ record s { requests = behind req sub s.requests }
-        → (after ≡ out ++ spelled s.order s.segment (said (called req sub snapshot_tree (rows_data rows)))) × IsSayable (said (called req sub snapshot_tree (rows_data rows)))
-        → Takes (shown here s out) (shown there t after) moment (snapshot req sub) (Ok tt)
-    look_said state ok = record {
+    pub told_look : (result : Result (Unit {0}) NoMemory) → RepliesWith old new req sub (said (called req sub snapshot_tree (rows_data rows))) result
+        → Takes (show here old) (show there new) moment (snapshot req sub) result
+    told_look (Ok u) p = record {
       marks = calls.marks;
       sent = said (called req sub snapshot_tree (rows_data rows)) ∷ [];
       row = record { rows = rows; is_snapshot = calls.named; sent_is = refl };
-      sayable = (ok.1, tt);
+      sayable = (p.1.1, tt);
       adds = calls.adds;
       moments = snapshot_moments moment here.seen.base.site calls.marks (snapshot_is_part here.seen.base.site rows calls.marks calls.named);
-      state = state;
-      output = ok.0 ∙ ap (λ (z : List ℕ). out ++ z) (sym (append-nil (spelled s.order s.segment (said (called req sub snapshot_tree (rows_data rows))))));
+      state = p.0;
+      output = p.1.0 ∙ ap (λ (z : List ℕ). output_of old ++ z) (sym (append-nil (spelled (state_of old).order (state_of old).segment (said (called req sub snapshot_tree (rows_data rows))))));
     }
+    told_look (Err x) p = look_untold (Err x) refl p

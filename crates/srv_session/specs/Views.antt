@@ -31,7 +31,7 @@ use Rattle.desk_api.specs.declared.put.Done.{Done}
 use Rattle.desk_api.specs.declared.put.PutAnswer.{PutAnswer}
 use Rattle.srv_session.specs.State.{State, Asked, request_on, slots_of}
 use Rattle.srv_session.specs.Replies.{Sent, IsSayable, spelled, refused, outcome, is_call}
-use Rattle.srv_session.specs.Rows.{put_status}
+use Rattle.srv_session.specs.Rows.{put_status, behind}
 use Rattle.srv_session.specs.Tasks.{Task, begin, refuse, get, nothing_wanted, putting_as, fault_text, reading_part, heard_getting, Hearing}
 use Rattle.srv_session.specs.Calls.{Shown, Takes, Responds, Heeds}
 use Rattle.srv_session.specs.declared.requests.Found.{Found}
@@ -69,6 +69,17 @@ pub record Keeps (old new : Session) : Type 0 where
   pub more : List ℕ
   pub sent : new.sent ≡ old.sent
   pub output : new.output.items ≡ old.output.items ++ more
+
+-- Nothing was written, and the subscriptions are as before.
+pub record IsAsBefore (old new : Session) : Type 0 where
+  pub output : output_of new ≡ output_of old
+  pub subscribed : slots_of (state_of new).requests ≡ slots_of (state_of old).requests
+
+-- This was added, and the request of this id ended if the subcommand asks for that; or memory ran out, and nothing has changed.
+abbrev pub RepliesWith : Session → Session → ℕ → ℕ → Sent → Result (Unit {0}) NoMemory → Type 0
+RepliesWith old new req sub x (Ok u) =
+    (state_of new ≡ record (state_of old) { requests = behind req sub (state_of old).requests }) × HasSaid old new x
+RepliesWith old new req sub x (Err e) = IsAsBefore old new
 
 -- The request that a message is about was found, or why the message is refused.
 abbrev pub IsFound : Result Found (Bor (List ℕ)) → Result (Asked × Channel) (List ℕ) → Type 0
@@ -134,11 +145,6 @@ AnswersAlone old new task result = (seat : Seat) → AnswersBeside seat old new 
 -- what became of what was heard
 abbrev pub HeedsHearing : Seat → Seat → Session → Session → Moment → Hearing → Result (Unit {0}) SessionStop → Type 0
 HeedsHearing here there old new moment hearing result = Heeds (show here old) (show there new) moment hearing result
-
--- Nothing was written, and the subscriptions are as before.
-pub record IsAsBefore (old new : Session) : Type 0 where
-  pub output : output_of new ≡ output_of old
-  pub subscribed : slots_of (state_of new).requests ≡ slots_of (state_of old).requests
 
 -- Parts of rows.
 

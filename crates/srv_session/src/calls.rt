@@ -8,7 +8,7 @@ ghost use Rattle.desk_api.specs.Sites.{names_of};
 ghost use Rattle.srv_session.specs.Rows.{rows_data};
 ghost use Rattle.srv_session.specs.Tasks.{call_refusal, info_of, operation_in};
 
-use crate::session::Session;
+use crate::session::{Session, discard};
 use chan_table::AskKind;
 use desk_api::{Desk, RecRow};
 use pva_messages::begins;
@@ -92,31 +92,22 @@ fn texts_in(alloc: Global, rows: &[RecRow]) -> Result<Vec<Name>, NoMemory>
 fn severities_in(alloc: Global, rows: &[RecRow]) -> Result<Vec<i32>, NoMemory>
     ensures { IfOk result (λ xs. xs.items ≡ map (λ r. pos r.severity) rows.now) }
 {
-    let mut severities = Vec::with_capacity(alloc, rows.len())?;
-    for row in rows {
-        severities.push(i32::from(row.severity))?;
-    }
-    Ok(severities)
+    let severities = rows.iter().map(|row| i32::from(row.severity));
+    Ok(severities.collect(alloc)?)
 }
 
 fn seconds_in(alloc: Global, rows: &[RecRow]) -> Result<Vec<i64>, NoMemory>
     ensures { IfOk result (λ xs. xs.items ≡ map (λ r. r.moment.seconds) rows.now) }
 {
-    let mut seconds = Vec::with_capacity(alloc, rows.len())?;
-    for row in rows {
-        seconds.push(row.moment.seconds())?;
-    }
-    Ok(seconds)
+    let seconds = rows.iter().map(|row| row.moment.seconds());
+    Ok(seconds.collect(alloc)?)
 }
 
 fn nanoseconds_in(alloc: Global, rows: &[RecRow]) -> Result<Vec<i32>, NoMemory>
     ensures { IfOk result (λ xs. xs.items ≡ map (λ r. pos r.moment.nanoseconds) rows.now) }
 {
-    let mut nanoseconds = Vec::with_capacity(alloc, rows.len())?;
-    for row in rows {
-        nanoseconds.push(row.moment.nanoseconds() as i32)?;
-    }
-    Ok(nanoseconds)
+    let nanoseconds = rows.iter().map(|row| row.moment.nanoseconds() as i32);
+    Ok(nanoseconds.collect(alloc)?)
 }
 
 /// The table of these rows.
@@ -127,20 +118,36 @@ fn table_of(alloc: Global, rows: &[RecRow]) -> Result<(PvType, PvValue), NoMemor
 {
     let names = names_in(alloc, rows)?;
     let texts = texts_in(alloc, rows)?;
+    table_with(alloc, rows, &names, &texts)
+}
+
+/// The table of these rows, whose names and texts these are.
+fn table_with(
+    alloc: Global,
+    rows: &[RecRow],
+    names: &[Name],
+    texts: &[Name],
+) -> Result<(PvType, PvValue), NoMemory>
+    requires names { names.now ≡ map (λ r. r.name) rows.now }
+    requires texts { texts.now ≡ map (λ r. r.text) rows.now }
+    ensures tree { IfOk result (λ r. r.0 ≡ snapshot_tree) }
+    ensures value { IfOk result (λ r. view r.1 ≡ rows_data rows.now) }
+    ensures fits { IfOk result (λ r. fits_of 16 (view r.1) r.0 ≡ true) }
+{
     let severities = severities_in(alloc, rows)?;
     let seconds = seconds_in(alloc, rows)?;
     let nanoseconds = nanoseconds_in(alloc, rows)?;
-    table(alloc, &names, &texts, &severities, &seconds, &nanoseconds)
+    table(alloc, names, texts, &severities, &seconds, &nanoseconds)
 }
 
 impl Session {
     ghost use Rattle.std.specs.Prelude.{false, Ok};
     ghost use Rattle.pva_messages.specs.Subcommands.{begins};
     ghost use Rattle.srv_session.specs.Calls.{IsOf};
-    ghost use Rattle.srv_session.specs.Replies.{called};
+    ghost use Rattle.srv_session.specs.Replies.{called, said};
     ghost use Rattle.srv_session.specs.Tasks as task;
     ghost use Rattle.srv_session.specs.Tasks.{asked_call, called_for};
-    ghost use Rattle.srv_session.specs.Views.{state_of, AnswersAlone, AnswersAnytime, AnswersBeside};
+    ghost use Rattle.srv_session.specs.Views.{state_of, AnswersAnytime, AnswersBeside, RepliesWith};
 
     /// Answers a message of the command Rpc.
     pub(crate) fn answer_call<D: Desk>(
@@ -216,7 +223,7 @@ impl Session {
         ensures { AnswersBeside (D.seat desk.now) self.old self.new (task.respond req sub (called req sub channels_tree (channels_data (names_of (D.seat desk.now).seen.base.site)))) result }
     {
         let told = channels_of(alloc, desk)?;
-        self.say_told(req, sub, &told.0, &told.1)
+        self.say_told(req, sub, told)
     }
 
     fn tell_info<D: Desk>(
@@ -230,16 +237,18 @@ impl Session {
         ensures { AnswersBeside (D.seat desk.now) self.old self.new (task.respond req sub (called req sub info_tree (info_of (D.seat desk.now).seen.base.site))) result }
     {
         let told = info_on(alloc, desk)?;
-        self.say_told(req, sub, &told.0, &told.1)
+        self.say_told(req, sub, told)
     }
 
-    /// Answers a call with this value.
-    fn say_told(&mut self, req: u32, sub: u8, ty: &PvType, value: &PvValue) -> Result<(), NoMemory>
+    /// Answers a call with this value. Bit 10 then ends the request.
+    fn say_told(&mut self, req: u32, sub: u8, told: (PvType, PvValue)) -> Result<(), NoMemory>
         requires sub { begins sub ≡ false }
-        requires fits { fits_of 16 (view value.now) ty.now ≡ true }
-        ensures { AnswersAlone self.old self.new (task.respond req sub (called req sub ty.now (view value.now))) result }
+        requires fits { fits_of 16 (view told.1) told.0 ≡ true }
+        ensures { RepliesWith self.old self.new req sub (said (called req sub told.0 (view told.1))) result }
     {
-        self.say_result(req, sub, ty, value)?;
+        let written = self.say_result(req, sub, &told.0, &told.1);
+        discard(told);
+        written?;
         self.end_behind(req, sub);
         Ok(())
     }
@@ -256,8 +265,6 @@ impl Session {
     {
         let rows = desk.snapshot(alloc)?;
         let told = table_of(alloc, &rows)?;
-        self.say_result(req, sub, &told.0, &told.1)?;
-        self.end_behind(req, sub);
-        Ok(())
+        self.say_told(req, sub, told)
     }
 }

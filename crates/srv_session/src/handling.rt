@@ -2,7 +2,7 @@
 ghost use Rattle.std.specs.Prelude.{◌≡◌};
 ghost use Rattle.srv_session.specs.Views as views;
 
-use crate::session::Session;
+use crate::session::{Session, discard};
 use crate::stop::SessionStop;
 use desk_api::{Desk, Moment};
 use pva_frames::{Event, Lent};
@@ -100,6 +100,21 @@ impl Session {
         ensures holds { OnOk result (Holds (D.seat desk.new).log (state_of self.new)) }
         ensures living { AreLiving (D.seat desk.new).log (slots_of (state_of self.new).requests) }
     {
+        self.answer_message(alloc, message, desk, moment)
+    }
+
+    /// Echoes a message, passes it over, or reads it and answers what was read.
+    fn answer_message<D: Desk>(
+        &mut self,
+        alloc: Global,
+        message: &Lent<'_>,
+        desk: &mut D,
+        moment: Moment,
+    ) -> Result<(), SessionStop>
+        requires site { IsOf (D.seat desk.old).seen.base.site (state_of self.old) }
+        requires holds { Holds (D.seat desk.old).log (state_of self.old) }
+        ensures { Handles (show (D.seat desk.old) self.old) (show (D.seat desk.new) self.new) moment (Message (whole_of message.now)) result }
+    {
         desk.has_legal_history();
         if message.command == ECHO {
             return stopping(self.echo(message.payload));
@@ -114,7 +129,9 @@ impl Session {
             message.payload,
             &mut self.types,
         )?;
-        self.handle_request(alloc, message, &request, desk, moment)
+        let answer = self.handle_request(alloc, message, &request, desk, moment);
+        discard(request);
+        answer
     }
 
     /// Whether a message of this command is heard. Before a validation was answered OK all but validations and echoes are

@@ -5,7 +5,7 @@ ghost use Rattle.srv_session.specs.State.{is_due, is_window_open};
 ghost use Rattle.srv_session.specs.Steps.{with_sent};
 
 use crate::asking::type_on;
-use crate::session::Session;
+use crate::session::{Session, discard};
 use chan_table::{Ask, Table};
 use desk_api::{Channel, Desk, Sub};
 use mon_queue::Update;
@@ -110,7 +110,9 @@ impl Session {
         ensures sends { SendsUpdate self.old self.new req ty.now update result }
         ensures monitors { self.new.monitors ≡ self.old.monitors }
     {
-        self.say_update(req, ty, &update)?;
+        let written = self.say_update(req, ty, &update);
+        discard(update);
+        written?;
         self.spend(req);
         Ok(())
     }

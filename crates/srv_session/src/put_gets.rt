@@ -1,11 +1,9 @@
 // Put-gets (pvAccess Protocol Specification, "Channel put-get").
-ghost use Rattle.std.specs.Prelude.{◌≡◌, ◌<◌, ◌++◌, ◌||◌, false, true, OnErr, OnOk};
+ghost use Rattle.std.specs.Prelude.{◌≡◌, ◌||◌, false, true};
 ghost use Rattle.pvd_value.specs.Fits.{fits_of};
 ghost use Rattle.pvd_value.specs.View.{view};
 ghost use Rattle.pva_messages.specs.Subcommands.{asks_back, begins, counts};
-ghost use Rattle.chan_table.specs.declared.ask.AskKind.TheVariants as kinds;
 ghost use Rattle.desk_api.specs.Types.{HoldsLeaves};
-ghost use Rattle.srv_session.specs.Replies.{IsSayable, got, said, spelled};
 
 use crate::asking::type_on;
 use crate::handling::stopping;
@@ -14,12 +12,10 @@ use crate::requests::Found;
 use crate::session::Session;
 use crate::stop::SessionStop;
 use crate::subcommand::{asks_back, counts};
-use crate::writing::write_value;
 use chan_table::AskKind;
 use desk_api::{Desk, Moment};
 use pva_frames::Lent;
-use pva_messages::{Command, begins};
-use pva_wire::Order;
+use pva_messages::begins;
 use pvd_type::{BitSet, NoMemory, PvType};
 use pvd_value::PvValue;
 use std::alloc::Global;
@@ -29,38 +25,6 @@ fn is_unsupported(sub: u8) -> bool
     ensures { result ≡ asks_back sub || counts sub }
 {
     asks_back(sub) || counts(sub)
-}
-
-/// Appends the reply to a put-get that was done, in frames of at most so much payload: these leaves of what was got.
-fn write_got(
-    out: &mut Vec<u8>,
-    order: Order,
-    segment: u32,
-    req: u32,
-    sub: u8,
-    ty: &PvType,
-    mask: &BitSet,
-    value: &PvValue,
-) -> Result<(), NoMemory>
-    requires segment { 0 < segment }
-    requires sub { begins sub ≡ false }
-    requires fits { fits_of 16 (view value.now) ty.now ≡ true }
-    requires leaves { HoldsLeaves ty.now mask.now }
-    ensures ok { OnOk result (out.new.items ≡ out.old.items ++ spelled order segment (said (got kinds.PutGet req sub ty.now mask.now (view value.now)))) }
-    ensures sayable { OnOk result (IsSayable (said (got kinds.PutGet req sub ty.now mask.now (view value.now)))) }
-    ensures err { OnErr result (out.new.items ≡ out.old.items) }
-{
-    write_value(
-        out,
-        order,
-        segment,
-        Command::PutGet,
-        req,
-        sub,
-        ty,
-        mask,
-        value,
-    )
 }
 
 impl Session {
@@ -143,9 +107,7 @@ impl Session {
         requires { MayRefuse kind sub }
         ensures { AnswersAlone self.old self.new (task.respond req sub (refused kind req sub text.now)) result }
     {
-        self.say_answer(kind, req, sub, Some(text))?;
-        self.end_behind(req, sub);
-        Ok(())
+        self.say_outcome(kind, req, sub, Some(text))
     }
 
     /// Puts the marked leaves of a value at this moment, and then gets the leaves that the request of this id selected.
@@ -171,25 +133,11 @@ impl Session {
         match desk.put_get(alloc, found.channel, mask, value, moment, found.atomic) {
             Ok(done) => {
                 let ty = type_on(desk, found.channel);
-                let ask = self.table.ask(req).unwrap();
-                write_got(
-                    &mut self.output,
-                    self.order,
-                    self.segment,
-                    req,
-                    sub,
-                    ty,
-                    &ask.mask,
-                    &done.1,
-                )?;
-                self.end_behind(req, sub);
-                Ok(())
+                self.say_got(AskKind::PutGet, req, sub, ty, done.1)
             }
             Err(answer) => {
                 let problem = problem_of(Err(answer))?;
-                self.say_answer(AskKind::PutGet, req, sub, problem)?;
-                self.end_behind(req, sub);
-                Ok(())
+                self.say_outcome(AskKind::PutGet, req, sub, problem)
             }
         }
     }

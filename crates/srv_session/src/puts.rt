@@ -6,7 +6,7 @@ ghost use Rattle.srv_session.specs.Views.{IsProblem};
 use crate::asking::type_on;
 use crate::handling::stopping;
 use crate::requests::Found;
-use crate::session::Session;
+use crate::session::{Session, discard};
 use crate::stop::SessionStop;
 use crate::subcommand::asks_back;
 use chan_table::AskKind;
@@ -110,7 +110,7 @@ impl Session {
     {
         desk.has_legal_history();
         let ty = type_on(desk, found.channel);
-        let (mask, value) = read_request_part(
+        let part = read_request_part(
             alloc,
             message.order,
             message.command,
@@ -119,9 +119,11 @@ impl Session {
             &mut self.types,
             ty,
         )?;
-        stopping(self.put_as(
-            alloc, gets, sid, req, sub, found, &mask, &value, desk, moment,
-        ))
+        let answer = self.put_as(
+            alloc, gets, sid, req, sub, found, &part.0, &part.1, desk, moment,
+        );
+        discard(part);
+        stopping(answer)
     }
 
     /// Puts the marked leaves of a value at this moment, and then gets, of a put-get.
@@ -175,8 +177,6 @@ impl Session {
     {
         let answer = desk.put(alloc, found.channel, mask, value, moment, found.atomic);
         let problem = problem_of(answer)?;
-        self.say_answer(AskKind::Put, req, sub, problem)?;
-        self.end_behind(req, sub);
-        Ok(())
+        self.say_outcome(AskKind::Put, req, sub, problem)
     }
 }

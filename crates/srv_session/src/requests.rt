@@ -17,7 +17,7 @@ pub(crate) struct Found {
 }
 
 impl Session {
-    ghost use Rattle.std.specs.Prelude.{◌≡◌, ◌≢◌, ◌++◌, false, true, IfErr, IfSome, IsTrue, None, OnOk, Some, codes};
+    ghost use Rattle.std.specs.Prelude.{◌≡◌, ◌≢◌, ◌++◌, false, true, IfErr, IfNone, IfSome, IsTrue, None, OnOk, Some, codes, option_map};
     ghost use Rattle.std.specs.FinMap.{get as at};
     ghost use Rattle.chan_table.specs.Tables.{IsReady, Refuses};
     ghost use Rattle.std.specs.FinSet as set;
@@ -30,11 +30,11 @@ impl Session {
     ghost use Rattle.desk_api.specs.Types.{type_of};
     ghost use Rattle.srv_session.specs.State.{channel_at, is_on};
     ghost use Rattle.srv_session.specs.Calls.{IsOf};
-    ghost use Rattle.srv_session.specs.Replies.{is_call, refused};
+    ghost use Rattle.srv_session.specs.Replies.{answered, is_call, outcome, refused, said};
     ghost use Rattle.srv_session.specs.Rows.{behind};
     ghost use Rattle.srv_session.specs.Tasks as task;
     ghost use Rattle.srv_session.specs.Tasks.{beginning, beginning_as, beginning_on, nothing_wanted, unfit, wanted_for, found_for};
-    ghost use Rattle.srv_session.specs.Views.{state_of, output_of, AnswersAlone, AnswersBeside, BeginsOn, BeginsCall, MayRefuse, RefusesFault, RefusesPlace, IsFound};
+    ghost use Rattle.srv_session.specs.Views.{state_of, output_of, AnswersAlone, AnswersBeside, BeginsOn, BeginsCall, IsOkAlone, MayRefuse, RefusesFault, RefusesPlace, RepliesWith, IsFound};
 
     /// Says why a message about a request is refused.
     pub(crate) fn refuse(
@@ -316,6 +316,23 @@ impl Session {
         if ends(sub) {
             self.table.remove(req);
         }
+    }
+
+    /// Answers a message about a request: OK, or the text of the problem, and nothing beside. Bit 10 then ends the request.
+    pub(crate) fn say_outcome(
+        &mut self,
+        kind: AskKind,
+        req: u32,
+        sub: u8,
+        problem: Option<&str>,
+    ) -> Result<(), NoMemory>
+        requires alone { IfNone problem (IsOkAlone kind sub) }
+        requires refusal { MayRefuse kind sub }
+        ensures { RepliesWith self.old self.new req sub (said (answered kind req sub (outcome (option_map (λ t. t.now) problem.entry)))) result }
+    {
+        self.say_answer(kind, req, sub, problem)?;
+        self.end_behind(req, sub);
+        Ok(())
     }
 
     /// Whether a request is on this channel.

@@ -69,7 +69,7 @@ fn command_of(kind: AskKind) -> Command
 }
 
 /// Lets a value go in a function of its own, since its many variants would else be let go one by one in the caller's proof.
-fn discard<T: Drop>(_value: T) {}
+pub(crate) fn discard<T: Drop>(_value: T) {}
 
 /// One session with a client: its channels and requests, and what is still to be written to it.
 #[derive(Drop)]
