@@ -1,3 +1,4 @@
+use crate::frames::discard;
 use pva_wire::{Cursor, Order};
 use pvd_codec::{read_full, write_full};
 use pvd_desc::{Registry, read_desc};
@@ -62,6 +63,12 @@ fn value_of(alloc: Global, order: Order, ty: &PvType, bytes: &[u8]) -> Option<Pv
     read_full(alloc, &mut Cursor::new(bytes, order), &mut registry, ty).ok()
 }
 
+/// Whether a value is of the type, and is written as these bytes.
+fn is_written(alloc: Global, order: Order, ty: &PvType, value: &PvValue, bytes: &[u8]) -> bool {
+    let mut out = Vec::new(alloc);
+    fits(ty, value) && write_full(&mut out, order, ty, value).is_ok() && out.as_slice() == bytes
+}
+
 /// Whether a copy of the value is the same value and is written as these bytes.
 fn is_written_back(
     alloc: Global,
@@ -73,11 +80,9 @@ fn is_written_back(
     let Ok(copy) = value.clone_in(alloc) else {
         return false;
     };
-    let mut out = Vec::new(alloc);
-    let same = same_value(value, &copy);
-    same && fits(ty, &copy)
-        && write_full(&mut out, order, ty, &copy).is_ok()
-        && out.as_slice() == bytes
+    let right = same_value(value, &copy) && is_written(alloc, order, ty, &copy, bytes);
+    discard(copy);
+    right
 }
 
 /// Whether a value of the type that these bytes describe is read, copied, compared, and written as these other bytes.
@@ -86,7 +91,11 @@ pub fn is_served(alloc: Global, order: Order, ty: &[u8], bytes: &[u8], written: 
         return false;
     };
     match value_of(alloc, order, &ty, bytes) {
-        Some(value) => is_written_back(alloc, order, &ty, &value, written),
+        Some(value) => {
+            let right = is_written_back(alloc, order, &ty, &value, written);
+            discard(value);
+            right
+        }
         None => false,
     }
 }

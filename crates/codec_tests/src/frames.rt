@@ -12,11 +12,27 @@ const FIRST: [u8; 10] = [0xCA, 2, 0x10, 7, 2, 0, 0, 0, 1, 0];
 /// Its second half.
 const LAST: [u8; 9] = [0xCA, 2, 0x20, 7, 1, 0, 0, 0, 7];
 
-/// The payload of the next message.
-fn next_payload(assembler: &mut Assembler) -> Option<Vec<u8>> {
+/// Lets a value go.
+pub fn discard<T: Drop>(_value: T) {}
+
+/// Whether this is a message of this payload, or this fault.
+fn is(next: &Next, expected: Result<&[u8], FrameFault>) -> bool {
+    match next {
+        Next::Event(Event::Message(whole)) => expected == Ok(whole.payload.as_slice()),
+        Next::Fault(fault) => expected == Err(*fault),
+        _ => false,
+    }
+}
+
+/// Whether a message of this payload comes next, or this fault.
+fn comes(assembler: &mut Assembler, expected: Result<&[u8], FrameFault>) -> bool {
     match assembler.next() {
-        Ok(Next::Event(Event::Message(whole))) => Some(whole.payload.into_vec()),
-        _ => None,
+        Ok(next) => {
+            let right = is(&next, expected);
+            discard(next);
+            right
+        }
+        Err(NoMemory) => false,
     }
 }
 
@@ -55,10 +71,7 @@ fn whole_messages_are_lent_and_the_others_are_joined(rt: HostRuntime) -> Result<
     assert_eq!(rt; lent(&mut assembler, &WHOLE), None);
     assembler.feed(&LAST)?;
     assert_eq!(rt; lent(&mut assembler, &WHOLE), None);
-    assert_eq!(rt;
-        next_payload(&mut assembler),
-        Some(Vec::from_slice(rt.alloc(), &[1, 0, 7])?)
-    );
+    assert!(rt; comes(&mut assembler, Ok(&[1, 0, 7])));
     assert_eq!(rt;
         lent(&mut assembler, &WHOLE),
         Some((Order::Big, 7, payload, 35))
@@ -66,6 +79,36 @@ fn whole_messages_are_lent_and_the_others_are_joined(rt: HostRuntime) -> Result<
     assert_eq!(rt; assembler.rest(), None);
     laws();
     Ok(())
+}
+
+/// Whether these bytes are refused behind a message, and again behind a further one.
+fn is_refused(assembler: &mut Assembler, bytes: &[u8], fault: FrameFault) -> bool {
+    assembler.feed(&WHOLE).is_ok()
+        && assembler.feed(bytes).is_ok()
+        && comes(assembler, Ok(&WHOLE[8..]))
+        && comes(assembler, Err(fault))
+        && assembler.feed(&WHOLE).is_ok()
+        && comes(assembler, Err(fault))
+        && assembler.rest() == Some(fault.place())
+}
+
+#[test]
+fn a_refused_header_is_told_again_and_again(rt: HostRuntime) {
+    let (place, length) = (16, 67_108_865);
+    let (have, came) = (None, 7);
+    let table: [(&[u8], FrameFault); 3] = [
+        (&[0xCB], FrameFault::BadMagic { byte: 0xCB, place }),
+        (
+            b"\xCA\x02\0\x02\x01\0\0\x04",
+            FrameFault::TooLong { length, place },
+        ),
+        (&LAST, FrameFault::BadSegment { have, came, place }),
+    ];
+    for (bytes, fault) in table {
+        let mut assembler = Assembler::new(rt.alloc());
+        assert!(rt; is_refused(&mut assembler, bytes, fault));
+        assert_eq!(rt; fault.place(), 16);
+    }
 }
 
 /// Appends a message whose payload is written behind the room for its header.

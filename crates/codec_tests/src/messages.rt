@@ -1,3 +1,4 @@
+use crate::frames::discard;
 use pva_messages::{MessageFault, ToClient, read_reply, request_in};
 use pva_wire::{Order, write_size};
 use pvd_codec::ValueFault;
@@ -28,7 +29,11 @@ fn methods_in(message: &ToClient) -> usize {
 fn methods_of(alloc: Global, payload: &[u8]) -> Result<usize, MessageFault> {
     let mut registry = Registry::new(alloc);
     match read_reply(alloc, Order::Little, 1, payload, &mut registry, None) {
-        Ok(message) => Ok(methods_in(&message)),
+        Ok(message) => {
+            let count = methods_in(&message);
+            discard(message);
+            Ok(count)
+        }
         Err(fault) => Err(fault),
     }
 }

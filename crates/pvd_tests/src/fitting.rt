@@ -1,135 +1,69 @@
-use pvd_type::{Extent, Member, Name, NoMemory, Node, PvType, Scalar, Shape};
-use pvd_value::{Items, PvValue, fits};
+use crate::spelled::{described, discard, spelled};
+use pvd_type::{NoMemory, PvType, Shape};
+use pvd_value::{PvValue, blank, fits};
 use std::alloc::Global;
-use std::sync::Arc;
-use std::test::Fail;
 
-/// Lets a value go.
-fn discard<T: Drop>(_value: T) {}
-
-/// A node without an id and one member for each of these names, all of one scalar type.
-fn node(alloc: Global, names: &[&str], scalar: Scalar) -> Result<Arc<Node>, NoMemory> {
-    let mut members = Vec::new(alloc);
-    for name in names {
-        members.push(Member {
-            name: Name::of(alloc, name)?,
-            shape: Shape::Plain(scalar),
-        })?;
-    }
-    Node::of(alloc, Name::of(alloc, "")?, members)
+/// Whether a value is of the type that these bytes describe.
+fn is_of(alloc: Global, ty: &[u8], value: &PvValue) -> Option<bool> {
+    let ty = described(alloc, ty)?;
+    Some(fits(&ty, value))
 }
 
-/// Whether a value is of a type. Both are let go.
-fn suits(ty: PvType, value: PvValue) -> bool {
-    let right = fits(&ty, &value);
-    discard(ty);
+/// Whether the value of one type that these bytes spell is of another type.
+fn is_also(alloc: Global, own: &[u8], bytes: &[u8], other: &[u8]) -> Option<bool> {
+    let own = described(alloc, own)?;
+    let value = spelled(alloc, &own, bytes)?;
+    let right = is_of(alloc, other, &value);
     discard(value);
     right
 }
 
-/// Whether a value is of the type of this shape.
-fn has_shape(alloc: Global, shape: Shape, value: PvValue) -> bool {
-    match PvType::check(alloc, shape) {
-        Ok(ty) => suits(ty, value),
-        Err(_) => {
-            discard(value);
-            false
-        }
-    }
-}
+/// Unions of three ints and of two.
+const THREE: &[u8] = b"\x81\0\x03\x01x\x22\x01y\x22\x01z\x22";
 
-/// Whether a list of so many ubytes is of the type of a list of this extent and these elements.
-fn is_list(alloc: Global, scalar: Scalar, extent: Extent, count: usize) -> bool {
-    match vec![in alloc; 0u8; count] {
-        Ok(items) => {
-            has_shape(
-                alloc,
-                Shape::List(scalar, extent),
-                PvValue::List(Items::U8(items)),
-            )
-        }
-        Err(_) => false,
-    }
-}
+const TWO: &[u8] = b"\x81\0\x02\x01x\x22\x01y\x22";
 
-/// Whether a text is of the type of a text of at most so many bytes.
-fn is_bound_text(alloc: Global, bound: u32, text: &str) -> bool {
-    match Name::of(alloc, text) {
-        Ok(name) => has_shape(alloc, Shape::BoundText(bound), PvValue::Text(name)),
-        Err(_) => false,
-    }
-}
+/// Lists of them.
+const THREES: &[u8] = b"\x89\x81\0\x03\x01x\x22\x01y\x22\x01z\x22";
+
+const TWOS: &[u8] = b"\x89\x81\0\x02\x01x\x22\x01y\x22";
 
 #[test]
-fn lists_and_texts_keep_to_their_bounds(rt: HostRuntime) -> Result<(), Fail> {
-    let alloc = rt.alloc();
-    let table = [
-        (Extent::Variable, 0, true),
-        (Extent::Variable, 5, true),
-        (Extent::Bounded(2), 2, true),
-        (Extent::Bounded(2), 3, false),
-        (Extent::Fixed(2), 2, true),
-        (Extent::Fixed(2), 1, false),
-        (Extent::Fixed(2), 3, false),
+fn lists_texts_and_unions_keep_to_their_bounds(rt: HostRuntime) {
+    // a type, a value of it, another type, and whether the value is of this too
+    let table: [(&[u8], &[u8], &[u8], bool); 25] = [
+        // ubytes of any number, at most two and two, and bytes in place of ubytes
+        (&[0x2C], &[0], &[0x2C], true),
+        (&[0x2C], &[0], &[0x28], false),
+        (&[0x2C], &[5, 0, 0, 0, 0, 0], &[0x2C], true),
+        (&[0x2C], &[5, 0, 0, 0, 0, 0], &[0x28], false),
+        (&[0x2C], &[2, 0, 0], &[0x34, 2], true),
+        (&[0x2C], &[2, 0, 0], &[0x30, 2], false),
+        (&[0x2C], &[3, 0, 0, 0], &[0x34, 2], false),
+        (&[0x2C], &[3, 0, 0, 0], &[0x30, 2], false),
+        (&[0x2C], &[2, 0, 0], &[0x3C, 2], true),
+        (&[0x2C], &[2, 0, 0], &[0x38, 2], false),
+        (&[0x2C], &[1, 0], &[0x3C, 2], false),
+        (&[0x2C], &[1, 0], &[0x38, 2], false),
+        (&[0x2C], &[3, 0, 0, 0], &[0x3C, 2], false),
+        (&[0x2C], &[3, 0, 0, 0], &[0x38, 2], false),
+        // texts of at most three bytes
+        (&[0x60], &[0], &[0x83, 3], true),
+        (&[0x60], b"\x03abc", &[0x83, 3], true),
+        (&[0x60], b"\x04abcd", &[0x83, 3], false),
+        (&[0x60], b"\x03a\xC3\x9F", &[0x83, 3], true),
+        (&[0x60], b"\x04a\xC3\x9Fb", &[0x83, 3], false),
+        // a union, and behind a null element of a list
+        (THREE, &[0, 0, 0, 0, 3], TWO, true),
+        (THREE, &[1, 0, 0, 0, 3], TWO, true),
+        (THREE, &[2, 0, 0, 0, 3], TWO, false),
+        (THREES, &[2, 0, 1, 0, 0, 0, 0, 3], TWOS, true),
+        (THREES, &[2, 0, 1, 1, 0, 0, 0, 3], TWOS, true),
+        (THREES, &[2, 0, 1, 2, 0, 0, 0, 3], TWOS, false),
     ];
-    for (extent, count, expected) in table {
-        assert_eq!(rt; is_list(alloc, Scalar::U8, extent, count), expected);
-        assert!(rt; !is_list(alloc, Scalar::I8, extent, count));
-    }
-    for (text, expected) in [
-        ("", true),
-        ("abc", true),
-        ("abcd", false),
-        ("aß", true),
-        ("aßb", false),
-    ] {
-        assert_eq!(rt; is_bound_text(alloc, 3, text), expected, "at {text}");
-    }
-    Ok(())
-}
-
-/// A union of two ints.
-fn two_ints(alloc: Global) -> Result<Arc<Node>, NoMemory> {
-    node(alloc, &["x", "y"], Scalar::I32)
-}
-
-/// The union of an int and an int that has its member in this place.
-fn selected(alloc: Global, place: u32) -> Result<PvValue, NoMemory> {
-    let inner = Box::new(alloc, PvValue::I32(3))?;
-    Ok(PvValue::Union(Some((place, inner))))
-}
-
-/// Whether the union with its member in this place is of its type.
-fn is_union(alloc: Global, place: u32) -> bool {
-    let Ok(value) = selected(alloc, place) else {
-        return false;
-    };
-    match two_ints(alloc) {
-        Ok(node) => has_shape(alloc, Shape::Union(node), value),
-        Err(_) => {
-            discard(value);
-            false
-        }
-    }
-}
-
-/// A null element and a union with its member in this place.
-fn null_and_selected(alloc: Global, place: u32) -> Result<PvValue, NoMemory> {
-    let element = Box::new(alloc, selected(alloc, place)?)?;
-    Ok(PvValue::UnionList(vec![in alloc; None, Some(element)]?))
-}
-
-/// Whether the list of a null and of the union with its member in this place is of its type.
-fn is_union_list(alloc: Global, place: u32) -> bool {
-    let Ok(value) = null_and_selected(alloc, place) else {
-        return false;
-    };
-    match two_ints(alloc) {
-        Ok(node) => has_shape(alloc, Shape::UnionList(node), value),
-        Err(_) => {
-            discard(value);
-            false
-        }
+    for (own, bytes, other, expected) in table {
+        let also = is_also(rt.alloc(), own, bytes, other);
+        assert_eq!(rt; also, Some(expected), "{bytes:?} as {other:?}");
     }
 }
 
@@ -145,27 +79,59 @@ fn holding(alloc: Global, value: PvValue) -> Result<PvValue, NoMemory> {
     }
 }
 
-/// Whether so many variants inside one another, the last of which is null, are a variant.
-fn is_variant(alloc: Global, count: u32) -> bool {
-    let mut value = PvValue::Variant(None);
-    for _ in 1..count {
-        let Ok(outer) = holding(alloc, value) else {
-            return false;
-        };
-        value = outer;
-    }
-    has_shape(alloc, Shape::Variant, value)
+/// Whether the variant that these bytes spell is a variant once it stands inside another one.
+fn is_variant_inside(alloc: Global, bytes: &[u8]) -> Option<bool> {
+    let ty = described(alloc, &[0x82])?;
+    let inner = spelled(alloc, &ty, bytes)?;
+    let Ok(value) = holding(alloc, inner) else {
+        return None;
+    };
+    let right = fits(&ty, &value);
+    discard(value);
+    Some(right)
 }
 
 #[test]
-fn unions_and_variants_keep_to_their_members_and_depth(rt: HostRuntime) -> Result<(), Fail> {
-    let alloc = rt.alloc();
-    for (place, expected) in [(0, true), (1, true), (2, false)] {
-        assert_eq!(rt; is_union(alloc, place), expected, "at {place}");
-        assert_eq!(rt; is_union_list(alloc, place), expected, "at {place}");
+fn sixteen_variants_may_stand_inside_one_another(rt: HostRuntime) {
+    // one, fifteen and sixteen variants, the last of which is null
+    let variants = b"\x82\x82\x82\x82\x82\x82\x82\x82\x82\x82\x82\x82\x82\x82\x82\xFF";
+    for (bytes, expected) in [
+        (&variants[15..], true),
+        (&variants[1..], true),
+        (&variants[..], false),
+    ] {
+        let inside = is_variant_inside(rt.alloc(), bytes);
+        assert_eq!(rt; inside, Some(expected), "{bytes:?}");
     }
-    for (count, expected) in [(1, true), (16, true), (17, false)] {
-        assert_eq!(rt; is_variant(alloc, count), expected, "at {count}");
+}
+
+/// How many elements a list has.
+fn list_length(value: &PvValue) -> Option<usize> {
+    match value {
+        PvValue::List(items) => Some(items.len()),
+        _ => None,
     }
-    Ok(())
+}
+
+/// How many elements the blank value has of the type that these bytes describe; none where it takes too much memory.
+fn blank_length(alloc: Global, ty: &[u8]) -> Option<Option<usize>> {
+    let ty = described(alloc, ty)?;
+    let Ok(value) = blank(alloc, &ty) else {
+        return Some(None);
+    };
+    let count = list_length(&value);
+    discard(value);
+    Some(count)
+}
+
+#[test]
+fn blank_lists_of_a_fixed_length_are_full(rt: HostRuntime) {
+    // three texts; a thousand doubles; one double more than a payload can hold
+    for (ty, count) in [
+        (&[0x78, 3][..], Some(3)),
+        (&[0x5B, 0xFE, 0, 0, 3, 0xE8][..], Some(1000)),
+        (&[0x5B, 0xFE, 0, 0x80, 0, 1][..], None),
+    ] {
+        assert_eq!(rt; blank_length(rt.alloc(), ty), Some(count), "{ty:?}");
+    }
 }
