@@ -9,7 +9,8 @@ trap 'rm -rf "$room"' EXIT
 git clone -q . "$room/all"
 cd "$room/all"
 rm -f crates/*/must-fail/*.edit
-[ $# -gt 0 ] || set -- $(ls crates)
+mapfile -t all < <(ls crates)
+[ $# -gt 0 ] || set -- "${all[@]}"
 tried=()
 for crate in "$@"; do
     [ -d "crates/$crate/src" ] || { echo "$crate is no crate" >&2; exit 2; }
