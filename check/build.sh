@@ -48,10 +48,11 @@ copy_crates() {
 # Leaves both programs in crates/NAME/out, proved and built of the tree as it stands, and does nothing where they are there already. Each crate that is
 # proved is told in a line.
 #
-# `rt run` and `rt lib` prove the libraries below a crate one after another. `rt ci` proves as many at a time as there are processors and memory for,
-# from nothing or by what it kept of the same files, and leaves the programs. It would try every wrong body and test too, so that it runs over a copy
-# that has only what the programs stand on: neither the order of the crates nor the number of processors has to be known here. (`rt ci pvaserve pvac`
-# throws its programs away, and tries the wrong bodies.) What it keeps serves the tree's own `rt ci` as well.
+# `rt run` and `rt lib` prove the libraries below a crate one after another, and hold all their proofs in memory. `rt ci` proves as many at a time as
+# there are processors and memory for, from nothing or by what it kept of the same files, over the statements of those below alone, and leaves the
+# programs. It would try every wrong body and test too, so that it runs over a copy that has only what the programs stand on: neither the order of the
+# crates nor the number of processors has to be known here. (`rt ci pvaserve pvac` throws its programs away, and tries the wrong bodies.) What it keeps
+# serves the tree's own `rt ci` as well.
 build_programs() {
     local copy=$room/build name
     is_current pvaserve && is_current pvac && return
