@@ -54,7 +54,8 @@ link_built() {
 choose_programs() {
     programs=$room/programs/bin pages=docs/man
     if [ "${1-}" = --build ]; then
-        echo "Proving and building pvaserve and pvac of this tree. On a machine that proved nothing of it before, that takes more than half an hour."
+        is_current pvaserve && is_current pvac ||
+            echo "Proving and building pvaserve and pvac of this tree. On a machine that proved nothing of it before, that takes more than half an hour."
         build_programs && link_built "$programs" || return 1
         echo "pvaserve and pvac were built of this tree, and all that they stand on is proved."
     elif has_release; then
