@@ -52,7 +52,7 @@ copy_crates() {
 # there are processors and memory for, from nothing or by what it kept of the same files, over the statements of those below alone, and leaves the
 # programs. It would try every wrong body and test too, so that it runs over a copy that has only what the programs stand on: neither the order of the
 # crates nor the number of processors has to be known here. (`rt ci pvaserve pvac` throws its programs away, and tries the wrong bodies.) What it keeps
-# serves the tree's own `rt ci` as well. With --anew it takes nothing of what was kept.
+# serves the tree's own `rt ci` as well. Where `anew` is set it takes nothing of what was kept.
 build_programs() {
     local copy=$room/build name
     is_current pvaserve && is_current pvac && return
@@ -63,7 +63,7 @@ build_programs() {
     : >"$room/begun"
     copy_crates "$copy" pvaserve pvac || return 1
     use_processors
-    (cd "$copy" && exec rt ci "$@") </dev/null 2>&1 | tee "$room/build.log" | sed -un 's/^rt: \([a-z_0-9]* proved\)$/  \1/p'
+    (cd "$copy" && exec rt ci ${anew:+--anew}) </dev/null 2>&1 | tee "$room/build.log" | sed -un 's/^rt: \([a-z_0-9]* proved\)$/  \1/p'
     if [ "${PIPESTATUS[0]}" -ne 0 ]; then
         tail -n 40 "$room/build.log" >&2
         return 1
