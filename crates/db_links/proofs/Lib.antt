@@ -1,0 +1,4 @@
+mod Wording
+mod Naming
+mod Inside
+mod Walking

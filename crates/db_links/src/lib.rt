@@ -1,0 +1,15 @@
+//! Database links: which records a record reaches by its fields INP, OUT and FLNK, and which steps the actions of one
+//! entry come to (EPICS record reference, "Database Links").
+#![tactic(auto)]
+
+mod building;
+mod converting;
+mod fields;
+mod link;
+mod numbers;
+mod reaching;
+mod words;
+
+pub use converting::convert;
+pub use link::Links;
+pub use pvd_type::NoMemory;
