@@ -78,7 +78,7 @@ any_inside count (Some l) q i e =
       | inr x ↦ named_inside count l.flnk q p.1 x
     ]
 
-each_inside : (count : ℕ) (ls : List RecordLinks) (a : ℕ) (r : RecordLinks) → list_all (all_inside count) ls ≡ true → slice_get ls a ≡ Some r → all_inside count r ≡ true
+pub each_inside : (count : ℕ) (ls : List RecordLinks) (a : ℕ) (r : RecordLinks) → list_all (all_inside count) ls ≡ true → slice_get ls a ≡ Some r → all_inside count r ≡ true
 each_inside count [] a r all e = let within : a < 0 = slice_get_within [] a r e in absurd (omega arith)
 each_inside count (l ∷ ls) zero r all e = ap (all_inside count) (sym (some_inj e)) ∙ (both (all_inside count l) (list_all (all_inside count) ls) all).0
 each_inside count (l ∷ ls) (suc a) r all e = each_inside count ls a r (both (all_inside count l) (list_all (all_inside count) ls) all).1 e

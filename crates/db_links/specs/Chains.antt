@@ -1,5 +1,5 @@
 -- What one entry does to records by their live links (EPICS record reference, "Scan, Link and Lock").
-use Rattle.std.specs.Prelude.{◌≡◌, ⊤, ℕ, ◌==◌, Bool, true, false, ◌||◌, List, [], ◌∷◌, ◌++◌, map, Option, Some, None, if◌then◌else◌}
+use Rattle.std.specs.Prelude.{◌≡◌, ◌<◌, ⊤, ℕ, ◌==◌, Bool, true, false, ◌||◌, List, [], ◌∷◌, ◌++◌, map, Option, Some, None, if◌then◌else◌}
 use Rattle.std.specs.List.{slice_get}
 use Rattle.std.specs.Option.{option_and_then, option_map}
 use Rattle.rec_kinds.specs.Configs.{Config}
@@ -125,7 +125,7 @@ pub data Does (site : Site) : Due → Scene → List Step → Scene → Type 0 w
       → Does site (writing (written_of site rec (stepped site rec (fetched site rec action fed) fed)))
       (stepped site rec (fetched site rec action fed) fed) next out
       → Does site (processing (forward_of site rec out)) out last end
-      → Does site (whole rec action) s (first ++ (rec, fetched site rec action fed) ∷ next ++ last) end
+      → Does site (whole rec action) s (first ++ (rec, fetched site rec action fed) ∷ (next ++ last)) end
 
 -- Doing actions one after another.
 pub data DoesAll (site : Site) : List Step → Scene → List Step → Scene → Type 0 where
@@ -159,7 +159,7 @@ AreValid configs states =
 abbrev pub MayBeStep : List Config → Step → Type 0
 MayBeStep configs step = (config : Config) → slice_get configs step.0 ≡ Some config → MayBeDone config step.1
 
--- each action may
-abbrev pub MayBeSteps : List Config → List Step → Type 0
-MayBeSteps configs [] = ⊤
-MayBeSteps configs (step ∷ steps) = MayBeStep configs step × MayBeSteps configs steps
+-- each of these actions may, and is on one of so many records
+abbrev pub MayBeAsked : List Config → ℕ → List Step → Type 0
+MayBeAsked configs count [] = ⊤
+MayBeAsked configs count (step ∷ steps) = (step.0 < count) × MayBeStep configs step × MayBeAsked configs count steps

@@ -5,3 +5,5 @@ pub mod Reaching
 pub mod Converting
 pub mod Chains
 pub mod Walks
+pub mod Courses
+pub mod Leading

@@ -3,7 +3,10 @@
 #![tactic(auto)]
 
 mod building;
+mod chain;
 mod converting;
+mod course;
+mod doing;
 mod fields;
 mod link;
 mod numbers;

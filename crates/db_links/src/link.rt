@@ -1,6 +1,5 @@
 // Live links.
-ghost use Rattle.std.specs.Prelude.{◌≡◌, slice_get};
-ghost use Rattle.std.specs.Option.{option_and_then};
+ghost use Rattle.std.specs.Prelude.{◌≡◌};
 
 use std::marker::Model;
 
@@ -41,27 +40,4 @@ impl Model for Links {
     ghost view = { λ l. l.by_record.items };
 
     ghost invariant = { λ l. are_inside l.by_record.items ≡ true };
-}
-
-impl Links {
-    /// The live link INP of a record.
-    pub(crate) fn inp(&self, rec: u32) -> Option<Link>
-        ensures { result ≡ option_and_then (λ l. l.inp) (slice_get self.now rec) }
-    {
-        self.by_record.get(rec as usize)?.inp
-    }
-
-    /// The live link OUT of a record.
-    pub(crate) fn out(&self, rec: u32) -> Option<Link>
-        ensures { result ≡ option_and_then (λ l. l.out) (slice_get self.now rec) }
-    {
-        self.by_record.get(rec as usize)?.out
-    }
-
-    /// The live link FLNK of a record.
-    pub(crate) fn flnk(&self, rec: u32) -> Option<Link>
-        ensures { result ≡ option_and_then (λ l. l.flnk) (slice_get self.now rec) }
-    {
-        self.by_record.get(rec as usize)?.flnk
-    }
 }
