@@ -6,3 +6,4 @@ mod Machine
 mod Sound
 mod Allowed
 mod Turning
+mod Lawful

@@ -7,3 +7,4 @@ pub mod Chains
 pub mod Walks
 pub mod Courses
 pub mod Leading
+pub mod Laws

@@ -8,11 +8,13 @@ mod converting;
 mod course;
 mod doing;
 mod fields;
+mod laws;
 mod link;
 mod numbers;
 mod reaching;
 mod words;
 
 pub use converting::convert;
+pub use laws::{others_once, steps_are_reached};
 pub use link::Links;
 pub use pvd_type::NoMemory;
