@@ -1,5 +1,5 @@
 -- Links name records of their text.
-use Rattle.std.proofs.Common.{◌≡◌, ℕ, ◌+◌, ◌<◌, Bool, true, false, cond, ◌&&◌, ltb, Option, None, Some, List, [], ◌∷◌, length, map, refl, sym, ap, ◌∙◌, subst, arith, codes, IfSome}
+use Rattle.std.proofs.Common.{◌≡◌, ℕ, ◌+◌, ◌<◌, Bool, true, false, cond, ltb, Option, None, Some, List, [], ◌∷◌, length, map, refl, ap, ◌∙◌, arith, codes, IfSome}
 use Rattle.std.proofs.lemmas.Bool.{lt-ltb}
 use Rattle.std.proofs.lemmas.List.{length-map}
 use Rattle.std.specs.List.{list_all, list_any}
@@ -10,7 +10,6 @@ use Rattle.rec_kinds.specs.declared.record_text.RecText.{RecText}
 use Rattle.db_links.specs.Words.{words, before}
 use Rattle.db_links.specs.Live.{number_from, number_of, number_before, value_of, target_named, link_of, link_in, links_in, links_of, counted, has_inp, out_counts, is_inside, all_inside, are_inside}
 use Rattle.db_links.specs.declared.link.Link.{Link}
-use Rattle.db_links.specs.declared.link.RecordLinks.{RecordLinks}
 
 abbrev Below : ℕ → Option ℕ → Type 0
 Below count o = IfSome o (λ k. k < count)

@@ -9,12 +9,12 @@ use Rattle.rec_kinds.specs.declared.datum.Action.TheVariants.{Put, Process}
 use Rattle.rec_kinds.specs.declared.datum.Datum.{Datum}
 use Rattle.db_links.specs.Live.{names, any_names, leads}
 use Rattle.db_links.specs.Reaching.{Reached, itself, further, is_among}
-use Rattle.db_links.specs.Chains.{Site, Scene, Step, Due, nothing, alone, whole, Does, nothing_due, one_step, in_order, DoesAll, all_done, one_more, IsChain, roots, marked, stepped, open_link, pp_target, link_at, source_of, fetched, moved, written_of, forward_of, processing, writing}
+use Rattle.db_links.specs.Chains.{Site, Scene, Step, Due, nothing, alone, whole, Does, nothing_due, one_step, in_order, DoesAll, all_done, one_more, roots, marked, stepped, open_link, pp_target, link_at, source_of, fetched, moved, written_of, forward_of, processing, writing}
 use Rattle.db_links.specs.Laws.{times, ReachedByRoot, StepsAreReached, OthersOnce}
 use Rattle.db_links.specs.declared.link.Link.{Link}
 use Rattle.db_links.specs.declared.link.RecordLinks.{RecordLinks}
 use Rattle.db_links.proofs.Walking.{split_or, left_or, right_or, same_is, equal}
-use Rattle.db_links.proofs.Sound.{none_some, some_same, opened}
+use Rattle.db_links.proofs.Sound.{none_some, opened}
 
 -- ---- what a link asks for is on a record that it names and that isn't marked done
 

@@ -6,7 +6,7 @@ use Rattle.rec_kinds.specs.declared.datum.Action.TheVariants.{Put, Process}
 use Rattle.rec_kinds.specs.declared.datum.Datum.{Datum}
 use Rattle.rec_kinds.specs.declared.state.RecState.{RecState}
 use Rattle.db_links.specs.Chains.{Site, Scene, Step, Does, nothing_due, one_step, in_order, IsChain, opening, DoesAll, all_done, one_more, whole, alone, marked, stepped, source_of, fetched, written_of, forward_of, processing, writing}
-use Rattle.db_links.specs.Courses.{Stage, with_task, with_mark, with_step, begun, asked, written, wrote, after_step, turned}
+use Rattle.db_links.specs.Courses.{Stage, with_task, with_mark, with_step, begun, asked, wrote, after_step, turned}
 use Rattle.db_links.specs.Leading.{Ends, Begins, Means, Rest, Later, Leads, Took, Goes}
 use Rattle.db_links.specs.declared.course.Task.{Task}
 use Rattle.db_links.specs.declared.course.Task.TheVariants.{Fetch, MakeStep, Forward}

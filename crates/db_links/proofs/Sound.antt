@@ -1,26 +1,24 @@
 -- What is left of a chain may be done, and grows less.
-use Rattle.std.proofs.Common.{◌≡◌, ℕ, zero, suc, ◌+◌, ◌*◌, ◌<◌, ◌≤◌, ℤ, pos, negsuc, Bool, true, false, cond, ◌||◌, ◌&&◌, eqb, Option, None, Some, Result, Ok, Err, IfOk, OnOk, IfSome, is_some, List, [], ◌∷◌, ◌++◌, length, refl, sym, ap, ◌∙◌, subst, arith, inl, inr}
+use Rattle.std.proofs.Common.{◌≡◌, ℕ, ◌<◌, Bool, true, false, cond, ◌&&◌, eqb, Option, None, Some, Result, Ok, Err, IfOk, OnOk, is_some, List, [], ◌∷◌, ◌++◌, length, refl, sym, ap, ◌∙◌, subst}
 use Rattle.std.proofs.lemmas.Bool.{true≢false, ltb-true}
-use Rattle.std.proofs.lemmas.Bool.Decides.{eqb_tells}
-use Rattle.std.specs.List.{slice_get, list_all}
-use Rattle.std.specs.Option.{option_and_then, option_map, unwrap_or}
+use Rattle.std.specs.List.{slice_get}
+use Rattle.std.specs.Option.{option_and_then, unwrap_or}
 use Rattle.rec_kinds.specs.Configs.{Config}
 use Rattle.rec_kinds.specs.Moments.{Instant}
 use Rattle.rec_kinds.specs.Processing.{processed}
 use Rattle.rec_kinds.specs.Validity.{IsValid, MayBeDone}
 use Rattle.rec_kinds.proofs.Keeping.{valid_after}
 use Rattle.rec_kinds.specs.declared.datum.Action.{Action}
-use Rattle.rec_kinds.specs.declared.datum.Action.TheVariants.{Put, Process}
 use Rattle.rec_kinds.specs.declared.state.RecState.{RecState}
 use Rattle.db_links.specs.Live.{is_inside, all_inside, are_inside}
-use Rattle.db_links.specs.Chains.{Site, Scene, Step, AreValid, MayBeStep, state_after, stepped, marked, open_link}
-use Rattle.db_links.specs.Courses.{Stage, IsSite, IsSound, IsTask, AreTasks, site_of, with_task, with_mark, after_step}
+use Rattle.db_links.specs.Chains.{Scene, AreValid, MayBeStep, state_after, stepped, open_link}
+use Rattle.db_links.specs.Courses.{Stage, IsSound, IsTask, AreTasks, site_of, with_task, after_step}
 use Rattle.db_links.specs.declared.course.Records.{Records}
 use Rattle.db_links.specs.declared.course.Task.{Task}
-use Rattle.db_links.specs.declared.course.Task.TheVariants.{Fetch, MakeStep, Forward}
+use Rattle.db_links.specs.declared.course.Task.TheVariants.{MakeStep, Forward}
 use Rattle.db_links.specs.declared.link.Link.{Link}
 use Rattle.db_links.specs.declared.link.RecordLinks.{RecordLinks}
-use Rattle.db_links.proofs.Walking.{both, equal, split_or, each_inside}
+use Rattle.db_links.proofs.Walking.{both, equal, each_inside}
 
 pub on_more : {A E : Type 0} {P Q : Type 0} (r : Result A E) → OnOk r P → (P → Q) → OnOk r Q
 on_more (Ok x) p f = f p

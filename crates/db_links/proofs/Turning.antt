@@ -1,18 +1,17 @@
 -- A task that is done leaves what may be done, and less of it.
-use Rattle.std.proofs.Common.{◌≡◌, ℕ, zero, suc, ◌+◌, ◌*◌, ◌<◌, ◌≤◌, Bool, true, false, cond, ◌||◌, eqb, Option, None, Some, List, [], ◌∷◌, ◌++◌, length, refl, sym, ap, ◌∙◌, subst, arith, inl, inr, sum_by, IfSome}
+use Rattle.std.proofs.Common.{◌≡◌, ℕ, zero, suc, ◌+◌, ◌<◌, ◌≤◌, Bool, true, false, cond, ◌||◌, eqb, Option, None, Some, List, [], ◌∷◌, ◌++◌, length, refl, sym, ap, ◌∙◌, subst, arith, inl, inr, sum_by, IfSome}
 use Rattle.std.proofs.lemmas.Bool.{cases_lt, true≢false}
 use Rattle.std.proofs.lemmas.Bool.Decides.{eqb_tells}
 use Rattle.std.proofs.lemmas.List.Sums.{sum_by-cons}
 use Rattle.std.specs.List.{slice_get}
 use Rattle.std.specs.Option.{option_and_then, option_map}
-use Rattle.rec_kinds.specs.Configs.{Config}
 use Rattle.rec_kinds.specs.declared.datum.Action.{Action}
 use Rattle.rec_kinds.specs.declared.datum.Action.TheVariants.{Put, Process}
 use Rattle.rec_kinds.specs.declared.datum.Datum.{Datum}
 use Rattle.rec_kinds.specs.declared.state.RecState.{RecState}
 use Rattle.db_links.specs.Converting.{converted}
-use Rattle.db_links.specs.Chains.{Site, Scene, Step, AreValid, MayBeStep, MayBeAsked, roots, marked, open_link, pp_target, inp_at, out_at, source_of, fetched, moved, put_or_process, written_of, forward_of}
-use Rattle.db_links.specs.Courses.{Stage, IsSite, IsSound, IsTask, AreTasks, undone, weight, left_of, site_of, with_task, with_mark, with_step, begun, asked, written, wrote, after_step, turned, at_start}
+use Rattle.db_links.specs.Chains.{Site, Scene, Step, AreValid, MayBeStep, MayBeAsked, roots, marked, open_link, pp_target, source_of, fetched, moved, put_or_process, written_of, forward_of}
+use Rattle.db_links.specs.Courses.{Stage, IsSite, IsSound, undone, weight, left_of, site_of, with_task, with_mark, with_step, begun, asked, wrote, after_step, turned, at_start}
 use Rattle.db_links.specs.Reaching.{is_among}
 use Rattle.db_links.specs.declared.course.Records.{Records}
 use Rattle.db_links.specs.declared.course.Task.{Task}
@@ -20,8 +19,8 @@ use Rattle.db_links.specs.declared.course.Task.TheVariants.{Fetch, MakeStep, For
 use Rattle.rec_kinds.specs.Validity.{IsAllowed}
 use Rattle.db_links.specs.declared.link.Link.{Link}
 use Rattle.db_links.specs.declared.link.RecordLinks.{RecordLinks}
-use Rattle.db_links.proofs.Walking.{split_or, equal, same_is}
-use Rattle.db_links.proofs.Sound.{some_same, none_some, inp_inside, out_inside, flnk_inside, opened, valid_step, tasks_more, tasks_less, sound_step}
+use Rattle.db_links.proofs.Walking.{split_or, equal}
+use Rattle.db_links.proofs.Sound.{none_some, inp_inside, out_inside, flnk_inside, opened, valid_step, tasks_more, tasks_less, sound_step}
 use Rattle.db_links.proofs.Allowed.{allowed_of}
 
 -- ---- marks

@@ -1,5 +1,5 @@
 -- What a link moves into a record (EPICS record reference, "Database Links").
-use Rattle.std.specs.Prelude.{ℤ, pos, List, Option, Some, None, if◌then◌else◌}
+use Rattle.std.specs.Prelude.{ℤ, pos, Option, Some, None, if◌then◌else◌}
 use Rattle.std.specs.Option.{option_and_then, option_map, is_some}
 use Rattle.rec_kinds.specs.Configs.{Config}
 use Rattle.rec_kinds.specs.Ranges.{Range, uint16}
@@ -8,7 +8,7 @@ use Rattle.rec_kinds.specs.Texts.{text_of_datum}
 use Rattle.rec_kinds.specs.Told.{index_told}
 use Rattle.rec_kinds.specs.Validity.{refusal}
 use Rattle.rec_kinds.specs.declared.datum.Datum.{Datum}
-use Rattle.rec_kinds.specs.declared.datum.Datum.TheVariants.{Num, Index, Text, Nums, Texts}
+use Rattle.rec_kinds.specs.declared.datum.Datum.TheVariants.{Num, Index, Text}
 
 -- the number that a number or an index is
 abbrev pub number_in : Datum → Option ℤ

@@ -3,9 +3,8 @@ use Rattle.std.specs.Prelude.{◌≡◌, ⊤, ◌<◌, ℕ, zero, suc, ◌+◌, 
 use Rattle.std.specs.List.{slice_get, sum_by}
 use Rattle.std.specs.Option.{option_or}
 use Rattle.std.specs.Ordering.{nat_cmp}
-use Rattle.std.specs.BTreeSet.{BTreeSet, contains_by}
+use Rattle.std.specs.BTreeSet.{contains_by}
 use Rattle.std.specs.BTreeMap as maps
-use Rattle.std.specs.BTreeMap.{BTreeMap}
 use Rattle.rec_kinds.specs.declared.datum.Datum.{Datum}
 use Rattle.rec_kinds.specs.declared.datum.Action.{Action}
 use Rattle.rec_kinds.specs.declared.datum.Action.TheVariants.{Put, Process}

@@ -5,7 +5,7 @@ use Rattle.std.specs.Option.{option_or, option_map, option_and_then}
 use Rattle.std.specs.Str.{bytes_eq}
 use Rattle.rec_kinds.specs.Given.{text_of, is_file}
 use Rattle.rec_kinds.specs.declared.kind.Kind.{Kind}
-use Rattle.rec_kinds.specs.declared.kind.Kind.TheVariants.{Longin, Longout, Int64in, Int64out, Bi, Bo, Mbbi, Mbbo, Stringin, Stringout, Waveform}
+use Rattle.rec_kinds.specs.declared.kind.Kind.TheVariants.{Longin, Longout, Int64in, Int64out, Bi, Bo, Mbbi, Mbbo, Stringin, Stringout}
 use Rattle.rec_kinds.specs.declared.record_text.FieldText.{FieldText}
 use Rattle.rec_kinds.specs.declared.record_text.RecText.{RecText}
 use Rattle.db_links.specs.Words.{words, before}

@@ -1,4 +1,4 @@
-use Rattle.std.proofs.Common.{◌≡◌, ◌∙◌, ◌+◌, ◌<◌, ◌≤◌, ◌++◌, ◌∷◌, [], length, length-append, refl, ap, subst, arith, rules}
+use Rattle.std.proofs.Common.{◌≡◌, ◌∙◌, ◌+◌, ◌++◌, ◌∷◌, [], length, length-append, refl, ap, subst, arith, rules}
 use Rattle.std.specs.BTreeSet.{btree_set_len}
 use Rattle.std.specs.List.{slice_get}
 use Rattle.db_links.specs.Live.{any_names}

@@ -1,4 +1,4 @@
-use Rattle.std.proofs.Common.{ℕ, ◌+◌, ◌-◌, ◌*◌, length}
+use Rattle.std.proofs.Common.{◌+◌, ◌-◌, ◌*◌, length}
 use Rattle.std.specs.BTreeSet.{btree_set_len}
 use Rattle.db_links.specs.Walks.{IsWalk}
 use Rattle.db_links.proofs.reaching.follow_all.Given as goal

@@ -1,5 +1,5 @@
-use Rattle.std.proofs.Common.{rules, ◌≡◌, ◌≤◌, ◌<◌, ◌+◌, map, length, get_or, refl, sym, ap, ◌++◌, ◌∙◌, arith}
-use Rattle.db_links.specs.Words.{is_blank, word_of}
+use Rattle.std.proofs.Common.{rules, ◌<◌, map, length, refl, sym, ap, ◌++◌, ◌∙◌, arith}
+use Rattle.db_links.specs.Words.{word_of}
 use Rattle.db_links.proofs.Wording.{at_blank, begun_is}
 use Rattle.db_links.proofs.words.words.Goals as goal
 

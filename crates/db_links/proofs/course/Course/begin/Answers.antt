@@ -1,5 +1,5 @@
 use Rattle.std.proofs.Common.{◌∙◌, ap}
-use Rattle.db_links.specs.Courses.{Stage, scene_of, stage_of, with_task}
+use Rattle.db_links.specs.Courses.{scene_of, with_task}
 use Rattle.db_links.specs.declared.course.Task.TheVariants.{Fetch}
 use Rattle.db_links.proofs.course.Course.begin.Goals as goal
 

@@ -1,8 +1,8 @@
-use Rattle.std.proofs.Common.{◌≡◌, ap, sym, subst}
+use Rattle.std.proofs.Common.{sym, subst}
 use Rattle.rec_kinds.specs.Validity.{MayBeDone}
 use Rattle.db_links.specs.Chains.{Does, whole}
-use Rattle.db_links.specs.Courses.{IsSound, site_of, stage_of, begun}
-use Rattle.db_links.specs.Leading.{Leads, Goes}
+use Rattle.db_links.specs.Courses.{IsSound, site_of, stage_of}
+use Rattle.db_links.specs.Leading.{Leads}
 use Rattle.db_links.proofs.Machine.{root_done}
 use Rattle.db_links.proofs.Turning.{sound_begun}
 use Rattle.db_links.proofs.course.Course.do_root.Goals as goal

@@ -1,6 +1,5 @@
-use Rattle.std.proofs.Common.{◌∙◌, ap}
-use Rattle.db_links.specs.Courses.{Stage, site_of, scene_of, stage_of, asked, with_task}
-use Rattle.db_links.specs.declared.course.Task.TheVariants.{MakeStep}
+use Rattle.std.proofs.Common.{◌∙◌}
+use Rattle.db_links.specs.Courses.{scene_of, asked}
 use Rattle.db_links.proofs.Sound.{on_more}
 use Rattle.db_links.proofs.course.Course.fetch.Goals as goal
 

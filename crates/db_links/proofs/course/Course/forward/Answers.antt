@@ -1,7 +1,7 @@
-use Rattle.std.proofs.Common.{◌≡◌, ◌∙◌, Some, ap, sym}
+use Rattle.std.proofs.Common.{◌∙◌, ap, sym}
 use Rattle.std.specs.Option.{option_and_then, option_map}
-use Rattle.db_links.specs.Chains.{open_link, forward_of}
-use Rattle.db_links.specs.Courses.{site_of, scene_of, stage_of, asked}
+use Rattle.db_links.specs.Chains.{open_link}
+use Rattle.db_links.specs.Courses.{scene_of, stage_of, asked}
 use Rattle.db_links.proofs.Sound.{on_more}
 use Rattle.db_links.proofs.course.Course.forward.Goals as goal
 

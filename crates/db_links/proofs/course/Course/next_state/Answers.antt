@@ -1,4 +1,4 @@
-use Rattle.std.proofs.Common.{◌≡◌, Some, slice_index_or, sym, ap, ◌∙◌, rules, subst}
+use Rattle.std.proofs.Common.{Some, slice_index_or, sym, ap, ◌∙◌, rules}
 use Rattle.std.specs.List.{slice_get}
 use Rattle.db_links.specs.Chains.{state_after}
 use Rattle.db_links.proofs.Sound.{if_more}

@@ -1,4 +1,4 @@
-use Rattle.std.proofs.Common.{◌≡◌, ◌<◌, ◌++◌, ◌∷◌, [], length, ap, sym, ◌∙◌, subst, rules}
+use Rattle.std.proofs.Common.{◌≡◌, ◌<◌, ◌++◌, ◌∷◌, [], length, sym, subst, rules}
 use Rattle.db_links.specs.Courses.{Stage, IsSound, left_of, site_of, scene_of, stage_of, with_task, turned}
 use Rattle.db_links.specs.Leading.{Leads}
 use Rattle.db_links.proofs.Machine.{leads_on, turned_leads}

@@ -1,4 +1,4 @@
-use Rattle.std.proofs.Common.{◌≡◌, ◌∙◌, ap, sym, subst}
+use Rattle.std.proofs.Common.{◌∙◌, ap, sym, subst}
 use Rattle.rec_kinds.specs.declared.datum.Action.{Action}
 use Rattle.db_links.specs.Chains.{written_of}
 use Rattle.db_links.specs.Courses.{Stage, IsSound, site_of, scene_of, stage_of, with_task, after_step, wrote}

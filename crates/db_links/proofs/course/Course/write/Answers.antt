@@ -1,6 +1,4 @@
-use Rattle.std.proofs.Common.{◌≡◌, ◌<◌, length, ◌∙◌, ap, sym}
-use Rattle.std.specs.Option.{option_and_then}
-use Rattle.db_links.specs.Chains.{open_link}
+use Rattle.std.proofs.Common.{◌∙◌, sym}
 use Rattle.db_links.specs.Courses.{scene_of}
 use Rattle.db_links.proofs.Sound.{out_inside, opened}
 use Rattle.db_links.proofs.course.Course.write.Goals as goal

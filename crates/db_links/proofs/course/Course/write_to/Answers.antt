@@ -1,6 +1,6 @@
-use Rattle.std.proofs.Common.{◌≡◌, ◌∙◌, cond, ap, sym, subst}
+use Rattle.std.proofs.Common.{◌∙◌, cond, ap, sym, subst}
 use Rattle.db_links.specs.Chains.{AreValid}
-use Rattle.db_links.specs.Courses.{Stage, site_of, stage_of, begun, with_step, with_mark, written}
+use Rattle.db_links.specs.Courses.{Stage, site_of, stage_of, begun, with_step, with_mark}
 use Rattle.db_links.proofs.Sound.{on_more}
 use Rattle.db_links.proofs.course.Course.write_to.Goals as goal
 

@@ -1,4 +1,4 @@
-use Rattle.std.proofs.Common.{◌≡◌, ◌∙◌, List, [], true, length, ap, sym, subst, rules}
+use Rattle.std.proofs.Common.{◌≡◌, ◌∙◌, List, true, length, ap, sym, subst, rules}
 use Rattle.db_links.specs.Chains.{IsChain, MayBeAsked}
 use Rattle.db_links.specs.Courses.{Stage, IsSound, stage_of}
 use Rattle.db_links.specs.Live.{are_inside}

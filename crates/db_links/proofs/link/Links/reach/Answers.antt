@@ -1,4 +1,4 @@
-use Rattle.std.proofs.Common.{◌≡◌, subst, sym, ap, rules}
+use Rattle.std.proofs.Common.{subst, sym, rules}
 use Rattle.db_links.specs.Reaching.{IsReach}
 use Rattle.db_links.proofs.Walking.{walk_ends}
 use Rattle.db_links.proofs.link.Links.reach.Goals as goal
