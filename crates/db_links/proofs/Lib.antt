@@ -7,3 +7,4 @@ mod Sound
 mod Allowed
 mod Turning
 mod Lawful
+mod Alone

@@ -26,3 +26,9 @@ abbrev pub OthersOnce : Type 0
 OthersOnce =
     (site : Site) (states : List RecState) (actions steps : List Step) → IsChain site states actions steps
     → (q : ℕ) → is_among q (roots actions) ≡ false → times q steps ≤ 1
+
+-- The same actions after the same states have one chain.
+abbrev pub OneChain : Type 0
+OneChain =
+    (site : Site) (states : List RecState) (actions steps others : List Step) → IsChain site states actions steps
+    → IsChain site states actions others → steps ≡ others

@@ -15,6 +15,6 @@ mod reaching;
 mod words;
 
 pub use converting::convert;
-pub use laws::{others_once, steps_are_reached};
+pub use laws::{one_chain, others_once, steps_are_reached};
 pub use link::Links;
 pub use pvd_type::NoMemory;
