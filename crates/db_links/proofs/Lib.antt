@@ -1,0 +1,10 @@
+mod Wording
+mod Naming
+mod Inside
+mod Walking
+mod Machine
+mod Sound
+mod Allowed
+mod Turning
+mod Lawful
+mod Alone

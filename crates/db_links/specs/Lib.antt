@@ -1,0 +1,10 @@
+pub mod Words
+pub mod Live
+pub mod Numbered
+pub mod Reaching
+pub mod Converting
+pub mod Chains
+pub mod Walks
+pub mod Courses
+pub mod Leading
+pub mod Laws
