@@ -1,8 +1,9 @@
-ghost use Rattle.std.specs.Prelude.{◌≡◌, ◌≤◌, ◌+◌, ◌*◌, ◌++◌, ◌||◌, ◌==◌, if◌then◌else◌, ℕ, List, length, Bool, IfOk, IfSome, OnOk};
+ghost use Rattle.std.specs.Prelude.{◌≡◌, ◌≤◌, ◌+◌, ◌*◌, ◌++◌, ◌||◌, ◌==◌, if◌then◌else◌, ℕ, List, length, Bool, IfOk, IfSome, OnOk, Ok, None};
 ghost use Rattle.pva_search.specs.Fields.{canonical};
 ghost use Rattle.pva_search.specs.Messages.{response_fields, response_bytes, Search as message};
 ghost use Rattle.pva_search.specs.Answers.{is_zero, is_mapped, is_for, is_wanted, response_of, goes_to, answer_of, udp_most, Tells, Gave};
 ghost use Rattle.pva_search.specs.Parts.{HoldsSearch};
+ghost use Rattle.pva_search.specs.Reading.{search_in};
 
 use crate::datagram::datagram_of;
 use crate::search::{Head, ReadSearch, known_among, search_in};
@@ -139,6 +140,7 @@ pub fn answer<F: Fn(&str) -> bool>(
     requires { F.IsAlwaysCallable known.now }
     ensures value { (test : List ℕ → Bool) → Tells F.Fn known.now test
         → Gave (λ x. (x.0.items, x.1)) result (answer_of test setup.now from datagram.now) }
+    ensures none { search_in datagram.now ≡ None → result ≡ Ok None }
     ensures fits { length datagram.now ≤ udp_most → IfOk result (λ o. IfSome o (λ x. length x.0.items ≤ udp_most)) }
 {
     let Some(search) = search_in(datagram) else {
